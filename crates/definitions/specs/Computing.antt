@@ -1,0 +1,19 @@
+-- Whoever unfolds `everything` unfolds every definition, so that the examples compute.
+use Rattle.definitions.specs.Basics.{bind, orElse, flatten, flatMap, filterMap}
+use Rattle.definitions.specs.Limits.{limits, within}
+use Rattle.definitions.specs.Syntax.{patientAt, patientsOf}
+use Rattle.definitions.specs.Layout.{number, hyphenOrNumber, items, regionLine, patientLine, tableLine, endLine, regionLines, layout}
+use Rattle.definitions.specs.Spelling.{digitsWithin, spellPatient, spellTable, spellBody, spell, wellFormed}
+use Rattle.definitions.specs.Plans.{plansFor, place, entryFor, costOver, total, listOf}
+use Rattle.definitions.specs.Questions.{shortEnough, laidOut, countsTrue, sumTrue, countsWithin, patientsWithin, parentsSmaller, membersRight}
+use Rattle.definitions.specs.Questions.{entryCountsRight, entriesWithin, following, ancestors, membersRelated, clinicPresent, roomForRows}
+use Rattle.definitions.specs.Questions.{areasLongEnough, planAllowed, planFits, regionOf, askedByCheck, checkOf, askedByList, askedBySheet, askedByPrice}
+use Rattle.definitions.specs.Sheets.{part, ownTables, ownCost, ownRow, sheetOf}
+use Rattle.definitions.specs.Isolation.{tablesAmong, timesIn, joins}
+use Rattle.definitions.specs.Outcomes.{listFound, sheetFound, outcomeOf, listOutcome, sheetOutcome, priceFound, priceOutcome}
+use Rattle.definitions.specs.Boundary.{resultAfter, callAreasLongEnough, callOf, listCall, sheetCall, priceCallOf, priceCall}
+use Rattle.definitions.specs.Output.{printedRow, printedRows, clinicsPresent, printed}
+
+unfoldable pub everything : Unit {0}
+unfolding bind orElse flatten flatMap filterMap limits within patientAt patientsOf number hyphenOrNumber items regionLine patientLine tableLine endLine regionLines layout digitsWithin spellPatient spellTable spellBody spell wellFormed plansFor place entryFor costOver total listOf shortEnough laidOut countsTrue sumTrue countsWithin patientsWithin parentsSmaller membersRight entryCountsRight entriesWithin following ancestors membersRelated clinicPresent roomForRows areasLongEnough planAllowed planFits regionOf askedByCheck checkOf askedByList askedBySheet askedByPrice part ownTables ownCost ownRow sheetOf tablesAmong timesIn joins listFound sheetFound outcomeOf listOutcome sheetOutcome priceFound priceOutcome resultAfter callAreasLongEnough callOf listCall sheetCall priceCallOf priceCall printedRow printedRows clinicsPresent printed
+everything = tt

@@ -1,0 +1,103 @@
+-- The starred files of "Files to try", in one statement about the definitions.
+use Prim.Native.String.{String}
+use Rattle.definitions.specs.Basics.{ℕ, _-_, _≡_, refl, Option, none, some, List, [], _∷_, _++_, map, flatMap, length, replicate, text}
+use Rattle.definitions.specs.Syntax.{Patient, Table, Region}
+use Rattle.definitions.specs.Spelling.{spellBody, spell}
+use Rattle.definitions.specs.Plans.{Row}
+use Rattle.definitions.specs.Questions.{checksum, checkOf}
+use Rattle.definitions.specs.Outcomes.{ListOutcome, listOutcome, sheetOutcome}
+use Rattle.definitions.specs.Computing.{everything}
+
+-- Lines of text, each ended by byte 10.
+abbrev pub textOf : List String → List ℕ
+textOf ls = flatMap (λ l. text l ++ 10 ∷ []) ls
+
+-- The file in the paper, byte by byte.
+abbrev pub paperFile : List ℕ
+paperFile = textOf ("(region 2 2 3)" ∷ "(patient 0 2 -)" ∷ "(patient 0 2 0)" ∷ "(cost (0) (3 1))" ∷ "(cost (0 1) (0 2 1 -))" ∷ "(end 5272)" ∷ [])
+
+-- The other files are trees that are spelled.
+abbrev pub patient : ℕ → ℕ → Option ℕ → Patient
+patient c d p = record { clinic = c; bedCount = d; parent = p }
+
+abbrev pub table : List ℕ → List (Option ℕ) → Table
+table ms es = record { members = ms; entries = es }
+
+abbrev pub region : ℕ → List Patient → List Table → ℕ → Region
+region m ps ts n = record { patientCount = length ps; tableCount = length ts; plansWanted = m; patients = ps; tables = ts; statedSum = n }
+
+-- The file of m, patients and tables, with the true counts and the true sum.
+abbrev pub fileOf : ℕ → List Patient → List Table → List ℕ
+fileOf m ps ts = spell (region m ps ts (checksum (spellBody (region m ps ts 0))))
+
+abbrev pub row : ℕ → List ℕ → Row
+row cost beds = record { cost = cost; beds = beds }
+
+-- Lent areas are filled with 9, to show what is untouched. Number 0 and these rows; a refusal.
+abbrev pub lent : ℕ → List ℕ
+lent n = replicate n 9
+
+abbrev pub success : List Row → ListOutcome
+success rows =
+    let beds = flatMap (λ w. w .beds) rows in
+    record { number = 0; rows = length rows; beds = beds ++ lent (64 - length beds); costs = map (λ w. w .cost) rows ++ lent (64 - length rows); work = replicate 16_384 0 }
+
+abbrev pub refusal : ℕ → List ℕ → ListOutcome
+refusal q work = record { number = q; rows = 0; beds = lent 64; costs = lent 64; work = work }
+
+abbrev pub list : List ℕ → ListOutcome
+list file = listOutcome file (lent 64) (lent 64) (lent 16_384)
+
+abbrev pub sheet : List ℕ → ℕ → ListOutcome
+sheet file clinic = sheetOutcome file clinic (lent 64) (lent 64) (lent 16_384)
+
+-- Patient 0 at clinic 0 and patient 1 at clinic 1, both roots, with 2 beds each, entries (1 0) and those given.
+abbrev pub twoClinics : ℕ → List (Option ℕ) → List ℕ
+twoClinics m es = fileOf m (patient 0 2 none ∷ patient 1 2 none ∷ []) (table (0 ∷ []) (some 1 ∷ some 0 ∷ []) ∷ table (1 ∷ []) es ∷ [])
+
+-- Patient 1 a child of 0, patient 2 a child of the one given, and a table over (1 2).
+abbrev pub overOneAndTwo : ℕ → List ℕ
+overOneAndTwo p = fileOf 1 (patient 0 1 none ∷ patient 0 1 (some 0) ∷ patient 0 1 (some p) ∷ []) (table (1 ∷ 2 ∷ []) (some 0 ∷ []) ∷ [])
+
+abbrev pub oneEntry : ℕ → List ℕ
+oneEntry e = fileOf 1 (patient 0 1 none ∷ []) (table (0 ∷ []) (some e ∷ []) ∷ [])
+
+abbrev pub allForbidden : List ℕ
+allForbidden = fileOf 1 (patient 0 2 none ∷ []) (table (0 ∷ []) (none ∷ none ∷ []) ∷ [])
+
+pub record StarredFiles : Type 0 where
+  pub paper : list paperFile ≡ success (row 2 (1 ∷ 0 ∷ []) ∷ row 3 (0 ∷ 0 ∷ []) ∷ row 5 (0 ∷ 1 ∷ []) ∷ [])
+  pub paperSheet : sheet paperFile 0 ≡ success (row 2 (1 ∷ 0 ∷ []) ∷ row 3 (0 ∷ 0 ∷ []) ∷ row 5 (0 ∷ 1 ∷ []) ∷ [])
+  pub oneBed : list (fileOf 64 (patient 0 1 none ∷ []) []) ≡ success (row 0 (0 ∷ []) ∷ [])
+  pub equalCosts : list (fileOf 2 (patient 0 3 none ∷ []) (table (0 ∷ []) (some 5 ∷ some 5 ∷ some 5 ∷ []) ∷ [])) ≡ success (row 5 (0 ∷ []) ∷ row 5 (1 ∷ []) ∷ [])
+  pub bothForbidden : list allForbidden ≡ refusal 13 (replicate 16_384 0)
+  pub noTables : list (fileOf 3 (patient 0 2 none ∷ patient 0 2 none ∷ []) []) ≡ success (row 0 (0 ∷ 0 ∷ []) ∷ row 0 (0 ∷ 1 ∷ []) ∷ row 0 (1 ∷ 0 ∷ []) ∷ [])
+  pub clinics : list (twoClinics 3 (some 0 ∷ some 5 ∷ [])) ≡ success (row 0 (1 ∷ 0 ∷ []) ∷ row 1 (0 ∷ 0 ∷ []) ∷ row 5 (1 ∷ 1 ∷ []) ∷ [])
+  pub clinicsSheet : sheet (twoClinics 3 (some 0 ∷ some 5 ∷ [])) 0 ≡ success (row 0 (1 ∷ []) ∷ row 1 (0 ∷ []) ∷ [])
+  pub otherPrices : list (twoClinics 3 (some 0 ∷ some 0 ∷ [])) ≡ success (row 0 (1 ∷ 0 ∷ []) ∷ row 0 (1 ∷ 1 ∷ []) ∷ row 1 (0 ∷ 0 ∷ []) ∷ [])
+  pub otherPricesSheet : sheet (twoClinics 3 (some 0 ∷ some 0 ∷ [])) 0 ≡ success (row 0 (1 ∷ []) ∷ row 1 (0 ∷ []) ∷ [])
+  pub fewerWanted : sheet (twoClinics 2 (some 0 ∷ some 0 ∷ [])) 0 ≡ success (row 0 (1 ∷ []) ∷ [])
+  pub siblings : checkOf (overOneAndTwo 0) ≡ 10
+  pub parentAndChild : checkOf (overOneAndTwo 1) ≡ 0
+  pub highestEntry : checkOf (oneEntry 1_000_000) ≡ 0
+  pub entryTooHigh : checkOf (oneEntry 1_000_001) ≡ 9
+
+pub starredFiles : StarredFiles
+unfolding everything
+starredFiles = record {
+  paper = refl;
+  paperSheet = refl;
+  oneBed = refl;
+  equalCosts = refl;
+  bothForbidden = refl;
+  noTables = refl;
+  clinics = refl;
+  clinicsSheet = refl;
+  otherPrices = refl;
+  otherPricesSheet = refl;
+  fewerWanted = refl;
+  siblings = refl;
+  parentAndChild = refl;
+  highestEntry = refl;
+  entryTooHigh = refl;
+}
