@@ -1,4 +1,4 @@
--- More files in one statement: an input for each number, what is printed, the calls from C, and cases in which a slightly wrong definition would differ.
+-- Beside the starred files, in one statement: an input for each number 1 to 14, what is printed, price, and the calls from C.
 use Rattle.definitions.specs.Basics.{ℕ, _≡_, refl, true, false, Option, none, some, List, [], _∷_, _++_, replicate}
 use Rattle.definitions.specs.Syntax.{Region}
 use Rattle.definitions.specs.Layout.{layout}
@@ -8,7 +8,7 @@ use Rattle.definitions.specs.Outcomes.{listOutcome, priceOutcome}
 use Rattle.definitions.specs.Boundary.{listCall, sheetCall, priceCall}
 use Rattle.definitions.specs.Output.{printed}
 use Rattle.definitions.specs.Computing.{everything}
-use Rattle.definitions.specs.Examples.{textOf, paperFile, patient, table, region, fileOf, row, lent, success, refusal, sheet, twoClinics, overOneAndTwo, oneEntry, allForbidden}
+use Rattle.definitions.specs.Examples.{textOf, paperFile, patient, table, region, fileOf, row, lent, cleared, success, refusal, sheet, twoClinics, overOneAndTwo, oneEntry, allForbidden}
 
 -- What the file in the paper says.
 abbrev pub paperRegion : Region
@@ -18,12 +18,16 @@ paperRegion = region 3 (patient 0 2 none ∷ patient 0 2 (some 0) ∷ []) (table
 abbrev pub oneTooMany : List ℕ
 oneTooMany = spell (record { patientCount = 3; tableCount = 2; plansWanted = 3; patients = paperRegion .patients; tables = paperRegion .tables; statedSum = 5273 })
 
+-- So many brackets.
+unfoldable pub brackets : ℕ → List ℕ
+brackets n = replicate n 40
+
 -- A number in eight bytes.
 abbrev pub eight : ℕ → List ℕ
 eight n = n ∷ replicate 7 0
 
 pub record NumbersAndText : Type 0 where
-  pub number1 : checkOf (replicate 65_536 40) ≡ 1
+  pub number1 : checkOf (brackets 65_536) ≡ 1
   pub number2 : checkOf [] ≡ 2
   pub number3 : checkOf oneTooMany ≡ 3
   pub number4 : checkOf (spell (region 3 (paperRegion .patients) (paperRegion .tables) 5273)) ≡ 4
@@ -35,64 +39,27 @@ pub record NumbersAndText : Type 0 where
   pub number10 : checkOf (overOneAndTwo 0) ≡ 10
   pub number11 : sheet paperFile 1 ≡ refusal 11 (lent 16_384)
   pub number12 : listOutcome paperFile (lent 5) (lent 3) (lent 16_384) ≡ record { number = 12; rows = 0; beds = lent 5; costs = lent 3; work = lent 16_384 }
-  pub number13 : sheet allForbidden 0 ≡ refusal 13 (replicate 16_384 0)
+  pub number13 : sheet allForbidden 0 ≡ refusal 13 (cleared 16_384)
   pub number14 : priceOutcome paperFile (0 ∷ 2 ∷ []) ≡ record { number = 14; allowed = false; total = 0 }
-  pub allowedPlan : priceOutcome paperFile (0 ∷ 1 ∷ []) ≡ record { number = 0; allowed = true; total = 5 }
-  pub forbiddenPlan : priceOutcome paperFile (1 ∷ 1 ∷ []) ≡ record { number = 0; allowed = false; total = 0 }
   pub tree : layout paperFile ≡ some paperRegion
   pub spelling : spell paperRegion ≡ paperFile
   pub text : printed paperFile ≡ textOf ("(list 3)" ∷ "(row 2 (1 0))" ∷ "(row 3 (0 0))" ∷ "(row 5 (0 1))" ∷ "(sheet 0 3)" ∷ "(row 2 (1 0))" ∷ "(row 3 (0 0))" ∷ "(row 5 (0 1))" ∷ [])
-  pub callList : listCall paperFile (lent 7) (lent 25) (lent 9) ≡ record { number = 0; beds = 1 ∷ 0 ∷ 0 ∷ 0 ∷ 0 ∷ 1 ∷ 9 ∷ []; costs = eight 2 ++ eight 3 ++ eight 5 ++ lent 1; result = eight 3 ++ lent 1 }
-  pub callSheet : sheetCall paperFile 1 (lent 7) (lent 25) (lent 9) ≡ record { number = 11; beds = lent 7; costs = lent 25; result = eight 0 ++ lent 1 }
-  pub callShortResult : listCall paperFile (lent 7) (lent 25) (lent 7) ≡ record { number = 12; beds = lent 7; costs = lent 25; result = lent 7 }
-  pub callPrice : priceCall paperFile (0 ∷ 1 ∷ []) (lent 17) ≡ record { number = 0; result = eight 1 ++ eight 5 ++ lent 1 }
-  pub callPriceShortResult : priceCall paperFile (0 ∷ 2 ∷ []) (lent 15) ≡ record { number = 12; result = lent 15 }
-  pub ownCosts : sheet (twoClinics 3 (some 2 ∷ some 5 ∷ [])) 0 ≡ success (row 0 (1 ∷ []) ∷ row 1 (0 ∷ []) ∷ [])
-  pub eightDigits : checkOf (oneEntry 10_000_000) ≡ 2
-  pub leadingZero : checkOf (textOf ("(region 1 0 1)" ∷ "(patient 00 1 -)" ∷ "(end 2173)" ∷ [])) ≡ 2
-  pub noMembers : checkOf (fileOf 1 (patient 0 1 none ∷ []) (table [] (some 0 ∷ []) ∷ [])) ≡ 2
-  pub patients33 : checkOf (fileOf 1 (replicate 33 (patient 0 1 none)) []) ≡ 5
-  pub sumWraps : checkOf (fileOf 1 (replicate 70 (patient 0 1 none)) []) ≡ 5
-  pub memberTwice : checkOf (fileOf 1 (patient 0 1 none ∷ []) (table (0 ∷ 0 ∷ []) (some 0 ∷ []) ∷ [])) ≡ 7
+  pub twoSheets : printed (twoClinics 2 (some 0 ∷ some 12 ∷ [])) ≡ textOf ("(list 2)" ∷ "(row 0 (1 0))" ∷ "(row 1 (0 0))" ∷ "(sheet 0 2)" ∷ "(row 0 (1))" ∷ "(row 1 (0))" ∷ "(sheet 1 1)" ∷ "(row 0 (0))" ∷ [])
   pub lastClinic : printed (fileOf 1 (patient 15 1 none ∷ []) []) ≡ textOf ("(list 1)" ∷ "(row 0 (0))" ∷ "(sheet 15 1)" ∷ "(row 0 (0))" ∷ [])
-  pub callBytes : priceCall (oneEntry 1_000_000) (0 ∷ []) (lent 16) ≡ record { number = 0; result = eight 1 ++ 64 ∷ 66 ∷ 15 ∷ replicate 5 0 }
   pub refusedText : printed allForbidden ≡ textOf ("(refused 13)" ∷ [])
+  pub allowedPlan : priceOutcome paperFile (0 ∷ 1 ∷ []) ≡ record { number = 0; allowed = true; total = 5 }
+  pub forbiddenPlan : priceOutcome paperFile (1 ∷ 1 ∷ []) ≡ record { number = 0; allowed = false; total = 0 }
+  pub callList : listCall paperFile (lent 7) (lent 25) (lent 9) ≡ record { number = 0; beds = 1 ∷ 0 ∷ 0 ∷ 0 ∷ 0 ∷ 1 ∷ 9 ∷ []; costs = eight 2 ++ eight 3 ++ eight 5 ++ lent 1; result = eight 3 ++ lent 1 }
+  pub callSheet : sheetCall (twoClinics 3 (some 0 ∷ some 5 ∷ [])) 0 (lent 6) (lent 24) (lent 8) ≡ record { number = 0; beds = 1 ∷ 0 ∷ lent 4; costs = eight 0 ++ eight 1 ++ lent 8; result = eight 2 }
+  pub callRefused : sheetCall paperFile 1 (lent 7) (lent 25) (lent 9) ≡ record { number = 11; beds = lent 7; costs = lent 25; result = eight 0 ++ lent 1 }
+  pub callShortResult : listCall paperFile (lent 7) (lent 25) (lent 7) ≡ record { number = 12; beds = lent 7; costs = lent 25; result = lent 7 }
+  pub callShortCosts : listCall paperFile (lent 6) (lent 23) (lent 8) ≡ record { number = 12; beds = lent 6; costs = lent 23; result = eight 0 }
+  pub callPrice : priceCall paperFile (0 ∷ 1 ∷ []) (lent 17) ≡ record { number = 0; result = eight 1 ++ eight 5 ++ lent 1 }
+  pub callForbidden : priceCall paperFile (1 ∷ 1 ∷ []) (lent 16) ≡ record { number = 0; result = eight 0 ++ eight 0 }
+  pub callPriceRefused : priceCall paperFile (0 ∷ 2 ∷ []) (lent 17) ≡ record { number = 14; result = eight 0 ++ eight 0 ++ lent 1 }
+  pub callPriceShortResult : priceCall paperFile (0 ∷ 2 ∷ []) (lent 15) ≡ record { number = 12; result = lent 15 }
+  pub callBytes : priceCall (oneEntry 1_000_000) (0 ∷ []) (lent 16) ≡ record { number = 0; result = eight 1 ++ 64 ∷ 66 ∷ 15 ∷ replicate 5 0 }
 
 pub numbersAndText : NumbersAndText
-unfolding everything
-numbersAndText = record {
-  number1 = refl;
-  number2 = refl;
-  number3 = refl;
-  number4 = refl;
-  number5 = refl;
-  number6 = refl;
-  number7 = refl;
-  number8 = refl;
-  number9 = refl;
-  number10 = refl;
-  number11 = refl;
-  number12 = refl;
-  number13 = refl;
-  number14 = refl;
-  allowedPlan = refl;
-  forbiddenPlan = refl;
-  tree = refl;
-  spelling = refl;
-  text = refl;
-  callList = refl;
-  callSheet = refl;
-  callShortResult = refl;
-  callPrice = refl;
-  callPriceShortResult = refl;
-  ownCosts = refl;
-  eightDigits = refl;
-  leadingZero = refl;
-  noMembers = refl;
-  patients33 = refl;
-  sumWraps = refl;
-  memberTwice = refl;
-  lastClinic = refl;
-  callBytes = refl;
-  refusedText = refl;
-}
+unfolding everything lent cleared brackets
+numbersAndText = record { number1 = refl; number2 = refl; number3 = refl; number4 = refl; number5 = refl; number6 = refl; number7 = refl; number8 = refl; number9 = refl; number10 = refl; number11 = refl; number12 = refl; number13 = refl; number14 = refl; tree = refl; spelling = refl; text = refl; twoSheets = refl; lastClinic = refl; refusedText = refl; allowedPlan = refl; forbiddenPlan = refl; callList = refl; callSheet = refl; callRefused = refl; callShortResult = refl; callShortCosts = refl; callPrice = refl; callForbidden = refl; callPriceRefused = refl; callPriceShortResult = refl; callBytes = refl }

@@ -33,14 +33,18 @@ fileOf m ps ts = spell (region m ps ts (checksum (spellBody (region m ps ts 0)))
 abbrev pub row : ℕ → List ℕ → Row
 row cost beds = record { cost = cost; beds = beds }
 
--- Lent areas are filled with 9, to show what is untouched. Number 0 and these rows; a refusal.
-abbrev pub lent : ℕ → List ℕ
+-- Lent areas are filled with 9, to show what is untouched. (Shut, so that no statement is written out.)
+unfoldable pub lent : ℕ → List ℕ
 lent n = replicate n 9
 
+unfoldable pub cleared : ℕ → List ℕ
+cleared n = replicate n 0
+
+-- Number 0 and these rows; a refusal.
 abbrev pub success : List Row → ListOutcome
 success rows =
     let beds = flatMap (λ w. w .beds) rows in
-    record { number = 0; rows = length rows; beds = beds ++ lent (64 - length beds); costs = map (λ w. w .cost) rows ++ lent (64 - length rows); work = replicate 16_384 0 }
+    record { number = 0; rows = length rows; beds = beds ++ lent (64 - length beds); costs = map (λ w. w .cost) rows ++ lent (64 - length rows); work = cleared 16_384 }
 
 abbrev pub refusal : ℕ → List ℕ → ListOutcome
 refusal q work = record { number = q; rows = 0; beds = lent 64; costs = lent 64; work = work }
@@ -70,7 +74,7 @@ pub record StarredFiles : Type 0 where
   pub paperSheet : sheet paperFile 0 ≡ success (row 2 (1 ∷ 0 ∷ []) ∷ row 3 (0 ∷ 0 ∷ []) ∷ row 5 (0 ∷ 1 ∷ []) ∷ [])
   pub oneBed : list (fileOf 64 (patient 0 1 none ∷ []) []) ≡ success (row 0 (0 ∷ []) ∷ [])
   pub equalCosts : list (fileOf 2 (patient 0 3 none ∷ []) (table (0 ∷ []) (some 5 ∷ some 5 ∷ some 5 ∷ []) ∷ [])) ≡ success (row 5 (0 ∷ []) ∷ row 5 (1 ∷ []) ∷ [])
-  pub bothForbidden : list allForbidden ≡ refusal 13 (replicate 16_384 0)
+  pub bothForbidden : list allForbidden ≡ refusal 13 (cleared 16_384)
   pub noTables : list (fileOf 3 (patient 0 2 none ∷ patient 0 2 none ∷ []) []) ≡ success (row 0 (0 ∷ 0 ∷ []) ∷ row 0 (0 ∷ 1 ∷ []) ∷ row 0 (1 ∷ 0 ∷ []) ∷ [])
   pub clinics : list (twoClinics 3 (some 0 ∷ some 5 ∷ [])) ≡ success (row 0 (1 ∷ 0 ∷ []) ∷ row 1 (0 ∷ 0 ∷ []) ∷ row 5 (1 ∷ 1 ∷ []) ∷ [])
   pub clinicsSheet : sheet (twoClinics 3 (some 0 ∷ some 5 ∷ [])) 0 ≡ success (row 0 (1 ∷ []) ∷ row 1 (0 ∷ []) ∷ [])
@@ -83,7 +87,7 @@ pub record StarredFiles : Type 0 where
   pub entryTooHigh : checkOf (oneEntry 1_000_001) ≡ 9
 
 pub starredFiles : StarredFiles
-unfolding everything
+unfolding everything lent cleared
 starredFiles = record {
   paper = refl;
   paperSheet = refl;

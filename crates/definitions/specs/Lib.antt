@@ -14,3 +14,4 @@ pub mod Output
 pub mod Computing
 pub mod Examples
 pub mod Cases
+pub mod Edges
