@@ -1,0 +1,6 @@
+pub mod Members
+pub mod Orders
+pub mod First
+pub mod Sorting
+pub mod Combining
+pub mod Occurrences
