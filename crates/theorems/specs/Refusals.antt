@@ -1,0 +1,221 @@
+-- Demand 1, of the four entries and the four calls from C: what each number says, and what a refusal hands back and leaves.
+use mathlib.Core.Path.{_≡_, refl, ap, ap₂, _∙_}
+use mathlib.Core.Logic.{_⊎_, inl, inr}
+use native.Mathlib.Omega.{arith}
+use lib.ListN.{drop, length-replicate, replicate-append-replicate}
+use borrow.Author.Tests.{ne-eqb, lt-leb, le-leb}
+use Prim.Native.Nat.{_≤_}
+use Rattle.definitions.specs.Basics.{ℕ, zero, suc, _+_, _*_, _<_, Bool, true, false, cond, Option, none, some, List, [], _∷_, _++_, flatMap, length, replicate, leb}
+use Rattle.definitions.specs.Plans.{Plan, Row, total, listOf}
+use Rattle.definitions.specs.Sheets.{sheetOf}
+use Rattle.definitions.specs.Questions.{Asked, firstNo, regionOf, areasLongEnough, askedByCheck, checkOf, askedByList, askedBySheet, askedByPrice}
+use Rattle.definitions.specs.Outcomes.{Found, rowsUnlessRefused, foundBy, listFound, sheetFound, written, workAfter}
+use Rattle.definitions.specs.Outcomes.{ListOutcome, outcomeOf, listOutcome, sheetOutcome, PriceOutcome, priced, priceFound, priceOutcome}
+use Rattle.definitions.specs.Boundary.{bytesOf, roomForNumbers, resultAfter, callAreasLongEnough, ListCall, callOf, checkCall, listCall, sheetCall, PriceCall, priceCallOf, priceCall}
+use Rattle.ranking.specs.Members.{_∈_}
+use Rattle.theorems.specs.Answers.{numbers, Says, says}
+use Rattle.theorems.specs.Writing.{written-is}
+
+-- ---- the questions of each entry, by number, whatever the file
+
+abbrev oneToTen : List ℕ
+oneToTen = 1 ∷ 2 ∷ 3 ∷ 4 ∷ 5 ∷ 6 ∷ 7 ∷ 8 ∷ 9 ∷ 10 ∷ []
+
+pub record EachAsks : Type 0 where
+  pub check : (file : List ℕ) → numbers (askedByCheck file) ≡ oneToTen
+  pub list : (file : List ℕ) (longEnough : Bool) → numbers (askedByList file longEnough) ≡ oneToTen ++ 12 ∷ 13 ∷ []
+  pub sheet : (file : List ℕ) (c : ℕ) (longEnough : Bool) → numbers (askedBySheet file c longEnough) ≡ oneToTen ++ 11 ∷ 12 ∷ 13 ∷ []
+  pub price : (file : List ℕ) (plan : Plan) (longEnough : Bool) → numbers (askedByPrice file plan longEnough) ≡ oneToTen ++ 12 ∷ 14 ∷ []
+
+pub each-asks : EachAsks
+unfolding askedByCheck askedByList askedBySheet askedByPrice
+each-asks = record { check = λ file. refl; list = λ file l. refl; sheet = λ file c l. refl; price = λ file p l. refl }
+
+-- ---- what the number of each entry and of each call says
+
+priced-number : (q : ℕ) (t : Option ℕ) → priced q t .number ≡ q
+priced-number zero none = refl
+priced-number zero (some t) = refl
+priced-number (suc q) t = refl
+
+module _ (file : List ℕ) where
+  pub check-says : Says (askedByCheck file) (checkOf file)
+  unfolding checkOf askedByCheck
+  check-says = says (askedByCheck file) tt
+
+  list-found : (l : Bool) → Says (askedByList file l) (listFound file l .number)
+  unfolding listFound askedByList askedByCheck
+  list-found l = says (askedByList file l) tt
+
+  sheet-found : (c : ℕ) (l : Bool) → Says (askedBySheet file c l) (sheetFound file c l .number)
+  unfolding sheetFound askedBySheet askedByCheck
+  sheet-found c l = says (askedBySheet file c l) tt
+
+  price-found : (plan : Plan) (l : Bool) → Says (askedByPrice file plan l) (priceFound file plan l .number)
+  unfolding priceFound askedByPrice askedByCheck
+  price-found plan l = rw (priced-number (firstNo (askedByPrice file plan l)) (total (regionOf file) plan)) (says (askedByPrice file plan l) tt)
+
+  -- The entries.
+  pub list-says : (beds costs work : List ℕ) → Says (askedByList file (areasLongEnough (regionOf file) beds costs work)) (listOutcome file beds costs work .number)
+  unfolding listOutcome outcomeOf
+  list-says beds costs work = list-found (areasLongEnough (regionOf file) beds costs work)
+
+  pub sheet-says : (c : ℕ) (beds costs work : List ℕ)
+      → Says (askedBySheet file c (areasLongEnough (regionOf file) beds costs work)) (sheetOutcome file c beds costs work .number)
+  unfolding sheetOutcome outcomeOf
+  sheet-says c beds costs work = sheet-found c (areasLongEnough (regionOf file) beds costs work)
+
+  pub price-says : (plan : Plan) → Says (askedByPrice file plan true) (priceOutcome file plan .number)
+  unfolding priceOutcome
+  price-says plan = price-found plan true
+
+  -- The calls from C.
+  pub check-call-says : Says (askedByCheck file) (checkCall file)
+  check-call-says = check-says
+
+  pub list-call-says : (beds costs result : List ℕ)
+      → Says (askedByList file (callAreasLongEnough (regionOf file) beds costs result)) (listCall file beds costs result .number)
+  unfolding listCall callOf
+  list-call-says beds costs result = list-found (callAreasLongEnough (regionOf file) beds costs result)
+
+  pub sheet-call-says : (c : ℕ) (beds costs result : List ℕ)
+      → Says (askedBySheet file c (callAreasLongEnough (regionOf file) beds costs result)) (sheetCall file c beds costs result .number)
+  unfolding sheetCall callOf
+  sheet-call-says c beds costs result = sheet-found c (callAreasLongEnough (regionOf file) beds costs result)
+
+  pub price-call-says : (plan : Plan) (result : List ℕ) → Says (askedByPrice file plan (roomForNumbers 2 result)) (priceCall file plan result .number)
+  unfolding priceCall priceCallOf
+  price-call-says plan result = price-found plan (roomForNumbers 2 result)
+
+-- ---- what a refusal of list or sheet hands back and leaves
+
+pub record RowsRefused (beds costs : List ℕ) (o : ListOutcome) : Type 0 where
+  pub noRows : o .rows ≡ 0
+  pub bedsKept : o .beds ≡ beds
+  pub costsKept : o .costs ≡ costs
+
+-- The work area is untouched after 1 to 12, and all zeros after 13 or success.
+pub record WorkLeft (number : ℕ) (before after : List ℕ) : Type 0 where
+  pub untouched : (number ≡ 0 → ⊥) → (number ≡ 13 → ⊥) → after ≡ before
+  pub zeroed : (number ≡ 0) ⊎ (number ≡ 13) → after ≡ replicate (length before) 0
+
+list-none : (file : List ℕ) (l : Bool) (q : ℕ) → listFound file l .number ≡ suc q → listFound file l .rows ≡ []
+unfolding listFound
+list-none file l q e = ap (λ (n : ℕ). rowsUnlessRefused n (listOf (regionOf file))) e
+
+sheet-none : (file : List ℕ) (c : ℕ) (l : Bool) (q : ℕ) → sheetFound file c l .number ≡ suc q → sheetFound file c l .rows ≡ []
+unfolding sheetFound
+sheet-none file c l q e = ap (λ (n : ℕ). rowsUnlessRefused n (sheetOf (regionOf file) c)) e
+
+outcome-refused : (f : Found) (beds costs work : List ℕ) → f .rows ≡ [] → RowsRefused beds costs (outcomeOf f beds costs work)
+unfolding outcomeOf
+outcome-refused f beds costs work e = record {
+  noRows = ap length e;
+  bedsKept = ap (λ (rows : List Row). written 0 (f .width) (λ w. w .beds) rows beds) e;
+  costsKept = ap (λ (rows : List Row). written 0 1 (λ w. w .cost ∷ []) rows costs) e;
+}
+
+work-left : (number : ℕ) (work : List ℕ) → WorkLeft number work (workAfter number work)
+work-left number work = record {
+  untouched = λ n m. simp (ne-eqb number 0 n, ne-eqb number 13 m);
+  zeroed = λ h. elim h [ inl e ↦ rw e | inr e ↦ rw e ];
+}
+
+module _ (file beds costs work : List ℕ) where
+  abbrev longEnough : Bool
+  longEnough = areasLongEnough (regionOf file) beds costs work
+
+  pub list-refused : (q : ℕ) → listOutcome file beds costs work .number ≡ suc q → RowsRefused beds costs (listOutcome file beds costs work)
+  unfolding listOutcome outcomeOf
+  list-refused q e = outcome-refused (listFound file longEnough) beds costs work (list-none file longEnough q e)
+
+  pub sheet-refused : (c q : ℕ) → sheetOutcome file c beds costs work .number ≡ suc q → RowsRefused beds costs (sheetOutcome file c beds costs work)
+  unfolding sheetOutcome outcomeOf
+  sheet-refused c q e = outcome-refused (sheetFound file c longEnough) beds costs work (sheet-none file c longEnough q e)
+
+  pub list-work : WorkLeft (listOutcome file beds costs work .number) work (listOutcome file beds costs work .work)
+  unfolding listOutcome outcomeOf
+  list-work = work-left (listFound file longEnough .number) work
+
+  pub sheet-work : (c : ℕ) → WorkLeft (sheetOutcome file c beds costs work .number) work (sheetOutcome file c beds costs work .work)
+  unfolding sheetOutcome outcomeOf
+  sheet-work c = work-left (sheetFound file c longEnough .number) work
+
+-- ---- what a refused call leaves: a shorter result area is untouched, any other begins with zeros
+
+pub record ResultZeroed (count : ℕ) (before after : List ℕ) : Type 0 where
+  pub shorter : length before < count * 8 → after ≡ before
+  pub otherwise : count * 8 ≤ length before → after ≡ replicate (count * 8) 0 ++ drop (count * 8) before
+
+pub record CallRefused (beds costs result : List ℕ) (c : ListCall) : Type 0 where
+  pub bedsKept : c .beds ≡ beds
+  pub costsKept : c .costs ≡ costs
+  pub noRows : ResultZeroed 1 result (c .result)
+
+zero-bytes : (count : ℕ) → flatMap (bytesOf 8) (replicate count 0) ≡ replicate (count * 8) 0
+unfolding flatMap
+zero-bytes zero = refl
+zero-bytes (suc count) =
+    let more : 8 + count * 8 ≡ suc count * 8 = omega arith in
+    ap (λ (r : List ℕ). replicate 8 0 ++ r) (zero-bytes count) ∙ replicate-append-replicate 8 (count * 8) 0 ∙ ap (λ (n : ℕ). replicate n 0) more
+
+result-zeroed : (count : ℕ) (result : List ℕ) → ResultZeroed count result (resultAfter (replicate count 0) result)
+unfolding resultAfter
+result-zeroed count result = record {
+  shorter = λ h. rw (counted, lt-leb (count * 8) (length result) h);
+  otherwise = λ h. rw (counted, le-leb (count * 8) (length result) h) (
+      written-is (bytesOf 8) 8 0 (replicate count 0) result (λ x k. refl) (omega (arith, counted))
+      ∙ ap₂ (λ (a : List ℕ) (n : ℕ). a ++ drop n result) (zero-bytes count) all
+      );
+}
+  where
+    counted : length (replicate {A = ℕ} count 0) ≡ count
+    counted = length-replicate count 0
+
+    all : (0 + length (replicate {A = ℕ} count 0)) * 8 ≡ count * 8
+    all = omega (arith, counted)
+
+call-refused : (f : Found) (beds costs result : List ℕ) → f .rows ≡ [] → CallRefused beds costs result (callOf f beds costs result)
+unfolding callOf
+call-refused f beds costs result e = record {
+  bedsKept = ap (λ (rows : List Row). written 0 (f .width) (λ w. w .beds) rows beds) e;
+  costsKept = ap (λ (rows : List Row). written 0 8 (λ w. bytesOf 8 (w .cost)) rows costs) e;
+  noRows = rw e (result-zeroed 1 result);
+}
+
+module _ (file beds costs result : List ℕ) where
+  abbrev callLongEnough : Bool
+  callLongEnough = callAreasLongEnough (regionOf file) beds costs result
+
+  pub list-call-refused : (q : ℕ) → listCall file beds costs result .number ≡ suc q → CallRefused beds costs result (listCall file beds costs result)
+  unfolding listCall callOf
+  list-call-refused q e = call-refused (listFound file callLongEnough) beds costs result (list-none file callLongEnough q e)
+
+  pub sheet-call-refused : (c q : ℕ) → sheetCall file c beds costs result .number ≡ suc q → CallRefused beds costs result (sheetCall file c beds costs result)
+  unfolding sheetCall callOf
+  sheet-call-refused c q e = call-refused (sheetFound file c callLongEnough) beds costs result (sheet-none file c callLongEnough q e)
+
+-- ---- a refused plan is not allowed, and its total is 0
+
+pub record PlanRefused (p : PriceOutcome) : Type 0 where
+  pub notAllowed : p .allowed ≡ false
+  pub noTotal : p .total ≡ 0
+
+priced-refused : (n : ℕ) (t : Option ℕ) (q : ℕ) → priced n t .number ≡ suc q → PlanRefused (priced n t)
+priced-refused zero none q e = record { notAllowed = refl; noTotal = refl }
+priced-refused zero (some t) q e = absurd (omega arith)
+priced-refused (suc n) t q e = record { notAllowed = refl; noTotal = refl }
+
+found-refused : (file : List ℕ) (plan : Plan) (l : Bool) (q : ℕ) → priceFound file plan l .number ≡ suc q → PlanRefused (priceFound file plan l)
+unfolding priceFound
+found-refused file plan l q e = priced-refused (firstNo (askedByPrice file plan l)) (total (regionOf file) plan) q e
+
+pub price-refused : (file : List ℕ) (plan : Plan) (q : ℕ) → priceOutcome file plan .number ≡ suc q → PlanRefused (priceOutcome file plan)
+unfolding priceOutcome
+price-refused file plan q e = found-refused file plan true q e
+
+pub price-call-refused : (file : List ℕ) (plan : Plan) (result : List ℕ) (q : ℕ) → priceCall file plan result .number ≡ suc q
+    → ResultZeroed 2 result (priceCall file plan result .result)
+unfolding priceCall priceCallOf
+price-call-refused file plan result q e =
+    let r = found-refused file plan (roomForNumbers 2 result) q e in rw (r .notAllowed, r .noTotal) (result-zeroed 2 result)
