@@ -89,7 +89,10 @@ module _ {A : Type 0} where
   -- The elements that are the same as no earlier one; those of `before` count as earlier too.
   abbrev pub firstOccurrences : (A → A → Bool) → List A → List A → List A
   firstOccurrences alike before [] = []
-  firstOccurrences alike before (x ∷ xs) = elim (any (alike x) before) [ true ↦ firstOccurrences alike before xs | false ↦ x ∷ firstOccurrences alike (x ∷ before) xs ]
+  firstOccurrences alike before (x ∷ xs) = elim (any (alike x) before) [
+    | true ↦ firstOccurrences alike before xs
+    | false ↦ x ∷ firstOccurrences alike (x ∷ before) xs
+  ]
 
 abbrev pub contains : List ℕ → ℕ → Bool
 contains xs n = any (eqb n) xs

@@ -14,6 +14,19 @@ use Rattle.definitions.specs.Outcomes.{listFound, sheetFound, outcomeOf,
 use Rattle.definitions.specs.Boundary.{resultAfter, callAreasLongEnough, callOf, listCall, sheetCall, priceCallOf, priceCall}
 use Rattle.definitions.specs.Output.{printedRow, printedRows, clinicsPresent, printed}
 
+-- The file and its spelling; plans and questions; sheets, what the entries give and what is printed.
+unfoldable pub readers : Unit {0}
+unfolding bind orElse flatten flatMap filterMap limits within patientAt patientsOf number hyphenOrNumber items regionLine patientLine tableLine endLine regionLines layout digitsWithin spellPatient spellTable spellBody spell wellFormed
+readers = tt
+
+unfoldable pub questions : Unit {0}
+unfolding plansFor place entryFor costOver total listOf shortEnough laidOut countsTrue sumTrue countsWithin patientsWithin parentsSmaller membersRight entryCountsRight entriesWithin following ancestors membersRelated clinicPresent roomForRows areasLongEnough planAllowed planFits regionOf askedByCheck checkOf askedByList askedBySheet askedByPrice
+questions = tt
+
+unfoldable pub answers : Unit {0}
+unfolding part ownTables ownCost ownRow sheetOf tablesAmong timesIn joins listFound sheetFound outcomeOf listOutcome sheetOutcome priceFound priceOutcome resultAfter callAreasLongEnough callOf listCall sheetCall priceCallOf priceCall printedRow printedRows clinicsPresent printed
+answers = tt
+
 unfoldable pub everything : Unit {0}
-unfolding bind orElse flatten flatMap filterMap limits within patientAt patientsOf number hyphenOrNumber items regionLine patientLine tableLine endLine regionLines layout digitsWithin spellPatient spellTable spellBody spell wellFormed plansFor place entryFor costOver total listOf shortEnough laidOut countsTrue sumTrue countsWithin patientsWithin parentsSmaller membersRight entryCountsRight entriesWithin following ancestors membersRelated clinicPresent roomForRows areasLongEnough planAllowed planFits regionOf askedByCheck checkOf askedByList askedBySheet askedByPrice part ownTables ownCost ownRow sheetOf tablesAmong timesIn joins listFound sheetFound outcomeOf listOutcome sheetOutcome priceFound priceOutcome resultAfter callAreasLongEnough callOf listCall sheetCall priceCallOf priceCall printedRow printedRows clinicsPresent printed
+unfolding readers questions answers
 everything = tt

@@ -2,19 +2,21 @@
 use Prim.Native.String.{String}
 use native.Mathlib.Omega.{arith}
 use lib.ListN.{drop, set}
-use Rattle.definitions.specs.Basics.{ℕ, zero, suc, _≡_, refl, Bool, true, false, Option, none, some, List, [], _∷_, _++_, map, dropLast, flatMap, length, replicate, getD, take, text, below, numbersFrom}
+use Rattle.definitions.specs.Basics.{ℕ, zero, suc, _≡_, refl, Bool, true, false, Option, none, some, List, [], _∷_, _++_, map}
+use Rattle.definitions.specs.Basics.{dropLast, flatMap, length, replicate, getD, take, text, below, numbersFrom}
 use Rattle.definitions.specs.Syntax.{Patient, Table, Region}
 use Rattle.definitions.specs.Layout.{layout}
 use Rattle.definitions.specs.Spelling.{spell, wellFormed}
 use Rattle.definitions.specs.Plans.{Plan, Row, listOf}
-use Rattle.definitions.specs.Questions.{shortEnough, entryCountsRight, regionOf, checkOf}
+use Rattle.definitions.specs.Questions.{shortEnough, membersRight, entryCountsRight, regionOf, checkOf}
 use Rattle.definitions.specs.Sheets.{sheetOf}
 use Rattle.definitions.specs.Isolation.{yieldNumber, tablesAmong, timesIn, joins, SameClinic, SameBeginning}
 use Rattle.definitions.specs.Outcomes.{ListOutcome, listOutcome, sheetOutcome, PriceOutcome, priceOutcome}
 use Rattle.definitions.specs.Boundary.{listCall, priceCall}
 use Rattle.definitions.specs.Output.{printed}
 use Rattle.definitions.specs.Computing.{everything}
-use Rattle.definitions.specs.Examples.{textOf, paperFile, patient, table, region, fileOf, row, lent, cleared, twoClinics, overOneAndTwo, allForbidden}
+use Rattle.definitions.specs.Examples.{textOf, paperFile, patient, table, region, fileOf, row, lent, cleared, twoClinics}
+use Rattle.definitions.specs.Examples.{overOneAndTwo, allForbidden}
 use Rattle.definitions.specs.Cases.{paperRegion, brackets}
 
 -- ---- layout: each of these is the file in the paper with one fault
@@ -45,6 +47,10 @@ misspelt =
     ∷ instead 5 ("(end 05272)" ∷ []) ∷ instead 5 ("(end -)" ∷ []) ∷ instead 5 ("(end)" ∷ []) ∷ instead 5 ("(end 5272 )" ∷ []) ∷ []
 
 -- ---- the questions: small regions on either side of each bound
+
+-- The region in the paper, stating other counts.
+abbrev stating : ℕ → ℕ → Region
+stating v t = record { patientCount = v; tableCount = t; plansWanted = 3; patients = paperRegion .patients; tables = paperRegion .tables; statedSum = 0 }
 
 -- So many patients with one bed: all roots; each the parent of the next.
 abbrev free : ℕ → List Patient
@@ -120,7 +126,7 @@ pub record Edges : Type 0 where
   pub longest : shortEnough (brackets 65_535) ≡ true
   pub sumsWrap : checkOf (spell (region 1 (free 70) [] 11530)) ≡ 5
   pub sumNotReduced : checkOf (spell (region 1 (free 70) [] 77051)) ≡ 4
-  pub tablesCounted : checkOf (spell (record { patientCount = 2; tableCount = 1; plansWanted = 3; patients = paperRegion .patients; tables = paperRegion .tables; statedSum = 5271 })) ≡ 3
+  pub counts : map (λ (c : ℕ × ℕ). checkOf (spell (stating (c .0) (c .1)))) ((1, 2) ∷ (3, 2) ∷ (2, 1) ∷ (2, 3) ∷ []) ≡ 3 ∷ 3 ∷ 3 ∷ 3 ∷ []
   pub patients : map (λ n. checkOf (fileOf 1 (free n) [])) (1 ∷ 32 ∷ 33 ∷ []) ≡ 0 ∷ 0 ∷ 5 ∷ []
   pub tables : map (λ n. checkOf (fileOf 1 (free 1) (replicate n (table (0 ∷ []) (some 0 ∷ []))))) (64 ∷ 65 ∷ []) ≡ 0 ∷ 5 ∷ []
   pub wanted : map (λ m. checkOf (fileOf m (free 1) [])) (0 ∷ 1 ∷ 64 ∷ 65 ∷ []) ≡ 5 ∷ 0 ∷ 0 ∷ 5 ∷ []
@@ -134,7 +140,20 @@ pub record Edges : Type 0 where
   pub oneEntryMore : entryCountsRight (sixteen (table (0 ∷ 1 ∷ 2 ∷ []) (zeros 4_096) ∷ table (3 ∷ []) (zeros 1) ∷ [])) ≡ false
   pub grandparent : checkOf (over 3 (0 ∷ 2 ∷ [])) ≡ 0
   pub unrelated : checkOf (fileOf 1 (free 2) (table (0 ∷ 1 ∷ []) (some 0 ∷ []) ∷ [])) ≡ 10
-  pub lastTwoUnrelated : checkOf (fileOf 1 (patient 0 1 none ∷ patient 0 1 (some 0) ∷ patient 0 1 (some 0) ∷ []) (table (0 ∷ 1 ∷ 2 ∷ []) (some 0 ∷ []) ∷ [])) ≡ 10
+  pub lastTwoUnrelated :
+      checkOf (fileOf 1 (patient 0 1 none ∷ patient 0 1 (some 0) ∷ patient 0 1 (some 0) ∷ []) (table (0 ∷ 1 ∷ 2 ∷ []) (some 0 ∷ []) ∷ []))
+      ≡ 10
+  pub oneOfTwo :
+      map checkOf (
+      fileOf 1 (patient 0 1 none ∷ patient 16 1 none ∷ []) []
+      ∷ fileOf 1 (patient 0 1 none ∷ patient 0 0 none ∷ []) []
+      ∷ fileOf 1 (free 1) (table (0 ∷ []) (zeros 1) ∷ table (1 ∷ []) (zeros 1) ∷ [])
+      ∷ fileOf 1 (free 1) (table (0 ∷ []) (zeros 1) ∷ table (0 ∷ []) (zeros 2) ∷ [])
+      ∷ fileOf 1 (free 1) (table (0 ∷ []) (zeros 1) ∷ table (0 ∷ []) (some 1_000_001 ∷ []) ∷ [])
+      ∷ fileOf 1 (patient 0 2 none ∷ []) (table (0 ∷ []) (some 0 ∷ some 1_000_001 ∷ []) ∷ [])
+      ∷ fileOf 1 (free 2) (table (0 ∷ []) (zeros 1) ∷ table (0 ∷ 1 ∷ []) (zeros 1) ∷ []) ∷ []
+      ) ≡ 6 ∷ 6 ∷ 7 ∷ 8 ∷ 9 ∷ 9 ∷ 10 ∷ []
+  pub noMembers : membersRight (region 1 (free 1) (table [] (zeros 1) ∷ []) 0) ≡ false
   pub askedInOrder :
       map checkOf (
       spell (record { patientCount = 2; tableCount = 0; plansWanted = 1; patients = free 1; tables = []; statedSum = 0 })
@@ -154,18 +173,34 @@ pub record Edges : Type 0 where
   pub priceTenFirst : priceOutcome (overOneAndTwo 0) [] .number ≡ 10
   pub callTenFirst : priceCall (overOneAndTwo 0) [] [] .number ≡ 10
   pub clinicNotCut : sheetOutcome paperFile 256 (lent 6) (lent 3) (lent 16_384) .number ≡ 11
-  pub areas : listNumber paperFile 6 3 16_384 ∷ listNumber paperFile 5 3 16_384 ∷ listNumber paperFile 6 2 16_384 ∷ listNumber paperFile 6 3 16_383 ∷ [] ≡ 0 ∷ 12 ∷ 12 ∷ 12 ∷ []
-  pub callAreas : callNumber paperFile 6 24 8 ∷ callNumber paperFile 5 24 8 ∷ callNumber paperFile 6 23 8 ∷ callNumber paperFile 6 24 7 ∷ [] ≡ 0 ∷ 12 ∷ 12 ∷ 12 ∷ []
+  pub areas :
+      listNumber paperFile 6 3 16_384 ∷ listNumber paperFile 5 3 16_384 ∷ listNumber paperFile 6 2 16_384 ∷ listNumber paperFile 6 3 16_383 ∷ []
+      ≡ 0 ∷ 12 ∷ 12 ∷ 12 ∷ []
+  pub callAreas :
+      callNumber paperFile 6 24 8 ∷ callNumber paperFile 5 24 8 ∷ callNumber paperFile 6 23 8 ∷ callNumber paperFile 6 24 7 ∷ []
+      ≡ 0 ∷ 12 ∷ 12 ∷ 12 ∷ []
   pub longerWork : listOutcome paperFile (lent 6) (lent 3) (lent 16_390) .work ≡ cleared 16_390
-  pub planFits : map (λ plan. priceOutcome paperFile plan .number) ((0 ∷ []) ∷ (0 ∷ 0 ∷ 0 ∷ []) ∷ (2 ∷ 0 ∷ []) ∷ (1 ∷ 1 ∷ []) ∷ []) ≡ 14 ∷ 14 ∷ 14 ∷ 0 ∷ []
+  pub planFits :
+      map (λ plan. priceOutcome paperFile plan .number) ((0 ∷ []) ∷ (0 ∷ 0 ∷ 0 ∷ []) ∷ (2 ∷ 0 ∷ []) ∷ (1 ∷ 1 ∷ []) ∷ [])
+      ≡ 14 ∷ 14 ∷ 14 ∷ 0 ∷ []
   pub places : map (λ plan. priceOutcome threeMembers plan .total) ((1 ∷ 2 ∷ 0 ∷ []) ∷ (1 ∷ 0 ∷ 1 ∷ []) ∷ (0 ∷ 2 ∷ 1 ∷ []) ∷ []) ≡ 30 ∷ 27 ∷ 25 ∷ []
-  pub joinedList : listOf (regionOf (joined 5)) ≡ row 3 (1 ∷ 0 ∷ 0 ∷ []) ∷ row 5 (0 ∷ 1 ∷ 2 ∷ []) ∷ row 5 (1 ∷ 0 ∷ 2 ∷ []) ∷ row 6 (1 ∷ 0 ∷ 1 ∷ []) ∷ row 7 (0 ∷ 0 ∷ 2 ∷ []) ∷ []
-  pub joinedSheet : sheetOutcome (joined 5) 0 (lent 15) (lent 5) (lent 16_384) ≡ record { number = 0; rows = 4; beds = 1 ∷ 0 ∷ 0 ∷ 2 ∷ 1 ∷ 2 ∷ 1 ∷ 1 ∷ lent 7; costs = 2 ∷ 2 ∷ 4 ∷ 5 ∷ 9 ∷ []; work = cleared 16_384 }
-  pub otherSheet : sheetOutcome (joined 5) 1 (lent 15) (lent 5) (lent 16_384) ≡ record { number = 0; rows = 2; beds = 0 ∷ 1 ∷ lent 13; costs = 0 ∷ 3 ∷ lent 3; work = cleared 16_384 }
-  pub costsRepeat : sheetOf (regionOf (fileOf 3 (patient 0 2 none ∷ patient 1 1 none ∷ []) (table (0 ∷ []) (some 5 ∷ some 5 ∷ []) ∷ []))) 0 ≡ row 5 (0 ∷ []) ∷ row 5 (1 ∷ []) ∷ []
+  pub joinedList :
+      listOf (regionOf (joined 5))
+      ≡ row 3 (1 ∷ 0 ∷ 0 ∷ []) ∷ row 5 (0 ∷ 1 ∷ 2 ∷ []) ∷ row 5 (1 ∷ 0 ∷ 2 ∷ []) ∷ row 6 (1 ∷ 0 ∷ 1 ∷ []) ∷ row 7 (0 ∷ 0 ∷ 2 ∷ []) ∷ []
+  pub joinedSheet :
+      sheetOutcome (joined 5) 0 (lent 15) (lent 5) (lent 16_384)
+      ≡ record { number = 0; rows = 4; beds = 1 ∷ 0 ∷ 0 ∷ 2 ∷ 1 ∷ 2 ∷ 1 ∷ 1 ∷ lent 7; costs = 2 ∷ 2 ∷ 4 ∷ 5 ∷ 9 ∷ []; work = cleared 16_384 }
+  pub otherSheet :
+      sheetOutcome (joined 5) 1 (lent 15) (lent 5) (lent 16_384)
+      ≡ record { number = 0; rows = 2; beds = 0 ∷ 1 ∷ lent 13; costs = 0 ∷ 3 ∷ lent 3; work = cleared 16_384 }
+  pub costsRepeat :
+      sheetOf (regionOf (fileOf 3 (patient 0 2 none ∷ patient 1 1 none ∷ []) (table (0 ∷ []) (some 5 ∷ some 5 ∷ []) ∷ []))) 0
+      ≡ row 5 (0 ∷ []) ∷ row 5 (1 ∷ []) ∷ []
   pub byPlaces : tablesAmong (regionOf (joined 5)) 0 ≡ table (0 ∷ 1 ∷ []) (ownTable .entries) ∷ table (0 ∷ []) (some 1 ∷ some 2 ∷ []) ∷ []
   pub joiningTables : map (joins (regionOf (joined 5)) 0) joinedTables ≡ false ∷ true ∷ false ∷ false ∷ []
-  pub asOften : map (timesIn (ownTable ∷ table (0 ∷ []) (some 0 ∷ []) ∷ ownTable ∷ [])) (ownTable ∷ table (0 ∷ []) (none ∷ []) ∷ table (1 ∷ []) (some 0 ∷ []) ∷ table (0 ∷ []) (some 0 ∷ []) ∷ table (0 ∷ []) (some 0 ∷ none ∷ []) ∷ []) ≡ 2 ∷ 0 ∷ 0 ∷ 1 ∷ 0 ∷ []
+  pub asOften :
+      map (timesIn (ownTable ∷ table (0 ∷ []) (some 0 ∷ []) ∷ ownTable ∷ [])) (ownTable ∷ table (0 ∷ []) (none ∷ []) ∷ table (1 ∷ []) (some 0 ∷ []) ∷ table (0 ∷ []) (some 0 ∷ []) ∷ table (0 ∷ []) (some 0 ∷ none ∷ []) ∷ [])
+      ≡ 2 ∷ 0 ∷ 0 ∷ 1 ∷ 0 ∷ []
   pub yields : map yieldNumber (paperFile ∷ allForbidden ∷ [] ∷ []) ≡ 0 ∷ 13 ∷ 2 ∷ []
   pub largestFormed : wellFormed (saying largest) ≡ true
   pub largestRead : layout (spell (saying largest)) ≡ some (saying largest)
@@ -187,7 +222,7 @@ edges = record {
   longest = refl;
   sumsWrap = refl;
   sumNotReduced = refl;
-  tablesCounted = refl;
+  counts = refl;
   patients = refl;
   tables = refl;
   wanted = refl;
@@ -202,6 +237,8 @@ edges = record {
   grandparent = refl;
   unrelated = refl;
   lastTwoUnrelated = refl;
+  oneOfTwo = refl;
+  noMembers = refl;
   askedInOrder = refl;
   sheetTenFirst = refl;
   sheetElevenFirst = refl;

@@ -73,9 +73,13 @@ pub record StarredFiles : Type 0 where
   pub paper : list paperFile ≡ success (row 2 (1 ∷ 0 ∷ []) ∷ row 3 (0 ∷ 0 ∷ []) ∷ row 5 (0 ∷ 1 ∷ []) ∷ [])
   pub paperSheet : sheet paperFile 0 ≡ success (row 2 (1 ∷ 0 ∷ []) ∷ row 3 (0 ∷ 0 ∷ []) ∷ row 5 (0 ∷ 1 ∷ []) ∷ [])
   pub oneBed : list (fileOf 64 (patient 0 1 none ∷ []) []) ≡ success (row 0 (0 ∷ []) ∷ [])
-  pub equalCosts : list (fileOf 2 (patient 0 3 none ∷ []) (table (0 ∷ []) (some 5 ∷ some 5 ∷ some 5 ∷ []) ∷ [])) ≡ success (row 5 (0 ∷ []) ∷ row 5 (1 ∷ []) ∷ [])
+  pub equalCosts :
+      list (fileOf 2 (patient 0 3 none ∷ []) (table (0 ∷ []) (some 5 ∷ some 5 ∷ some 5 ∷ []) ∷ []))
+      ≡ success (row 5 (0 ∷ []) ∷ row 5 (1 ∷ []) ∷ [])
   pub bothForbidden : list allForbidden ≡ refusal 13 (cleared 16_384)
-  pub noTables : list (fileOf 3 (patient 0 2 none ∷ patient 0 2 none ∷ []) []) ≡ success (row 0 (0 ∷ 0 ∷ []) ∷ row 0 (0 ∷ 1 ∷ []) ∷ row 0 (1 ∷ 0 ∷ []) ∷ [])
+  pub noTables :
+      list (fileOf 3 (patient 0 2 none ∷ patient 0 2 none ∷ []) [])
+      ≡ success (row 0 (0 ∷ 0 ∷ []) ∷ row 0 (0 ∷ 1 ∷ []) ∷ row 0 (1 ∷ 0 ∷ []) ∷ [])
   pub clinics : list (twoClinics 3 (some 0 ∷ some 5 ∷ [])) ≡ success (row 0 (1 ∷ 0 ∷ []) ∷ row 1 (0 ∷ 0 ∷ []) ∷ row 5 (1 ∷ 1 ∷ []) ∷ [])
   pub clinicsSheet : sheet (twoClinics 3 (some 0 ∷ some 5 ∷ [])) 0 ≡ success (row 0 (1 ∷ []) ∷ row 1 (0 ∷ []) ∷ [])
   pub otherPrices : list (twoClinics 3 (some 0 ∷ some 0 ∷ [])) ≡ success (row 0 (1 ∷ 0 ∷ []) ∷ row 0 (1 ∷ 1 ∷ []) ∷ row 1 (0 ∷ 0 ∷ []) ∷ [])

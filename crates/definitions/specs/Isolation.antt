@@ -1,5 +1,6 @@
 -- The words of demand 3: which files are compared, when a clinic is the same in both, and how the two sheets then agree.
-use Rattle.definitions.specs.Basics.{ℕ, suc, _<_, min, _≡_, Bool, true, false, not, _&&_, cond, Option, none, some, List, [], _∷_, map, length, take, eqb, any, keep, same, contains}
+use Rattle.definitions.specs.Basics.{ℕ, suc, _<_, min, _≡_, Bool, true, false, not, _&&_, cond, Option, none, some, List, [], _∷_}
+use Rattle.definitions.specs.Basics.{map, length, take, eqb, any, keep, same, contains}
 use Rattle.definitions.specs.Syntax.{Table, Region, bedCounts, patientsOf}
 use Rattle.definitions.specs.Plans.{Row}
 use Rattle.definitions.specs.Sheets.{ownTables}

@@ -1,7 +1,8 @@
 -- The layout: from the bytes of a file to what it says, or none where some byte is not what a form has in its place.
 use Prim.Native.String.{String}
 use Prim.Native.Char.{code}
-use Rattle.definitions.specs.Basics.{ℕ, _+_, _-_, _*_, Bool, true, false, _&&_, not, cond, Option, none, some, bind, orElse, Option·map, List, [], _∷_, length, eqb, leb, text, isEmpty, onAll}
+use Rattle.definitions.specs.Basics.{ℕ, _+_, _-_, _*_, Bool, true, false, _&&_, not, cond, Option, none, some, bind, orElse}
+use Rattle.definitions.specs.Basics.{Option·map, List, [], _∷_, length, eqb, leb, text, isEmpty, onAll}
 use Rattle.definitions.specs.Limits.{Field, digitCount, within}
 use Rattle.definitions.specs.Syntax.{Patient, Table, Region}
 

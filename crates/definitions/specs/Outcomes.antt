@@ -1,5 +1,6 @@
 -- What list, sheet and price give back: a number, values, and every lent area afterwards. (Check gives `checkOf` alone.)
-use Rattle.definitions.specs.Basics.{ℕ, zero, suc, _*_, Bool, true, false, _||_, cond, Option, none, some, List, [], _∷_, length, replicate, sets, eqb}
+use Rattle.definitions.specs.Basics.{ℕ, zero, suc, _*_, Bool, true, false, _||_, cond, Option, none, some, List, [], _∷_, length}
+use Rattle.definitions.specs.Basics.{replicate, sets, eqb}
 use Rattle.definitions.specs.Syntax.{Region, patientsOf}
 use Rattle.definitions.specs.Plans.{Plan, Row, total, listOf}
 use Rattle.definitions.specs.Sheets.{sheetOf}

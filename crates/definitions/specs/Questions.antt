@@ -1,6 +1,9 @@
 -- The questions put to a file, one definition each, in their order; the first "no" gives its number.
-use Rattle.definitions.specs.Basics.{ℕ, zero, suc, _*_, _%_, Bool, true, false, _&&_, _||_, Option, none, some, Option·getD, List, [], _∷_, _++_, map, flatten, dropLast, length, eqb, leb, ltb, sum, product, every, any, everyTwo, contains, isSome, noneOr}
-use Rattle.definitions.specs.Limits.{Field, fileLength, patientCount, tableCount, plansWanted, clinic, bedCount, memberCount, entryCount, entry, within}
+use Rattle.definitions.specs.Basics.{ℕ, zero, suc, _*_, _%_, Bool, true, false, _&&_, _||_, Option, none, some, Option·getD, List, []}
+use Rattle.definitions.specs.Basics.{_∷_, _++_, map, flatten, dropLast, length, eqb, leb, ltb, sum, product, every, any, everyTwo}
+use Rattle.definitions.specs.Basics.{contains, isSome, noneOr}
+use Rattle.definitions.specs.Limits.{Field, fileLength, patientCount, tableCount, plansWanted, clinic, bedCount, memberCount}
+use Rattle.definitions.specs.Limits.{entryCount, entry, within}
 use Rattle.definitions.specs.Syntax.{Patient, Table, Region, patientNumbers, patientAt, bedCounts}
 use Rattle.definitions.specs.Layout.{lines, layout}
 use Rattle.definitions.specs.Plans.{Plan, bedOf, plans, allowed}

@@ -1,6 +1,7 @@
 -- The one spelling of what a file says.
 use Prim.Native.Char.{code}
-use Rattle.definitions.specs.Basics.{ℕ, zero, suc, _+_, _/_, _%_, _^_, Bool, true, false, _&&_, not, Option, none, some, List, [], _∷_, _++_, map, flatMap, ltb, text, every, noneOr, isEmpty}
+use Rattle.definitions.specs.Basics.{ℕ, zero, suc, _+_, _/_, _%_, _^_, Bool, true, false, _&&_, not, Option, none, some, List, []}
+use Rattle.definitions.specs.Basics.{_∷_, _++_, map, flatMap, ltb, text, every, noneOr, isEmpty}
 use Rattle.definitions.specs.Limits.{Field, digitCount, limits}
 use Rattle.definitions.specs.Syntax.{Patient, Table, Region}
 
