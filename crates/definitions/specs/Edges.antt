@@ -1,4 +1,4 @@
--- Inputs at the edge of each definition, in one statement: where one bound, operand or case is wrong, one of these fails.
+-- Inputs at the edge of each definition: where one bound, operand or case is wrong, one of these statements fails.
 use Prim.Native.String.{String}
 use native.Mathlib.Omega.{arith}
 use lib.ListN.{drop, set}
@@ -119,11 +119,38 @@ tooLargeAt i = saying (set largest i 10_000_000)
 abbrev twoClinicsRegion : ℕ → ℕ → Region
 twoClinicsRegion m e = regionOf (twoClinics m (some 0 ∷ some e ∷ []))
 
-pub record Edges : Type 0 where
+-- What is no region file, or only just one.
+pub record Layouts : Type 0 where
   pub faultyPlaces : map checkOf misplaced ≡ replicate (length misplaced) 2
   pub faultySpellings : map checkOf misspelt ≡ replicate (length misspelt) 2
   pub noLines : checkOf (textOf ("(region 0 0 1)" ∷ "(end 976)" ∷ [])) ≡ 5
   pub longest : shortEnough (brackets 65_535) ≡ true
+  pub largestFormed : wellFormed (saying largest) ≡ true
+  pub largestRead : layout (spell (saying largest)) ≡ some (saying largest)
+  pub tooLargeFormed : map (λ i. wellFormed (tooLargeAt i)) (below 9) ≡ replicate 9 false
+  pub tooLargeRead : map (λ i. checkOf (spell (tooLargeAt i))) (below 9) ≡ replicate 9 2
+  pub paperFormed : wellFormed paperRegion ≡ true
+  pub noMembersFormed : wellFormed (region 1 (free 1) (table [] (zeros 1) ∷ []) 0) ≡ false
+  pub noEntriesFormed : wellFormed (region 1 (free 1) (table (0 ∷ []) [] ∷ []) 0) ≡ false
+
+pub layouts : Layouts
+unfolding everything lent cleared brackets zeros
+layouts = record {
+  faultyPlaces = refl;
+  faultySpellings = refl;
+  noLines = refl;
+  longest = refl;
+  largestFormed = refl;
+  largestRead = refl;
+  tooLargeFormed = refl;
+  tooLargeRead = refl;
+  paperFormed = refl;
+  noMembersFormed = refl;
+  noEntriesFormed = refl;
+}
+
+-- Questions 3 to 10 on either side of each bound.
+pub record Bounds : Type 0 where
   pub sumsWrap : checkOf (spell (region 1 (free 70) [] 11530)) ≡ 5
   pub sumNotReduced : checkOf (spell (region 1 (free 70) [] 77051)) ≡ 4
   pub counts : map (λ (c : ℕ × ℕ). checkOf (spell (stating (c .0) (c .1)))) ((1, 2) ∷ (3, 2) ∷ (2, 1) ∷ (2, 3) ∷ []) ≡ 3 ∷ 3 ∷ 3 ∷ 3 ∷ []
@@ -134,7 +161,8 @@ pub record Edges : Type 0 where
   pub bedCounts : map (λ d. checkOf (fileOf 1 (patient 0 d none ∷ []) [])) (0 ∷ 1 ∷ 16 ∷ 17 ∷ []) ≡ 6 ∷ 0 ∷ 0 ∷ 6 ∷ []
   pub parents : map (λ p. checkOf (fileOf 1 (patient 0 1 none ∷ patient 0 1 (some p) ∷ []) [])) (0 ∷ 1 ∷ 2 ∷ []) ≡ 0 ∷ 6 ∷ 6 ∷ []
   pub memberCounts : map (λ ms. checkOf (over 5 ms)) ((4 ∷ []) ∷ (0 ∷ 1 ∷ 2 ∷ 3 ∷ []) ∷ (0 ∷ 1 ∷ 2 ∷ 3 ∷ 4 ∷ []) ∷ []) ≡ 0 ∷ 0 ∷ 7 ∷ []
-  pub memberOrder : map (λ ms. checkOf (over 5 ms)) ((5 ∷ []) ∷ (0 ∷ 0 ∷ []) ∷ (0 ∷ 2 ∷ 1 ∷ []) ∷ (1 ∷ 0 ∷ []) ∷ []) ≡ 7 ∷ 7 ∷ 7 ∷ 7 ∷ []
+  pub memberOrder : map (λ ms. checkOf (over 5 ms)) ((5 ∷ []) ∷ (0 ∷ 5 ∷ []) ∷ (0 ∷ 0 ∷ []) ∷ (0 ∷ 2 ∷ 1 ∷ []) ∷ (1 ∷ 0 ∷ []) ∷ []) ≡ 7 ∷ 7 ∷ 7 ∷ 7 ∷ 7 ∷ []
+  pub noMembers : membersRight (region 1 (free 1) (table [] (zeros 1) ∷ []) 0) ≡ false
   pub entryCounts : map (λ n. checkOf (fileOf 1 (patient 0 2 none ∷ []) (table (0 ∷ []) (zeros n) ∷ []))) (1 ∷ 2 ∷ 3 ∷ []) ≡ 8 ∷ 0 ∷ 8 ∷ []
   pub allEntries : entryCountsRight (sixteen (table (0 ∷ 1 ∷ 2 ∷ []) (zeros 4_096) ∷ [])) ≡ true
   pub oneEntryMore : entryCountsRight (sixteen (table (0 ∷ 1 ∷ 2 ∷ []) (zeros 4_096) ∷ table (3 ∷ []) (zeros 1) ∷ [])) ≡ false
@@ -153,7 +181,33 @@ pub record Edges : Type 0 where
       ∷ fileOf 1 (patient 0 2 none ∷ []) (table (0 ∷ []) (some 0 ∷ some 1_000_001 ∷ []) ∷ [])
       ∷ fileOf 1 (free 2) (table (0 ∷ []) (zeros 1) ∷ table (0 ∷ 1 ∷ []) (zeros 1) ∷ []) ∷ []
       ) ≡ 6 ∷ 6 ∷ 7 ∷ 8 ∷ 9 ∷ 9 ∷ 10 ∷ []
-  pub noMembers : membersRight (region 1 (free 1) (table [] (zeros 1) ∷ []) 0) ≡ false
+
+pub bounds : Bounds
+unfolding everything lent cleared brackets zeros
+bounds = record {
+  sumsWrap = refl;
+  sumNotReduced = refl;
+  counts = refl;
+  patients = refl;
+  tables = refl;
+  wanted = refl;
+  clinics = refl;
+  bedCounts = refl;
+  parents = refl;
+  memberCounts = refl;
+  memberOrder = refl;
+  noMembers = refl;
+  entryCounts = refl;
+  allEntries = refl;
+  oneEntryMore = refl;
+  grandparent = refl;
+  unrelated = refl;
+  lastTwoUnrelated = refl;
+  oneOfTwo = refl;
+}
+
+-- Which of two questions is asked first; lent areas of exactly the length, and one shorter.
+pub record Turns : Type 0 where
   pub askedInOrder :
       map checkOf (
       spell (record { patientCount = 2; tableCount = 0; plansWanted = 1; patients = free 1; tables = []; statedSum = 0 })
@@ -183,6 +237,28 @@ pub record Edges : Type 0 where
   pub planFits :
       map (λ plan. priceOutcome paperFile plan .number) ((0 ∷ []) ∷ (0 ∷ 0 ∷ 0 ∷ []) ∷ (2 ∷ 0 ∷ []) ∷ (1 ∷ 1 ∷ []) ∷ [])
       ≡ 14 ∷ 14 ∷ 14 ∷ 0 ∷ []
+  pub emptyText : printed [] ≡ textOf ("(refused 2)" ∷ [])
+
+pub turns : Turns
+unfolding everything lent cleared brackets zeros
+turns = record {
+  askedInOrder = refl;
+  sheetTenFirst = refl;
+  sheetElevenFirst = refl;
+  sheetTwelveFirst = refl;
+  listTwelveFirst = refl;
+  priceTenFirst = refl;
+  callTenFirst = refl;
+  clinicNotCut = refl;
+  areas = refl;
+  callAreas = refl;
+  longerWork = refl;
+  planFits = refl;
+  emptyText = refl;
+}
+
+-- Places of entries, lists and sheets with a table that joins, and the words of demand 3.
+pub record Rows : Type 0 where
   pub places : map (λ plan. priceOutcome threeMembers plan .total) ((1 ∷ 2 ∷ 0 ∷ []) ∷ (1 ∷ 0 ∷ 1 ∷ []) ∷ (0 ∷ 2 ∷ 1 ∷ []) ∷ []) ≡ 30 ∷ 27 ∷ 25 ∷ []
   pub joinedList :
       listOf (regionOf (joined 5))
@@ -202,55 +278,12 @@ pub record Edges : Type 0 where
       map (timesIn (ownTable ∷ table (0 ∷ []) (some 0 ∷ []) ∷ ownTable ∷ [])) (ownTable ∷ table (0 ∷ []) (none ∷ []) ∷ table (1 ∷ []) (some 0 ∷ []) ∷ table (0 ∷ []) (some 0 ∷ []) ∷ table (0 ∷ []) (some 0 ∷ none ∷ []) ∷ [])
       ≡ 2 ∷ 0 ∷ 0 ∷ 1 ∷ 0 ∷ []
   pub yields : map yieldNumber (paperFile ∷ allForbidden ∷ [] ∷ []) ≡ 0 ∷ 13 ∷ 2 ∷ []
-  pub largestFormed : wellFormed (saying largest) ≡ true
-  pub largestRead : layout (spell (saying largest)) ≡ some (saying largest)
-  pub tooLargeFormed : map (λ i. wellFormed (tooLargeAt i)) (below 9) ≡ replicate 9 false
-  pub tooLargeRead : map (λ i. checkOf (spell (tooLargeAt i))) (below 9) ≡ replicate 9 2
-  pub paperFormed : wellFormed paperRegion ≡ true
-  pub noMembersFormed : wellFormed (region 1 (free 1) (table [] (zeros 1) ∷ []) 0) ≡ false
-  pub noEntriesFormed : wellFormed (region 1 (free 1) (table (0 ∷ []) [] ∷ []) 0) ≡ false
-  pub emptyText : printed [] ≡ textOf ("(refused 2)" ∷ [])
   pub sameClinic : SameClinic 0 (twoClinicsRegion 3 5) (twoClinicsRegion 2 0)
   pub sameBeginning : SameBeginning (sheetOf (twoClinicsRegion 3 5) 0) (sheetOf (twoClinicsRegion 2 0) 0)
 
-pub edges : Edges
+pub rows : Rows
 unfolding everything lent cleared brackets zeros
-edges = record {
-  faultyPlaces = refl;
-  faultySpellings = refl;
-  noLines = refl;
-  longest = refl;
-  sumsWrap = refl;
-  sumNotReduced = refl;
-  counts = refl;
-  patients = refl;
-  tables = refl;
-  wanted = refl;
-  clinics = refl;
-  bedCounts = refl;
-  parents = refl;
-  memberCounts = refl;
-  memberOrder = refl;
-  entryCounts = refl;
-  allEntries = refl;
-  oneEntryMore = refl;
-  grandparent = refl;
-  unrelated = refl;
-  lastTwoUnrelated = refl;
-  oneOfTwo = refl;
-  noMembers = refl;
-  askedInOrder = refl;
-  sheetTenFirst = refl;
-  sheetElevenFirst = refl;
-  sheetTwelveFirst = refl;
-  listTwelveFirst = refl;
-  priceTenFirst = refl;
-  callTenFirst = refl;
-  clinicNotCut = refl;
-  areas = refl;
-  callAreas = refl;
-  longerWork = refl;
-  planFits = refl;
+rows = record {
   places = refl;
   joinedList = refl;
   joinedSheet = refl;
@@ -260,14 +293,6 @@ edges = record {
   joiningTables = refl;
   asOften = refl;
   yields = refl;
-  largestFormed = refl;
-  largestRead = refl;
-  tooLargeFormed = refl;
-  tooLargeRead = refl;
-  paperFormed = refl;
-  noMembersFormed = refl;
-  noEntriesFormed = refl;
-  emptyText = refl;
   sameClinic = record { beds = refl; tables = λ t. refl; apartInFirst = refl; apartInSecond = refl };
   sameBeginning = record { firstRow = omega arith; secondRow = omega arith; sameRows = refl };
 }
