@@ -4,3 +4,4 @@ pub mod First
 pub mod Sorting
 pub mod Combining
 pub mod Occurrences
+pub mod Parts

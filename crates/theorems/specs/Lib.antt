@@ -15,3 +15,15 @@ pub mod Spelling
 pub mod Cuts
 pub mod OneByte
 pub mod List
+pub mod Kept
+pub mod Below
+pub mod Interleaving
+pub mod Sums
+pub mod Sameness
+pub mod Places
+pub mod Isolation
+pub mod SheetRows
+pub mod Yields
+pub mod SheetAreas
+pub mod Agreement
+pub mod IsolationExamples

@@ -38,7 +38,7 @@ Fits [] (b ∷ plan) = ⊥
 Fits (d ∷ ds) [] = ⊥
 Fits (d ∷ ds) (b ∷ plan) = (b < d) × Fits ds plan
 
-numbers-enumerate : (a n : ℕ) → Enumerates (λ x. (a ≤ x) × (x < a + n)) (numbersFrom a n)
+pub numbers-enumerate : (a n : ℕ) → Enumerates (λ x. (a ≤ x) × (x < a + n)) (numbersFrom a n)
 numbers-enumerate a zero = record { distinct = tt; only = λ x k. absurd (none-in-nil k); every = λ x h. absurd (omega arith) }
 numbers-enumerate a (suc n) = let ih = numbers-enumerate (suc a) n in record {
   distinct = (λ k. omega (arith, ih .only a k .0), ih .distinct);
@@ -184,6 +184,10 @@ rows-enumerate region = record {
     all : Enumerates (Fits (map (λ p. p .bedCount) (region .patients))) (plans region)
     all = plans-enumerate (map (λ p. p .bedCount) (region .patients))
 
+-- A row is known by its beds, which determine the total.
+pub by-beds : (region : Region) {v w : Row} → Allowed region v → Allowed region w → v .beds ≡ w .beds → v ≡ w
+by-beds region {v} {w} a b e = let c : v .cost ≡ w .cost = cc (a .priced, b .priced, ap (total region) e) in λ i. record { cost = c i; beds = e i }
+
 -- ---- the list
 
 pub list-first : (region : Region) → First rowOrder (region .plansWanted) (Allowed region) (listOf region)
@@ -219,15 +223,11 @@ pub record RightList (region : Region) (l : List Row) : Type 0 where
 pub right-list : (region : Region) → RightList region (listOf region)
 right-list region = let h = list-first region in record {
   inOrder = h .sorted;
-  eachOnce = distinct-map (λ w. w .beds) (listOf region) (λ v w i j e. one (h .sound i) (h .sound j) e) (sorted-distinct rowOrder (listOf region) (h .sorted));
+  eachOnce = distinct-map (λ w. w .beds) (listOf region) (λ v w i j e. by-beds region (h .sound i) (h .sound j) e) (sorted-distinct rowOrder (listOf region) (h .sorted));
   onlyAllowed = λ w k. h .sound k;
   othersAfter = h .complete;
   count = first-count (rows-enumerate region) h ∙ ap (min (region .plansWanted)) (rows-count region (plans region));
 }
-  where
-    -- Beds determine the total.
-    one : {v w : Row} → Allowed region v → Allowed region w → v .beds ≡ w .beds → v ≡ w
-    one {v} {w} a b e = let c : v .cost ≡ w .cost = cc (a .priced, b .priced, ap (total region) e) in λ i. record { cost = c i; beds = e i }
 
 -- No other list has these properties.
 pub only-list : (region : Region) (l : List Row) → RightList region l → l ≡ listOf region

@@ -43,7 +43,7 @@ module _ (file : List ℕ) where
   unfolding checkOf askedByCheck
   check-says = says (askedByCheck file) tt
 
-  list-found : (l : Bool) → Says (askedByList file l) (listFound file l .number)
+  pub list-found : (l : Bool) → Says (askedByList file l) (listFound file l .number)
   unfolding listFound askedByList askedByCheck
   list-found l = says (askedByList file l) tt
 

@@ -1,0 +1,116 @@
+-- Which files yield a list, and when a sheet is printed: what list's and sheet's number 0 says of the questions.
+use mathlib.Core.Path.{sym, ap, _∙_}
+use mathlib.Core.Logic.{_↔_}
+use mathlib.Core.Bool.{and-assoc, true≢false}
+use native.Mathlib.Omega.{arith}
+use borrow.Author.Tests.{ltb-true, eqb-true}
+use Rattle.definitions.specs.Basics.{ℕ, _<_, _≡_, refl, Bool, true, _&&_, List, [], _∷_, _++_, map, length, eqb, ltb, every}
+use Rattle.definitions.specs.Limits.{patientCount, tableCount, plansWanted, memberCount, limits, within}
+use Rattle.definitions.specs.Syntax.{Region}
+use Rattle.definitions.specs.Plans.{Plan, Row, listOf}
+use Rattle.definitions.specs.Sheets.{part, sheetOf}
+use Rattle.definitions.specs.Questions.{Asked, regionOf, checkOf, countsTrue, countsWithin, membersRight, clinicPresent, areasLongEnough, planAllowed}
+use Rattle.definitions.specs.Questions.{askedByCheck, askedByList, askedBySheet}
+use Rattle.definitions.specs.Outcomes.{sheetOutcome}
+use Rattle.definitions.specs.Boundary.{callAreasLongEnough, sheetCall}
+use Rattle.definitions.specs.Isolation.{yieldNumber, YieldsList}
+use Rattle.ranking.specs.Members.{_∈_, here, none-in-nil, in-map}
+use Rattle.theorems.specs.Tests.{both, join}
+use Rattle.theorems.specs.Answers.{allYes}
+use Rattle.theorems.specs.Refusals.{check-says, list-found, sheet-says, sheet-call-says}
+use Rattle.theorems.specs.Accepted.{accepted, at-least}
+use Rattle.theorems.specs.List.{list-empty}
+use Rattle.theorems.specs.Kept.{every-in}
+use Rattle.theorems.specs.Isolation.{MembersPatients}
+use Rattle.theorems.specs.SheetRows.{sheet-parts}
+
+-- ---- questions asked after those of check
+
+yes-append : (early late : Asked) → allYes (early ++ late) ≡ (allYes early && allYes late)
+yes-append [] late = refl
+yes-append (a ∷ early) late = ap (λ b. a .1 && b) (yes-append early late) ∙ sym (and-assoc (a .1) (allYes early) (allYes late))
+
+asked-after : (file : List ℕ) (late : Asked) → (allYes (askedByCheck file ++ late) ≡ true) ↔ ((checkOf file ≡ 0) × (allYes late ≡ true))
+asked-after file late = rw (yes-append (askedByCheck file) late) (
+  λ e. let (h, k) = both (allYes (askedByCheck file)) e in (check-says file .accepted .1 h, k),
+  λ (h, k). join (check-says file .accepted .0 h) k,
+)
+
+-- Questions 1 to 10 and 13 are answered yes.
+pub record Yields (file : List ℕ) : Type 0 where
+  pub checked : checkOf file ≡ 0
+  pub planned : planAllowed (regionOf file) ≡ true
+
+module _ (file : List ℕ) where
+  pub yields : YieldsList file ↔ Yields file
+  unfolding askedByList
+  yields = (
+    λ e. let (h, k) = asked-after file _ .0 (list-found file true .accepted .0 e) in record { checked = h; planned = both (planAllowed (regionOf file)) k .0 },
+    λ y. list-found file true .accepted .1 (asked-after file _ .1 (y .checked, join (y .planned) refl)),
+  )
+
+  -- A sheet is printed where the file yields a list, the clinic has a patient and the areas are long enough.
+  sheet-asked : (c : ℕ) (longEnough : Bool)
+      → (allYes (askedBySheet file c longEnough) ≡ true)
+      ↔ (YieldsList file × (clinicPresent (regionOf file) c ≡ true) × (longEnough ≡ true))
+  unfolding askedBySheet
+  sheet-asked c longEnough = (
+    λ e.
+        let (checked, asked) = asked-after file _ .0 e in
+        let (present, others) = both (clinicPresent (regionOf file) c) asked in
+        let (long, last) = both longEnough others in
+        (yields .1 (record { checked = checked; planned = both (planAllowed (regionOf file)) last .0 }), present, long),
+    λ (e, present, long). let y = yields .0 e in asked-after file _ .1 (y .checked, join present (join long (join (y .planned) refl))),
+  )
+
+  pub sheet-printed : (c : ℕ) (beds costs work : List ℕ)
+      → (sheetOutcome file c beds costs work .number ≡ 0)
+      ↔ (YieldsList file × (clinicPresent (regionOf file) c ≡ true) × (areasLongEnough (regionOf file) beds costs work ≡ true))
+  sheet-printed c beds costs work =
+      let s = sheet-says file c beds costs work .accepted in
+      let a = sheet-asked c (areasLongEnough (regionOf file) beds costs work) in
+      (λ e. a .0 (s .0 e), λ h. s .1 (a .1 h))
+
+  pub sheet-call-printed : (c : ℕ) (beds costs result : List ℕ)
+      → (sheetCall file c beds costs result .number ≡ 0)
+      ↔ (YieldsList file × (clinicPresent (regionOf file) c ≡ true) × (callAreasLongEnough (regionOf file) beds costs result ≡ true))
+  sheet-call-printed c beds costs result =
+      let s = sheet-call-says file c beds costs result .accepted in
+      let a = sheet-asked c (callAreasLongEnough (regionOf file) beds costs result) in
+      (λ e. a .0 (s .0 e), λ h. s .1 (a .1 h))
+
+-- ---- what follows for the region of such a file
+
+-- The members of its tables are patients.
+pub members-patients : (file : List ℕ) → YieldsList file → MembersPatients (regionOf file)
+unfolding membersRight countsTrue
+members-patients file e t k s i =
+    let r = regionOf file in
+    let a = accepted file (yields file .0 e .checked) in
+    let some = within memberCount (length (t .members)) in
+    let below = every (λ s. ltb s (r .patientCount)) (t .members) in
+    let (fits, rising) = both (some && below) (every-in _ (r .tables) (a .membersFit) k) in
+    let counted = eqb-true (length (r .patients)) (r .patientCount) (both (eqb (length (r .patients)) (r .patientCount)) (a .counted) .0) in
+    omega (arith, ltb-true s (r .patientCount) (every-in (λ s. ltb s (r .patientCount)) (t .members) (both some fits .1) i))
+
+-- Its list has a first row, so every sheet has one.
+pub sheet-some : (file : List ℕ) → YieldsList file → (c : ℕ) → 0 < length (sheetOf (regionOf file) c)
+unfolding countsWithin limits
+sheet-some file e c = go (listOf r) refl
+  where
+    r : Region
+    r = regionOf file
+
+    wanted : 0 < r .plansWanted
+    wanted = at-least plansWanted (r .plansWanted)
+        (both (within patientCount (r .patientCount) && within tableCount (r .tableCount)) (accepted file (yields file .0 e .checked) .countsFit) .1)
+
+    nonempty : (s : List Row) {p : Plan} → p ∈ map (λ w. w .beds) s → 0 < length s
+    nonempty [] k = absurd (none-in-nil k)
+    nonempty (w ∷ s) k = omega arith
+
+    go : (l : List Row) → listOf r ≡ l → 0 < length (sheetOf r c)
+    go [] q = absurd (true≢false (sym (yields file .0 e .planned) ∙ list-empty r wanted .0 q))
+    go (w ∷ l) q =
+        let k : w ∈ listOf r = rw q (here refl) in
+        nonempty (sheetOf r c) (sheet-parts r c .every (part r c (w .beds)) (in-map (λ (w : Row). part r c (w .beds)) k))
