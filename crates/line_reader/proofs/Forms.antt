@@ -1,0 +1,42 @@
+-- A number with its word, and the end of a line. Assumes nothing.
+use mathlib.Core.Path.{_≡_, ap}
+use mathlib.Core.Bool.{true, false}
+use mathlib.Core.List.{List}
+use Prim.Native.Nat.{ℕ, _≤_, _<_}
+use native.Mathlib.Omega.{arith}
+use lib.ListN.{length, drop, drop-of-length-le}
+use lib.Seq.{drop-cons}
+use Rattle.definitions.specs.Basics.{bind, isEmpty}
+use Rattle.definitions.specs.Layout.{exactly, number}
+use Rattle.line_reader.specs.declared.Passed.{Passed}
+use Rattle.line_reader.specs.declared.Passed.the-variants.{At, Nothing as NotPassed}
+use Rattle.line_reader.specs.declared.Number.{Number}
+use Rattle.line_reader.specs.declared.Number.the-variants.{Value, Nothing}
+use Rattle.line_reader.specs.Answers.{ReadAt, there, missing, passed, numberRead}
+use Rattle.line_reader.specs.Forms.{numberThen}
+
+module _ (w : List ℕ) {s : List ℕ} {at : ℕ} {n : Number} (h : ReadAt number s at (numberRead n)) where
+  pub then-no-number : n ≡ Nothing → ReadAt (numberThen w) s at (numberRead Nothing)
+  unfolding numberThen bind
+  then-no-number e = record { says = rw (missing h (ap numberRead e)); ahead = tt }
+
+  module _ {v end : ℕ} (e : n ≡ Value v end) {r : Passed} (k : ReadAt (exactly w) s end (passed r)) where
+    pub then-no-word : r ≡ NotPassed → ReadAt (numberThen w) s at (numberRead Nothing)
+    unfolding numberThen bind
+    then-no-word f = record { says = rw (there h (ap numberRead e), missing k (ap passed f)); ahead = tt }
+
+    pub then-there : {next : ℕ} → r ≡ At next → ReadAt (numberThen w) s at (numberRead (Value v next))
+    unfolding numberThen bind
+    then-there f =
+        let a = rw e at h in
+        let b = rw f at k in
+        let l = a .ahead in
+        let m = b .ahead in
+        record { says = rw (there h (ap numberRead e), there k (ap passed f)); ahead = (omega arith, omega arith) }
+
+module _ (s : List ℕ) (n : ℕ) where
+  pub more-left : n < length s → isEmpty (drop n s) ≡ false
+  more-left h = ap isEmpty (drop-cons s n 0 h)
+
+  pub nothing-left : length s ≤ n → isEmpty (drop n s) ≡ true
+  nothing-left h = ap isEmpty (drop-of-length-le s h)
