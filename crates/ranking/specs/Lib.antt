@@ -5,3 +5,4 @@ pub mod Sorting
 pub mod Combining
 pub mod Occurrences
 pub mod Parts
+pub mod Growing

@@ -58,7 +58,7 @@ laid-out-bytes file h =
     ap (every inFile) (laid-out-spelt file h .1 ∙ sym (flatten-file t)) ∙ lines-bytes (fileLines t) (file-lines t)
 
 -- The bytes before the end line, of which the sum is taken, spell all that stands before it.
-drop-last : (ls : List (List ℕ)) (l : List ℕ) → dropLast (ls ++ l ∷ []) ≡ ls
+pub drop-last : (ls : List (List ℕ)) (l : List ℕ) → dropLast (ls ++ l ∷ []) ≡ ls
 drop-last [] l = refl
 drop-last (k ∷ []) l = refl
 drop-last (k ∷ m ∷ ls) l = ap (λ (r : List (List ℕ)). k ∷ r) (drop-last (m ∷ ls) l)

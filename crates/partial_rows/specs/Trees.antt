@@ -1,0 +1,214 @@
+-- The trees of the forest that the parents make: no table joins two of them, so their rows may be found one tree after another.
+use mathlib.Core.Path.{sym, ap, _∙_}
+use mathlib.Core.Logic.{_⊎_, inl, inr}
+use mathlib.Core.Bool.{true≢false, not-eq-not}
+use mathlib.Core.Option.{Option·none-ne-some}
+use native.Mathlib.Decide.{decLt}
+use native.Mathlib.Omega.{arith}
+use borrow.Author.Tests.{ltb-true, lt-ltb, le-ltb, eqb-true, eq-eqb, ne-eqb}
+use lib.ListN.{List·getD-eq-default}
+use Prim.Native.Nat.{_≤_}
+use Rattle.definitions.specs.Basics.{ℕ, zero, suc, _<_, Ordering, _≡_, refl, Bool, true, false, _||_, Option, none, some, List, [], _∷_, length}
+use Rattle.definitions.specs.Basics.{eqb, ltb, every, everyTwo, contains, noneOr}
+use Rattle.definitions.specs.Syntax.{Patient, Table, Region, patientNumbers, patientAt}
+use Rattle.definitions.specs.Questions.{parentsSmaller, following, ancestors, membersRelated}
+use Rattle.ranking.specs.Members.{_∈_, here, there, here-or-there, none-in-nil}
+use Rattle.ranking.specs.Orders.{View, before, equal, after, ℕ-view}
+use Rattle.theorems.specs.Tests.{both}
+use Rattle.theorems.specs.Kept.{every-in, any-out, contains-in, contains-out}
+use Rattle.theorems.specs.Below.{below-in}
+use Rattle.partial_rows.specs.Sets.{Patients, Part, first, second, neither, Splits}
+use Rattle.partial_rows.specs.Rows.{Closed}
+use Rattle.partial_rows.specs.Parts.{Apart}
+
+-- The last of a chain that goes on from s.
+abbrev lastFrom : ℕ → List ℕ → ℕ
+lastFrom s [] = s
+lastFrom s (p ∷ ps) = lastFrom p ps
+
+-- The root of a patient: its last ancestor, or itself where it has none.
+unfoldable pub rootOf : Region → ℕ → ℕ
+rootOf region s = lastFrom s (ancestors region s)
+
+-- The tree of a root; the patients whose roots are below k.
+abbrev pub treeOf : Region → ℕ → Patients
+treeOf region r s = eqb (rootOf region s) r
+
+abbrev pub rootsBelow : Region → ℕ → Patients
+rootsBelow region k s = ltb (rootOf region s) k
+
+-- Two tests with the same answer; one of two tests is passed; so is a test of any two elements, in one order or the other.
+same-answer : {a b : Bool} → (a ≡ true → b ≡ true) → (b ≡ true → a ≡ true) → a ≡ b
+same-answer {a = true} {b} f g = sym (f refl)
+same-answer {a = false} {b = true} f g = g refl
+same-answer {a = false} {b = false} f g = refl
+
+either : (a : Bool) {b : Bool} → (a || b) ≡ true → (a ≡ true) ⊎ (b ≡ true)
+either true e = inl refl
+either false e = inr e
+
+every-two-in : {A : Type 0} (f : A → A → Bool) (l : List A) → everyTwo f l ≡ true → {a b : A} → a ∈ l → b ∈ l
+    → (a ≡ b) ⊎ ((f a b ≡ true) ⊎ (f b a ≡ true))
+every-two-in f [] e i j = absurd (none-in-nil i)
+every-two-in f (x ∷ l) e i j = let (now, later) = both (every (f x) l) e in elim (here-or-there i) [
+  | inl p ↦ elim (here-or-there j) [ inl q ↦ inl (p ∙ sym q) | inr k ↦ inr (inl (rw p (every-in (f x) l now k))) ]
+  | inr h ↦ elim (here-or-there j) [ inl q ↦ inr (inr (rw q (every-in (f x) l now h))) | inr k ↦ every-two-in f l later h k ]
+]
+
+-- Following parents from s ends at r.
+data Rooted (region : Region) (r : ℕ) : ℕ → Type 0 where
+  top : {s : ℕ} → patientAt region s .parent ≡ none → r ≡ s → Rooted region r s
+  up : {s : ℕ} (p : ℕ) → patientAt region s .parent ≡ some p → Rooted region r p → Rooted region r s
+
+module _ {region : Region} where
+  -- It ends at one patient, which has no parent.
+  rooted-one : {s r q : ℕ} → Rooted region r s → Rooted region q s → r ≡ q
+  rooted-one (top e h) (top d k) = h ∙ sym k
+  rooted-one (top e h) (up p d k) = absurd (Option·none-ne-some p (sym e ∙ d))
+  rooted-one (up p e h) (top d k) = absurd (Option·none-ne-some p (sym d ∙ e))
+  rooted-one (up p e h) (up o d k) = let same : o ≡ p = cc in rooted-one h (rw same at k)
+
+  rooted-top : {s r : ℕ} → Rooted region r s → patientAt region r .parent ≡ none
+  rooted-top (top e h) = rw h e
+  rooted-top (up p e h) = rooted-top h
+
+  -- The patients on the way end there too.
+  rooted-on : {s r b : ℕ} (k : ℕ) → b ∈ following region k (patientAt region s .parent) → Rooted region r s → Rooted region r b
+  unfolding following
+  rooted-on zero i h = absurd (none-in-nil i)
+  rooted-on {s} {b} (suc k) i (top e h) = absurd (none-in-nil (rw e at i))
+  rooted-on {s} {r} {b} (suc k) i (up p e h) = elim (here-or-there (rw e at i)) [ inl q ↦ rw q h | inr t ↦ rooted-on k t h ]
+
+module _ (region : Region) (smaller : parentsSmaller region ≡ true) where
+  -- Question 6: a parent has a smaller number. And only patients have parents.
+  parent-smaller : (s p : ℕ) → patientAt region s .parent ≡ some p → (p < s) × (s < length (region .patients))
+  unfolding parentsSmaller patientAt
+  parent-smaller s p e = elim (decLt s (length (region .patients))) [
+    | yes h ↦ (ltb-true p s (ap (noneOr (λ q. ltb q s)) (sym e) ∙ every-in _ (patientNumbers region) smaller (below-in _ h)), h)
+    | no h ↦ absurd (Option·none-ne-some p (sym (ap (λ (x : Patient). x .parent) (List·getD-eq-default (region .patients) _ (omega arith))) ∙ e))
+  ]
+
+  -- So as many steps as there are patients reach the root.
+  rooted-after : (k s : ℕ) → ((p : ℕ) → patientAt region s .parent ≡ some p → s ≤ k)
+      → Rooted region (lastFrom s (following region k (patientAt region s .parent))) s
+  unfolding following
+  rooted-after zero s few = go (patientAt region s .parent) refl
+    where
+      go : (o : Option ℕ) → patientAt region s .parent ≡ o → Rooted region s s
+      go none e = top e refl
+      go (some p) e = absurd (omega (arith, few p e, parent-smaller s p e .0))
+  rooted-after (suc k) s few = go (patientAt region s .parent) refl (rooted-after k)
+    where
+      go : (o : Option ℕ) → patientAt region s .parent ≡ o
+          → ((p : ℕ) → ((q : ℕ) → patientAt region p .parent ≡ some q → p ≤ k) → Rooted region (lastFrom p (following region k (patientAt region p .parent))) p)
+          → Rooted region (lastFrom s (following region (suc k) o)) s
+      go none e ih = top e refl
+      go (some p) e ih = up p e (ih p (λ q d. omega (arith, few p e, parent-smaller s p e .0)))
+
+  rooted : (s : ℕ) → Rooted region (rootOf region s) s
+  unfolding rootOf ancestors
+  rooted s = rooted-after (length (region .patients)) s (λ p e. omega (arith, parent-smaller s p e .1))
+
+  -- A patient has the root of its ancestors, and the root has no parent and no larger number.
+  root-of-ancestor : (a b : ℕ) → b ∈ ancestors region a → rootOf region a ≡ rootOf region b
+  unfolding ancestors
+  root-of-ancestor a b i = rooted-one (rooted-on (length (region .patients)) i (rooted a)) (rooted b)
+
+  root-top : (s : ℕ) → patientAt region (rootOf region s) .parent ≡ none
+  root-top s = rooted-top (rooted s)
+
+  root-at-most : (s : ℕ) → rootOf region s ≤ s
+  root-at-most s = go (rooted s)
+    where
+      go : {r s : ℕ} → Rooted region r s → r ≤ s
+      go (top e h) = omega arith
+      go {s} (up p e h) = omega (arith, go h, parent-smaller s p e .0)
+
+  -- The tree of a patient holds patients only.
+  pub tree-known : (r s : ℕ) → r < length (region .patients) → treeOf region r s ≡ true → s < length (region .patients)
+  tree-known r s h e = go (rw (eqb-true (rootOf region s) r e) at (rooted s))
+    where
+      go : Rooted region r s → s < length (region .patients)
+      go (top q d) = rw (← d) h
+      go (up p q d) = parent-smaller s p q .1
+
+  -- The tree of a root: the root, and the patients that have it as an ancestor.
+  pub tree-members : (r s : ℕ) → patientAt region r .parent ≡ none → treeOf region r s ≡ contains (s ∷ ancestors region s) r
+  tree-members r s e = same-answer (λ q. contains-in (s ∷ ancestors region s) (rw (eqb-true (rootOf region s) r q) at last))
+      (λ q. eq-eqb (rootOf region s) r (root (here-or-there (contains-out (s ∷ ancestors region s) r q))))
+    where
+      last-in : (s : ℕ) (l : List ℕ) → lastFrom s l ∈ s ∷ l
+      last-in s [] = here refl
+      last-in s (p ∷ l) = there (last-in p l)
+
+      last : rootOf region s ∈ s ∷ ancestors region s
+      last = unfold rootOf in last-in s (ancestors region s)
+
+      itself : rootOf region r ≡ r
+      itself = rooted-one (rooted r) (top e refl)
+
+      root : (r ≡ s) ⊎ (r ∈ ancestors region s) → rootOf region s ≡ r
+      root (inl q) = ap (rootOf region) (sym q) ∙ itself
+      root (inr i) = root-of-ancestor s r i ∙ itself
+
+  -- ---- tables
+
+  module _ (related : membersRelated region ≡ true) where
+    -- Question 10: the members of a table have one root.
+    one-root : (t : Table) → t ∈ region .tables → {a b : ℕ} → a ∈ t .members → b ∈ t .members → rootOf region a ≡ rootOf region b
+    unfolding membersRelated
+    one-root t k {a} {b} i j = elim (every-two-in _ (t .members) (every-in _ (region .tables) related k) i j) [
+      | inl e ↦ ap (rootOf region) e
+      | inr r ↦ elim r [ inl e ↦ go a b (either _ e) | inr e ↦ sym (go b a (either _ e)) ]
+    ]
+      where
+        go : (a b : ℕ) → (contains (ancestors region a) b ≡ true) ⊎ (contains (ancestors region b) a ≡ true) → rootOf region a ≡ rootOf region b
+        go a b (inl e) = root-of-ancestor a b (contains-out (ancestors region a) b e)
+        go a b (inr e) = sym (root-of-ancestor b a (contains-out (ancestors region b) a e))
+
+    -- So a set that is given by the roots is closed, whoever has a bed already.
+    pub roots-closed : (f : ℕ → Bool) (bedded : Patients) → Closed region (λ s. f (rootOf region s)) bedded
+    roots-closed f bedded t k held s i =
+        let (a, j, h) = any-out (λ s. f (rootOf region s)) (t .members) held in
+        ap (λ r. f r || bedded s) (one-root t k i j) ∙ ap (λ b. b || bedded s) h
+
+    -- And no table joins sets that are told apart by the roots.
+    pub roots-apart : (f g : ℕ → Bool) → ((r : ℕ) → f r ≡ true → g r ≡ false) → Apart region (λ s. f (rootOf region s)) (λ s. g (rootOf region s))
+    roots-apart f g differ t k e = not-eq-not .0 (λ d.
+        let (a, i, h) = any-out (λ s. f (rootOf region s)) (t .members) e in
+        let (b, j, q) = any-out (λ s. g (rootOf region s)) (t .members) d in
+        true≢false (sym q ∙ ap g (one-root t k j i) ∙ differ (rootOf region a) h))
+
+-- ---- one tree after another
+
+-- The patients with roots up to k are those with roots below k and the tree of k.
+pub trees-split : (region : Region) (k : ℕ) → Splits (rootsBelow region (suc k)) (rootsBelow region k) (treeOf region k)
+trees-split region k s = go (rootOf region s) (ℕ-view (rootOf region s) k)
+  where
+    go : (r : ℕ) {o : Ordering} → View _<_ r k o → Part (ltb r (suc k)) (ltb r k) (eqb r k)
+    go r (before h) = rw (lt-ltb r (suc k) (omega arith), lt-ltb r k h, ne-eqb r k (λ e. omega arith)) first
+    go r (equal e) = rw (lt-ltb r (suc k) (omega arith), le-ltb r k (omega arith), eq-eqb r k e) second
+    go r (after h) = rw (le-ltb r (suc k) (omega arith), le-ltb r k (omega arith), ne-eqb r k (λ e. omega arith)) neither
+
+-- Nobody's root is below 0.
+pub roots-none : (region : Region) (s : ℕ) → rootsBelow region 0 s ≡ false
+roots-none region s = le-ltb (rootOf region s) 0 (omega arith)
+
+module _ (region : Region) (smaller : parentsSmaller region ≡ true) where
+  -- No table joins them.
+  pub trees-apart : membersRelated region ≡ true → (k : ℕ) → Apart region (rootsBelow region k) (treeOf region k)
+  trees-apart related k = roots-apart region smaller related (λ r. ltb r k) (λ r. eqb r k) (λ r h. ne-eqb r k (λ e. omega (arith, ltb-true r k h)))
+
+  -- A patient with a parent is nobody's root.
+  pub roots-skip : (k p : ℕ) → patientAt region k .parent ≡ some p → (s : ℕ) → rootsBelow region (suc k) s ≡ rootsBelow region k s
+  roots-skip k p e s = go (trees-split region k s)
+      (ne-eqb (rootOf region s) k (λ q. Option·none-ne-some p (sym (root-top region smaller s) ∙ ap (λ r. patientAt region r .parent) q ∙ e)))
+    where
+      go : {a b c : Bool} → Part a b c → c ≡ false → a ≡ b
+      go first h = refl
+      go second h = absurd (true≢false h)
+      go neither h = refl
+
+  -- Every patient has one of the patients for its root.
+  pub roots-all : (s : ℕ) → s < length (region .patients) → rootsBelow region (length (region .patients)) s ≡ true
+  roots-all s h = lt-ltb (rootOf region s) (length (region .patients)) (omega (arith, root-at-most region smaller s))
