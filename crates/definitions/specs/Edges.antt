@@ -12,7 +12,7 @@ use Rattle.definitions.specs.Questions.{shortEnough, membersRight, entry
 use Rattle.definitions.specs.Sheets.{sheetOf}
 use Rattle.definitions.specs.Isolation.{yieldNumber, tablesAmong, timesIn, joins, SameClinic, SameBeginning}
 use Rattle.definitions.specs.Outcomes.{ListOutcome, listOutcome, sheetOutcome, PriceOutcome, priceOutcome}
-use Rattle.definitions.specs.Boundary.{listCall, priceCall}
+use Rattle.definitions.specs.Boundary.{listCall, sheetCall, priceCall}
 use Rattle.definitions.specs.Output.{printed}
 use Rattle.definitions.specs.Computing.{everything}
 use Rattle.definitions.specs.Examples.{textOf, paperFile, patient, table, region, fileOf, row, lent, cleared, twoClinics}
@@ -95,6 +95,13 @@ listNumber file beds costs work = listOutcome file (lent beds) (lent costs) (len
 
 abbrev callNumber : List ℕ → ℕ → ℕ → ℕ → ℕ
 callNumber file beds costs result = listCall file (lent beds) (lent costs) (lent result) .number
+
+-- The same of sheet, for clinic 0.
+abbrev sheetNumber : List ℕ → ℕ → ℕ → ℕ → ℕ
+sheetNumber file beds costs work = sheetOutcome file 0 (lent beds) (lent costs) (lent work) .number
+
+abbrev sheetCallNumber : List ℕ → ℕ → ℕ → ℕ → ℕ
+sheetCallNumber file beds costs result = sheetCall file 0 (lent beds) (lent costs) (lent result) .number
 
 -- A region that says nine numbers, one in each kind of field; nine of the largest, and with a larger one at place i.
 abbrev saying : List ℕ → Region
@@ -233,6 +240,10 @@ pub record Turns : Type 0 where
   pub callAreas :
       callNumber paperFile 6 24 8 ∷ callNumber paperFile 5 24 8 ∷ callNumber paperFile 6 23 8 ∷ callNumber paperFile 6 24 7 ∷ []
       ≡ 0 ∷ 12 ∷ 12 ∷ 12 ∷ []
+  pub sheetAreas :
+      sheetNumber paperFile 6 3 16_384 ∷ sheetNumber paperFile 5 3 16_384 ∷ sheetNumber paperFile 6 2 16_384 ∷ sheetNumber paperFile 6 3 16_383 ∷ [] ≡ 0 ∷ 12 ∷ 12 ∷ 12 ∷ []
+  pub sheetCallAreas :
+      sheetCallNumber paperFile 6 24 8 ∷ sheetCallNumber paperFile 5 24 8 ∷ sheetCallNumber paperFile 6 23 8 ∷ sheetCallNumber paperFile 6 24 7 ∷ [] ≡ 0 ∷ 12 ∷ 12 ∷ 12 ∷ []
   pub longerWork : listOutcome paperFile (lent 6) (lent 3) (lent 16_390) .work ≡ cleared 16_390
   pub planFits :
       map (λ plan. priceOutcome paperFile plan .number) ((0 ∷ []) ∷ (0 ∷ 0 ∷ 0 ∷ []) ∷ (2 ∷ 0 ∷ []) ∷ (1 ∷ 1 ∷ []) ∷ [])
@@ -252,6 +263,8 @@ turns = record {
   clinicNotCut = refl;
   areas = refl;
   callAreas = refl;
+  sheetAreas = refl;
+  sheetCallAreas = refl;
   longerWork = refl;
   planFits = refl;
   emptyText = refl;

@@ -49,7 +49,7 @@ okMembers t = someAll spellable (t .members)
 abbrev okEntries : Table → Bool
 okEntries t = someAll (noneOr spellable) (t .entries)
 
-well-formed-lines : (r : Region) → wellFormed r ≡ true → LinesOk r
+pub well-formed-lines : (r : Region) → wellFormed r ≡ true → LinesOk r
 unfolding wellFormed
 well-formed-lines r h =
     let numbers = every spellable (numbersBefore r ++ r .statedSum ∷ []) in

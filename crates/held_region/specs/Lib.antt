@@ -1,0 +1,16 @@
+pub mod Held
+pub mod Limits
+pub mod Outline
+pub mod Places
+pub mod Asked
+pub mod Members
+pub mod Sound
+pub mod Entries
+pub mod Ancestors
+pub mod Chains
+pub mod Sets
+pub mod Related
+pub mod Refusals
+pub mod Faithful
+pub mod Stored
+pub mod Answers

@@ -1,0 +1,4 @@
+pub mod HeldLines
+pub mod Layouts
+pub mod Loads
+pub mod HeldTables
