@@ -93,7 +93,7 @@ fn all_chained(set: PatientSet, ancestors: [PatientSet; 32]) -> bool
     ensures { λ a. ⌜ a ≡ chained (setIn ancestors) (members (set .0)) ⌝ }
 {
     let mut rest = set;
-    while !rest.is_empty() {
+    while 0 < rest.size() {
         let b = rest.lowest() as usize;
         let above = ancestors[b];
         if !lower_above(set, above, b) {
