@@ -10,7 +10,7 @@ use Rattle.definitions.specs.Spelling.{spell, wellFormed}
 use Rattle.definitions.specs.Plans.{Plan, Row, listOf}
 use Rattle.definitions.specs.Questions.{shortEnough, membersRight, entryCountsRight, regionOf, checkOf}
 use Rattle.definitions.specs.Sheets.{sheetOf}
-use Rattle.definitions.specs.Isolation.{yieldNumber, tablesAmong, timesIn, joins, SameClinic, SameBeginning}
+use Rattle.definitions.specs.Isolation.{yieldNumber, YieldsList, tablesAmong, timesIn, joins, SameClinic, SameBeginning}
 use Rattle.definitions.specs.Outcomes.{ListOutcome, listOutcome, sheetOutcome, PriceOutcome, priceOutcome}
 use Rattle.definitions.specs.Boundary.{listCall, sheetCall, priceCall}
 use Rattle.definitions.specs.Output.{printed}
@@ -43,7 +43,7 @@ misspelt =
     ∷ instead 1 ("(patient 0 : -)" ∷ []) ∷ instead 1 ("(patient 0 / -)" ∷ []) ∷ instead 1 ("(patient 0 2 )" ∷ []) ∷ instead 1 ("(patient 0\t2 -)" ∷ [])
     ∷ instead 3 ("(cost () (3 1))" ∷ []) ∷ instead 3 ("(cost (0) ())" ∷ []) ∷ instead 3 ("(cost (-) (3 1))" ∷ []) ∷ instead 3 ("(cost (0 ) (3 1))" ∷ [])
     ∷ instead 3 ("(cost ( 0) (3 1))" ∷ []) ∷ instead 3 ("(cost (0) (3  1))" ∷ []) ∷ instead 3 ("(cost (0) 3 1)" ∷ []) ∷ instead 3 ("(cost (0)(3 1))" ∷ [])
-    ∷ instead 3 ("(cost (0) (3 1)" ∷ []) ∷ instead 3 ("(cost (0) (3 01))" ∷ []) ∷ instead 3 ("(cost (0) (3 (1)))" ∷ []) ∷ instead 3 ("(cost (0) (3 10000000))" ∷ [])
+    ∷ instead 3 ("(cost (0) (3\t1))" ∷ []) ∷ instead 3 ("(cost (0) (3 1)" ∷ []) ∷ instead 3 ("(cost (0) (3 01))" ∷ []) ∷ instead 3 ("(cost (0) (3 (1)))" ∷ []) ∷ instead 3 ("(cost (0) (3 10000000))" ∷ [])
     ∷ instead 5 ("(end 05272)" ∷ []) ∷ instead 5 ("(end -)" ∷ []) ∷ instead 5 ("(end)" ∷ []) ∷ instead 5 ("(end 5272 )" ∷ []) ∷ []
 
 -- ---- the questions: small regions on either side of each bound
@@ -290,6 +290,8 @@ pub record Rows : Type 0 where
   pub asOften :
       map (timesIn (ownTable ∷ table (0 ∷ []) (some 0 ∷ []) ∷ ownTable ∷ [])) (ownTable ∷ table (0 ∷ []) (none ∷ []) ∷ table (1 ∷ []) (some 0 ∷ []) ∷ table (0 ∷ []) (some 0 ∷ []) ∷ table (0 ∷ []) (some 0 ∷ none ∷ []) ∷ [])
       ≡ 2 ∷ 0 ∷ 0 ∷ 1 ∷ 0 ∷ []
+  pub otherEntry : timesIn (table (0 ∷ []) (none ∷ []) ∷ []) (table (0 ∷ []) (some 0 ∷ [])) ≡ 0
+  pub paperYields : YieldsList paperFile
   pub yields : map yieldNumber (paperFile ∷ allForbidden ∷ [] ∷ []) ≡ 0 ∷ 13 ∷ 2 ∷ []
   pub sameClinic : SameClinic 0 (twoClinicsRegion 3 5) (twoClinicsRegion 2 0)
   pub sameBeginning : SameBeginning (sheetOf (twoClinicsRegion 3 5) 0) (sheetOf (twoClinicsRegion 2 0) 0)
@@ -305,6 +307,8 @@ rows = record {
   byPlaces = refl;
   joiningTables = refl;
   asOften = refl;
+  otherEntry = refl;
+  paperYields = refl;
   yields = refl;
   sameClinic = record { beds = refl; tables = λ t. refl; apartInFirst = refl; apartInSecond = refl };
   sameBeginning = record { firstRow = omega arith; secondRow = omega arith; sameRows = refl };
