@@ -1,0 +1,89 @@
+-- Buckets of tables: what the words say, and when they say it of a region.
+use Prim.Native.Nat.{_≤_}
+use Rattle.definitions.specs.Basics.{ℕ, suc, _+_, _*_, _<_, _≡_, true, some, List, [], _∷_, map, length, getD, ltb, sum, below}
+use Rattle.definitions.specs.Syntax.{Table, Region, patientAt}
+use Rattle.definitions.specs.Plans.{Plan, bedOf, entryFor}
+use Rattle.definitions.specs.Questions.{countsTrue, countsWithin, patientsWithin, parentsSmaller, membersRight, entryCountsRight, entriesWithin, membersRelated}
+use Rattle.partial_rows.specs.Sets.{only}
+use Rattle.partial_rows.specs.Rows.{decidedTables}
+use Rattle.partial_rows.specs.Bounds.{leastEntry}
+use Rattle.held_region.specs.declared.Region as Code
+use Rattle.held_region.specs.Held.{Holds, codeOf}
+
+-- Questions 3 and 5 to 10 are answered yes.
+pub record Answered (r : Region) : Type 0 where
+  pub counted : countsTrue r ≡ true
+  pub countsFit : countsWithin r ≡ true
+  pub patientsFit : patientsWithin r ≡ true
+  pub parentsFit : parentsSmaller r ≡ true
+  pub membersFit : membersRight r ≡ true
+  pub entryCountsFit : entryCountsRight r ≡ true
+  pub entriesFit : entriesWithin r ≡ true
+  pub related : membersRelated r ≡ true
+
+-- A held region that can be planned: it holds what a file says whose questions are answered yes.
+pub record Planned (h : Code.Region) : Type 0 where
+  pub region : Region
+  pub holds : Holds h region
+  pub answered : Answered region
+
+-- A plan with each bed below its patient's count.
+abbrev pub Fitting : Region → Plan → Type 0
+Fitting r plan = (s : ℕ) → s < length (r .patients) → bedOf plan s < patientAt r s .bedCount
+
+-- The bucket of a patient: the tables whose highest member it is. The sum of their least numbers.
+unfoldable pub bucketOf : Region → ℕ → List Table
+bucketOf r s = decidedTables r (only s) (ltb s)
+
+unfoldable pub leastIn : Region → ℕ → ℕ
+leastIn r s = sum (map leastEntry (bucketOf r s))
+
+-- ---- the words of a term
+
+abbrev pub startAt : List ℕ → ℕ → ℕ
+startAt terms k = getD terms (k * 10) 0
+
+abbrev pub nextAt : List ℕ → ℕ → ℕ
+nextAt terms k = getD terms (k * 10 + 1) 0
+
+abbrev pub memberAt : List ℕ → ℕ → ℕ → ℕ
+memberAt terms k j = getD terms (k * 10 + 2 + j) 0
+
+abbrev pub strideAt : List ℕ → ℕ → ℕ → ℕ
+strideAt terms k j = getD terms (k * 10 + 6 + j) 0
+
+-- The place in the store of a term's entry for a plan: from the start on, a stride for each bed of each member.
+unfoldable pub placeAt : List ℕ → ℕ → Plan → ℕ
+placeAt terms k plan = startAt terms k + sum (map (λ j. bedOf plan (memberAt terms k j) * strideAt terms k j) (below 4))
+
+-- A term finds a table's entries: for every plan, what the store has at its place is the table's entry for the plan.
+pub record Term (r : Region) (store terms : List ℕ) (k : ℕ) (t : Table) : Type 0 where
+  pub known : (j : ℕ) → j < 4 → memberAt terms k j < 32
+  pub near : (j : ℕ) → j < 4 → strideAt terms k j ≤ 4096
+  pub starts : startAt terms k ≤ 4096
+  pub inside : (plan : Plan) → Fitting r plan → placeAt terms k plan < 4096
+  pub finds : (plan : Plan) → Fitting r plan → getD store (placeAt terms k plan) 0 ≡ codeOf (entryFor r plan t)
+  pub small : (plan : Plan) (e : ℕ) → entryFor r plan t ≡ some e → e ≤ 1_000_000
+
+-- The terms of some tables in their order: a chain that begins at p, each further on than the one before, with 64 at its end.
+unfoldable pub Chain : Region → List ℕ → List ℕ → ℕ → ℕ → List Table → Type 0
+Chain r store terms low p [] = p ≡ 64
+Chain r store terms low p (t ∷ ts) = (low ≤ p) × (p < 64) × Term r store terms p t × Chain r store terms (suc p) (nextAt terms p) ts
+
+-- ---- the words of a patient
+
+abbrev pub bedsAt : List ℕ → ℕ → ℕ
+bedsAt patients s = getD patients (s * 3) 0
+
+abbrev pub leastAt : List ℕ → ℕ → ℕ
+leastAt patients s = getD patients (s * 3 + 1) 0
+
+abbrev pub firstAt : List ℕ → ℕ → ℕ
+firstAt patients s = getD patients (s * 3 + 2) 0
+
+-- The words say each patient's count of beds, the sum of its bucket's least numbers, and its bucket.
+pub record Prepared (r : Region) (store patients terms : List ℕ) : Type 0 where
+  pub answered : Answered r
+  pub beds : (s : ℕ) → s < length (r .patients) → bedsAt patients s ≡ patientAt r s .bedCount
+  pub least : (s : ℕ) → s < length (r .patients) → leastAt patients s ≡ leastIn r s
+  pub bucket : (s : ℕ) → s < length (r .patients) → Chain r store terms 0 (firstAt patients s) (bucketOf r s)
