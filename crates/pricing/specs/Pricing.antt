@@ -1,0 +1,43 @@
+-- What pricing asks for and gives.
+use Prim.Native.Nat.{_≤_}
+use Rattle.definitions.specs.Basics.{ℕ, _<_, _≡_, Option, none, some, List, length, take}
+use Rattle.definitions.specs.Syntax.{Region}
+use Rattle.definitions.specs.Plans.{costOver, total}
+use Rattle.buckets.specs.Terms.{Fitting, bucketOf, startAt, memberAt, strideAt, Prepared}
+use Rattle.pricing.specs.declared.Cost.{Cost}
+use Rattle.pricing.specs.declared.Cost.the-variants.{Forbidden, Of}
+
+abbrev pub costIn : Cost → Option ℕ
+costIn Forbidden = none
+costIn (Of n) = some n
+
+-- The words of a term can be used to find a place.
+pub record Reads (terms : List ℕ) (k : ℕ) : Type 0 where
+  pub few : k < 64
+  pub known : (j : ℕ) → j < 4 → memberAt terms k j < 32
+  pub near : (j : ℕ) → j < 4 → strideAt terms k j ≤ 4096
+  pub starts : startAt terms k ≤ 4096
+
+-- The cost of one bucket.
+pub record Asks (store patients terms : List ℕ) (s : ℕ) (beds : List ℕ) : Type 0 where
+  pub region : Region
+  pub prepared : Prepared region store patients terms
+  pub fits : Fitting region beds
+  pub known : s < length (region .patients)
+  pub few : s < 32
+
+pub record Gives (store patients terms : List ℕ) (s : ℕ) (beds : List ℕ) (c : Cost) : Type 0 where
+  pub most : (n : ℕ) → costIn c ≡ some n → n ≤ 64_000_000
+  pub cost : (r : Region) → Prepared r store patients terms → Fitting r beds → s < length (r .patients) → costIn c ≡ costOver (bucketOf r s) r beds
+
+-- The total of a plan.
+pub record AsksAll (store patients terms : List ℕ) (v : ℕ) (beds : List ℕ) : Type 0 where
+  pub region : Region
+  pub prepared : Prepared region store patients terms
+  pub fits : Fitting region beds
+  pub all : v ≡ length (region .patients)
+  pub few : v ≤ 32
+
+abbrev pub GivesAll : List ℕ → List ℕ → List ℕ → ℕ → List ℕ → Cost → Type 0
+GivesAll store patients terms v beds c =
+    (r : Region) → Prepared r store patients terms → Fitting r beds → v ≡ length (r .patients) → costIn c ≡ total r (take v beds)

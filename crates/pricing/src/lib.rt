@@ -1,0 +1,91 @@
+// Plans, and what they cost.
+ghost use mathlib.Core.Path.{_≡_};
+ghost use Prim.Native.Nat.{ℕ, _+_, _<_, _≤_};
+ghost use lib.ListN.{set};
+ghost use Rattle.definitions.specs.Basics.{replicate};
+ghost use Rattle.buckets.specs.Terms.{placeAt};
+ghost use Rattle.pricing.specs.Pricing.{Reads, Asks, Gives, AsksAll, GivesAll};
+use held_region::FORBIDDEN;
+
+// A plan, step by step: the beds of the patients placed so far, bed 0 for all others, and how many are placed.
+pub struct Plan {
+    pub beds: [u8; 32],
+    pub len: usize,
+}
+
+impl Plan {
+    // Nobody is placed.
+    pub fn new() -> Plan
+        ensures { λ p. ⌜ (p .beds ≡ replicate 32 0) × (p .len ≡ 0) ⌝ }
+    {
+        Plan {
+            beds: [0u8; 32],
+            len: 0,
+        }
+    }
+
+    // The longer plan, with a bed for one more patient.
+    pub fn place(mut self, patient: usize, bed: u8) -> Plan
+        requires { ⌜ (patient < 32) × (self .len < 32) ⌝ }
+        ensures { λ p. ⌜ (p .beds ≡ set (self .beds) patient bed) × (p .len ≡ self .len + 1) ⌝ }
+    {
+        self.beds[patient] = bed;
+        self.len = self.len + 1;
+        self
+    }
+}
+
+// The sum of some entries; a forbidden one makes it no number at all.
+pub enum Cost {
+    Forbidden,
+    Of(u64),
+}
+
+fn wide(bed: u8) -> usize
+    ensures { λ n. ⌜ (n ≡ bed) × (n < 256) ⌝ }
+{
+    bed as usize
+}
+
+// The place in the store of a term's entry for a plan.
+fn entry_place(terms: &[u32; 640], k: usize, beds: [u8; 32]) -> usize
+    requires { ⌜ Reads (now terms) k ⌝ }
+    ensures { λ at. ⌜ at ≡ placeAt (now (terms .entry)) k beds ⌝ }
+{
+    let start = k * 10;
+    let mut place = terms[start] as usize;
+    let mut j = 0;
+    while j < 4 {
+        let s = terms[start + 2 + j] as usize;
+        let stride = terms[start + 6 + j] as usize;
+        place += wide(beds[s]) * stride;
+        j += 1;
+    }
+    place
+}
+
+// What the tables of a patient's bucket cost together.
+pub fn bucket_cost(
+    patients: &[u32; 96],
+    terms: &[u32; 640],
+    entries: &[u32; 4096],
+    s: usize,
+    plan: Plan,
+) -> Cost
+    requires { ⌜ Asks (now entries) (now patients) (now terms) s (plan .beds) ⌝ }
+    ensures { λ c. ⌜ Gives (now (entries .entry)) (now (patients .entry)) (now (terms .entry)) s (plan .beds) c ⌝ }
+{
+    let beds = plan.beds;
+    let mut sum: u64 = 0;
+    let mut k = patients[s * 3 + 2] as usize;
+    while k < 64 {
+        let at = entry_place(terms, k, beds);
+        let entry = entries[at];
+        if entry == FORBIDDEN {
+            return Cost::Forbidden;
+        }
+        sum += entry as u64;
+        k = terms[k * 10 + 1] as usize;
+    }
+    Cost::Of(sum)
+}
