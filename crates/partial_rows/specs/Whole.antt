@@ -51,7 +51,7 @@ tables-held region D counted right all t k =
 
 module _ (region : Region) (D : Patients) (all : (s : ℕ) → s < length (region .patients) → D s ≡ true)
     (held : (t : Table) → t ∈ constraints region → holds D t ≡ true) where
-  tables-all : tablesOf region D ≡ constraints region
+  pub tables-all : tablesOf region D ≡ constraints region
   unfolding tablesOf
   tables-all = keep-same (holds D) (λ t. true) (constraints region) held ∙ keep-all (constraints region)
 

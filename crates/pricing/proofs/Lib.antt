@@ -1,2 +1,4 @@
 pub mod Sums
 pub mod Chains
+pub mod Totals
+pub mod Beds

@@ -1,9 +1,10 @@
 -- What pricing asks for and gives.
 use Prim.Native.Nat.{_≤_}
-use Rattle.definitions.specs.Basics.{ℕ, _<_, _≡_, Option, none, some, List, length, take}
-use Rattle.definitions.specs.Syntax.{Region}
+use Rattle.definitions.specs.Basics.{ℕ, _<_, _≡_, Bool, Option, none, some, List, length, take}
+use Rattle.definitions.specs.Syntax.{Region, patientAt}
+use Rattle.definitions.specs.Questions.{planFits}
 use Rattle.definitions.specs.Plans.{costOver, total}
-use Rattle.buckets.specs.Terms.{Fitting, bucketOf, startAt, memberAt, strideAt, Prepared}
+use Rattle.buckets.specs.Terms.{Fitting, bucketOf, startAt, memberAt, strideAt, bedsAt, Prepared}
 use Rattle.pricing.specs.declared.Cost.{Cost}
 use Rattle.pricing.specs.declared.Cost.the-variants.{Forbidden, Of}
 
@@ -41,3 +42,8 @@ pub record AsksAll (store patients terms : List ℕ) (v : ℕ) (beds : List ℕ)
 abbrev pub GivesAll : List ℕ → List ℕ → List ℕ → ℕ → List ℕ → Cost → Type 0
 GivesAll store patients terms v beds c =
     (r : Region) → Prepared r store patients terms → Fitting r beds → v ≡ length (r .patients) → costIn c ≡ total r (take v beds)
+
+-- Question 14, of a plan's beds.
+abbrev pub PlanAsked : List ℕ → ℕ → List ℕ → Bool → Type 0
+PlanAsked patients v beds answer =
+    (r : Region) → ((s : ℕ) → s < v → bedsAt patients s ≡ patientAt r s .bedCount) → v ≡ r .patientCount → v ≡ length (r .patients) → answer ≡ planFits r beds

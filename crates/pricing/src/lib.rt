@@ -1,10 +1,10 @@
 // Plans, and what they cost.
 ghost use mathlib.Core.Path.{_≡_};
 ghost use Prim.Native.Nat.{ℕ, _+_, _<_, _≤_};
-ghost use lib.ListN.{set};
+ghost use lib.ListN.{set, length, take};
 ghost use Rattle.definitions.specs.Basics.{replicate};
-ghost use Rattle.buckets.specs.Terms.{placeAt};
-ghost use Rattle.pricing.specs.Pricing.{Reads, Asks, Gives, AsksAll, GivesAll};
+ghost use Rattle.buckets.specs.Terms.{placeAt, bedsAt, leastAt};
+ghost use Rattle.pricing.specs.Pricing.{Reads, Asks, Gives, AsksAll, GivesAll, PlanAsked};
 use held_region::FORBIDDEN;
 
 // A plan, step by step: the beds of the patients placed so far, bed 0 for all others, and how many are placed.
@@ -88,4 +88,86 @@ pub fn bucket_cost(
         k = terms[k * 10 + 1] as usize;
     }
     Cost::Of(sum)
+}
+
+// What all tables cost together, a bucket after the other.
+pub fn total(
+    patients: &[u32; 96],
+    terms: &[u32; 640],
+    entries: &[u32; 4096],
+    v: usize,
+    plan: Plan,
+) -> Cost
+    requires { ⌜ AsksAll (now entries) (now patients) (now terms) v (plan .beds) ⌝ }
+    ensures { λ c. ⌜ GivesAll (now (entries .entry)) (now (patients .entry)) (now (terms .entry)) v (plan .beds) c ⌝ }
+{
+    let mut sum: u64 = 0;
+    let mut s = 0;
+    while s < v {
+        let cost = bucket_cost(patients, terms, entries, s, plan);
+        match cost {
+            Cost::Forbidden => {
+                return Cost::Forbidden;
+            }
+            Cost::Of(n) => {
+                sum += n;
+            }
+        }
+        s += 1;
+    }
+    Cost::Of(sum)
+}
+
+fn as_count(word: u32) -> usize
+    ensures { λ n. ⌜ n ≡ word ⌝ }
+{
+    word as usize
+}
+
+// How many beds a patient has.
+pub fn bed_count(patients: &[u32; 96], s: usize) -> usize
+    requires { ⌜ s < 32 ⌝ }
+    ensures { λ n. ⌜ n ≡ bedsAt (now (patients .entry)) s ⌝ }
+{
+    as_count(patients[s * 3])
+}
+
+// The sum of the least numbers of a patient's bucket.
+pub fn least_cost(patients: &[u32; 96], s: usize) -> usize
+    requires { ⌜ s < 32 ⌝ }
+    ensures { λ n. ⌜ n ≡ leastAt (now (patients .entry)) s ⌝ }
+{
+    as_count(patients[s * 3 + 1])
+}
+
+// 14. Are there exactly v beds, each below its patient's count?
+pub fn plan_fits(patients: &[u32; 96], v: usize, beds: &[u8]) -> bool
+    requires { ⌜ v ≤ 32 ⌝ }
+    ensures { λ a. ⌜ PlanAsked (now (patients .entry)) v (now (beds .entry)) a ⌝ }
+{
+    if beds.len() != v {
+        return false;
+    }
+    let mut s = 0;
+    while s < v {
+        if bed_count(patients, s) <= wide(beds[s]) {
+            return false;
+        }
+        s += 1;
+    }
+    true
+}
+
+// The plan with these beds, patient by patient.
+pub fn plan_of(beds: &[u8]) -> Plan
+    requires { ⌜ length (now beds) ≤ 32 ⌝ }
+    ensures { λ p. ⌜ take (length (now (beds .entry))) (p .beds) ≡ now (beds .entry) ⌝ }
+{
+    let mut plan = Plan::new();
+    let mut s = 0;
+    while s < beds.len() {
+        plan = plan.place(s, beds[s]);
+        s += 1;
+    }
+    plan
 }

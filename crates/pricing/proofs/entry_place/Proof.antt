@@ -74,12 +74,12 @@ wide-requires : tie.Need-wide-requires Inv-loop μ-loop
 wide-requires c κs = search needs
 
 mul-place-2 : tie.Need-mul-place-2 Inv-loop μ-loop
-mul-place-2 c = 
+mul-place-2 c =
     let most = bed-most (c .wide .result) _ (c .wide .ensures .1) (c .before .before .before .before .before .before .pre .near _ (c .before .before .before .loop-test .taken)) in
     omega (arith, most)
 
 add-place : tie.Need-add-place Inv-loop μ-loop
-add-place c = 
+add-place c =
     let most = bed-most (c .wide .result) _ (c .wide .ensures .1) (c .before .before .before .before .before .before .pre .near _ (c .before .before .before .loop-test .taken)) in
     omega (arith, most)
 
@@ -90,7 +90,7 @@ loop-less : tie.Need-loop-less Inv-loop μ-loop
 loop-less c = search needs
 
 loop-again : tie.Need-loop-again Inv-loop μ-loop
-loop-again c = 
+loop-again c =
     let most = bed-most (c .wide .result) _ (c .wide .ensures .1) (c .before .before .before .before .before .before .pre .near _ (c .before .before .before .loop-test .taken)) in
     let loop = c .before .before .before .before in
     let a = loop .before .before .args in

@@ -1,0 +1,145 @@
+-- A plan's total, bucket by bucket, from patient 0 on. Assumes nothing.
+use mathlib.Core.Path.{_≡_, refl, sym, ap, _∙_, fun-ext}
+use mathlib.Core.Bool.{true≢false, not-eq-not}
+use mathlib.Core.Option.{Option·none-ne-some}
+use Prim.Native.Nat.{_≤_}
+use native.Mathlib.Nat.{add-zero}
+use native.Mathlib.Omega.{arith}
+use borrow.Author.Tests.{ltb-true, lt-ltb, le-ltb, le-leb, lt-leb, leb-true, eq-eqb, ne-eqb, eqb-true}
+use lib.Seq.{getD-take}
+use Rattle.definitions.specs.Basics.{ℕ, suc, _+_, _*_, _<_, Ordering, Bool, true, false, _&&_, Option, none, some, List, [], _∷_, length, take, keep, eqb, ltb, leb, every}
+use Rattle.definitions.specs.Syntax.{Table, Region}
+use Rattle.definitions.specs.Plans.{Plan, costOver, constraints, total}
+use Rattle.definitions.specs.Limits.{within, memberCount}
+use Rattle.definitions.specs.Questions.{countsTrue, membersRight}
+use Rattle.ranking.specs.Members.{_∈_, here, there}
+use Rattle.ranking.specs.Orders.{View, before, equal, after, ℕ-view}
+use Rattle.theorems.specs.Tests.{both}
+use Rattle.theorems.specs.Kept.{every-in, any-out}
+use Rattle.theorems.specs.Sums.{plus}
+use Rattle.partial_rows.specs.Sets.{Patients, only, Part, first, second, neither, Splits}
+use Rattle.partial_rows.specs.Rows.{holds, tablesOf}
+use Rattle.partial_rows.specs.Costs.{cost-same, cost-split}
+use Rattle.partial_rows.specs.Whole.{tables-held, tables-all}
+use Rattle.buckets.specs.Terms.{Answered, Fitting, bucketOf, Prepared}
+use Rattle.pricing.specs.Pricing.{costIn, Asks, Gives, AsksAll, GivesAll}
+use Rattle.pricing.specs.declared.Cost.{Cost}
+use Rattle.pricing.specs.declared.Cost.the-variants.{Forbidden, Of}
+
+-- A test that no element passes keeps none.
+keep-none-in : {A : Type 0} (f : A → Bool) (l : List A) → ((x : A) → x ∈ l → f x ≡ false) → keep f l ≡ []
+keep-none-in f [] h = refl
+keep-none-in f (x ∷ l) h = rw (h x (here refl)) (keep-none-in f l (λ y k. h y (there k)))
+
+-- The patients from s on are s and those above it.
+from-split : (s : ℕ) → Splits (leb s) (only s) (ltb s)
+from-split s q = go (ℕ-view s q)
+  where
+    go : {o : Ordering} → View _<_ s q o → Part (leb s q) (eqb s q) (ltb s q)
+    go (before h) = rw (le-leb s q (omega arith), ne-eqb s q (λ e. omega arith), lt-ltb s q h) second
+    go (equal e) = rw (le-leb s q (omega arith), eq-eqb s q e, le-ltb s q (omega arith)) first
+    go (after h) = rw (lt-leb s q h, ne-eqb s q (λ e. omega arith), le-ltb s q (omega arith)) neither
+
+above-next : (s : ℕ) → ltb s ≡ leb (s + 1)
+above-next s = fun-ext (λ q. go q (ℕ-view s q))
+  where
+    go : (q : ℕ) {o : Ordering} → View _<_ s q o → ltb s q ≡ leb (s + 1) q
+    go q (before h) = lt-ltb s q h ∙ sym (le-leb (s + 1) q (omega arith))
+    go q (equal e) = le-ltb s q (omega arith) ∙ sym (lt-leb (s + 1) q (omega arith))
+    go q (after h) = le-ltb s q (omega arith) ∙ sym (lt-leb (s + 1) q (omega arith))
+
+module _ (r : Region) (beds : Plan) where
+  -- What the tables with a member from s on cost.
+  unfoldable pub costFrom : ℕ → Option ℕ
+  costFrom s = costOver (tablesOf r (leb s)) r beds
+
+  next-bucket : (s : ℕ) → costFrom s ≡ plus (costFrom (s + 1)) (costOver (bucketOf r s) r beds)
+  unfolding costFrom bucketOf
+  next-bucket s = cost-split r (from-split s) beds ∙ ap (λ D. plus (costOver (tablesOf r D) r beds) (costOver (bucketOf r s) r beds)) (above-next s)
+
+  module _ (answered : Answered r) where
+    patients-counted : length (r .patients) ≡ r .patientCount
+    unfolding countsTrue
+    patients-counted = eqb-true _ _ (both (eqb (length (r .patients)) (r .patientCount)) (answered .counted) .0)
+
+    member-known : (t : Table) → t ∈ constraints r → (s : ℕ) → s ∈ t .members → s < length (r .patients)
+    unfolding membersRight
+    member-known t k s i =
+        let (counts, rising) = both (within memberCount (length (t .members)) && every (λ s. ltb s (r .patientCount)) (t .members)) (every-in _ (r .tables) (answered .membersFit) k) in
+        omega (arith, patients-counted, ltb-true s (r .patientCount) (every-in (λ s. ltb s (r .patientCount)) (t .members) (both (within memberCount (length (t .members))) counts .1) i))
+
+    cost-all : costFrom 0 ≡ total r beds
+    unfolding costFrom total
+    cost-all = ap (λ l. costOver l r beds) (tables-all r (leb 0) every-patient (tables-held r (leb 0) (answered .counted) (answered .membersFit) every-patient))
+      where
+        every-patient : (s : ℕ) → s < length (r .patients) → leb 0 s ≡ true
+        every-patient s h = le-leb 0 s (omega arith)
+
+    -- No table has a member from V on.
+    cost-none : (v : ℕ) → length (r .patients) ≤ v → costFrom v ≡ some 0
+    unfolding costFrom costOver tablesOf
+    cost-none v le = ap (λ l. costOver l r beds) (keep-none-in (holds (leb v)) (constraints r) (λ t k. not-eq-not .0 (λ e.
+        let (s, i, q) = any-out (leb v) (t .members) e in omega (arith, member-known t k s i, leb-true v s q))))
+
+    -- The beds past V do not matter.
+    cost-take : (v : ℕ) → length (r .patients) ≤ v → total r beds ≡ total r (take v beds)
+    unfolding total
+    cost-take v le = cost-same r beds (take v beds) (constraints r) (λ t k s i. sym (getD-take v beds s 0 (omega (arith, member-known t k s i))))
+
+-- A loop over the patients: the sum so far and what is left make the total, for every region that the words are prepared for.
+pub record Adds (store patients terms : List ℕ) (v : ℕ) (beds : Plan) (sum s : ℕ) : Type 0 where
+  pub few : sum ≤ s * 64_000_000
+  pub left : (r : Region) → Prepared r store patients terms → Fitting r beds → v ≡ length (r .patients) → plus (costFrom r beds s) (some sum) ≡ total r beds
+
+plus-end : (o : Option ℕ) → plus o (some 0) ≡ o
+plus-end none = refl
+plus-end (some n) = ap {B = Option ℕ} some (add-zero n)
+
+plus-late : (o p : Option ℕ) (n x : ℕ) → p ≡ some n → plus (plus o p) (some x) ≡ plus o (some (x + n))
+plus-late none p n x e = refl
+plus-late (some y) none n x e = absurd (Option·none-ne-some n e)
+plus-late (some y) (some z) n x e = let same : z ≡ n = cc in ap {B = Option ℕ} some (omega arith)
+
+plus-none : (o p : Option ℕ) (x : ℕ) → p ≡ none → plus (plus o p) (some x) ≡ none
+plus-none none p x e = refl
+plus-none (some y) none x e = refl
+plus-none (some y) (some z) x e = absurd (Option·none-ne-some z (sym e))
+
+module _ {store patients terms : List ℕ} {v : ℕ} {beds : Plan} where
+  pub adds-start : Adds store patients terms v beds 0 0
+  adds-start = record { few = omega arith; left = λ r prepared fits all. plus-end (costFrom r beds 0) ∙ cost-all r beds (prepared .answered) }
+
+  module _ {sum s : ℕ} (adds : Adds store patients terms v beds sum s) where
+    pub adds-done : v ≤ s → GivesAll store patients terms v beds (Of sum)
+    adds-done end r prepared fits all =
+        ap {B = Option ℕ} some (omega arith)
+        ∙ ap (λ o. plus o (some sum)) (sym (cost-none r beds (prepared .answered) s (omega (arith, all))))
+        ∙ adds .left r prepared fits all ∙ cost-take r beds (prepared .answered) v (omega (arith, all))
+
+    module _ (more : s < v) {cost : Cost} (gives : Gives store patients terms s beds cost) where
+      known : (r : Region) → v ≡ length (r .patients) → s < length (r .patients)
+      known r all = omega (arith, all)
+
+      pub adds-forbidden : cost ≡ Forbidden → GivesAll store patients terms v beds Forbidden
+      adds-forbidden e r prepared fits all =
+          sym (ap (λ o. plus o (some sum)) (next-bucket r beds s)
+          ∙ plus-none (costFrom r beds (s + 1)) (costOver (bucketOf r s) r beds) sum (sym (gives .cost r prepared fits (known r all)) ∙ ap costIn e))
+          ∙ adds .left r prepared fits all ∙ cost-take r beds (prepared .answered) v (omega (arith, all))
+
+      module _ (n : ℕ) (e : cost ≡ Of n) where
+        pub adds-small : n ≤ 64_000_000
+        adds-small = gives .most n (ap costIn e)
+
+        pub adds-next : Adds store patients terms v beds (sum + n) (s + 1)
+        adds-next =
+            record {
+              few = omega (arith, adds .few, adds-small);
+              left = λ r prepared fits all.
+                  sym (ap (λ o. plus o (some sum)) (next-bucket r beds s)
+                  ∙ plus-late (costFrom r beds (s + 1)) (costOver (bucketOf r s) r beds) n sum (sym (gives .cost r prepared fits (known r all)) ∙ ap costIn e))
+                  ∙ adds .left r prepared fits all;
+            }
+
+-- What each bucket asks for.
+pub asks-one : {store patients terms : List ℕ} {v s : ℕ} {beds : Plan} → AsksAll store patients terms v beds → s < v → Asks store patients terms s beds
+asks-one a h = record { region = a .region; prepared = a .prepared; fits = a .fits; known = omega (arith, a .all); few = omega (arith, a .few) }
