@@ -36,7 +36,7 @@ pub fn store_price(result: &mut [u8], allowed: bool, total: u64)
     if result.len() < 16 {
         return;
     }
-    store_number(&mut result[..], 0, allowed as u64);
+    store_number(result, 0, allowed as u64);
     store_number(result, 8, total);
 }
 
@@ -55,7 +55,7 @@ pub fn store_costs(costs: &mut [u8], held: &[u32; 64], n: usize)
 {
     let mut i = 0;
     while i < n {
-        store_number(&mut costs[..], i * 8, cost_at(held, i));
+        store_number(costs, i * 8, cost_at(held, i));
         i += 1;
     }
 }

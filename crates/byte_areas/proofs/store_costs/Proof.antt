@@ -40,7 +40,7 @@ loop-again c =
     let lent = turn .before .before .before .args in
     let few : lent .n ≤ length (lent .held .now) = omega arith in (
       search needs,
-      numbers-next _ _ _ _ (turn .loop-test .taken) few (stored .before .cost-at .ensures) (stored .store-number .ensures)
+      numbers-next _ _ _ _ (omega arith) few (stored .before .cost-at .ensures) (stored .store-number .ensures)
           ∙ turn .before .loop .inv .1,
     )
 

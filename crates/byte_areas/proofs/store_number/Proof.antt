@@ -1,6 +1,7 @@
 use borrow.Author.Needs.{needs}
 use mathlib.Core.Path.{_≡_, _∙_}
 use Prim.Native.Nat.{_-_}
+use native.Mathlib.Omega.{arith}
 use lib.ListN.{length}
 use Rattle.definitions.specs.Basics.{sets}
 use Rattle.definitions.specs.Boundary.{bytesOf}
@@ -33,13 +34,13 @@ loop-less : tie.Need-loop-less Inv-loop μ-loop
 loop-less c = search needs
 
 loop-again : tie.Need-loop-again Inv-loop μ-loop
-loop-again c = (search needs, bytes-next _ _ _ _ (c .loop-test .taken) ∙ c .before .loop .inv .1)
+loop-again c = (search needs, bytes-next _ _ _ _ (omega arith) ∙ c .before .loop .inv .1)
 
 same-length : tie.Need-same-length Inv-loop μ-loop
 same-length c = search needs
 
 returns : tie.Need-returns Inv-loop μ-loop
-returns c = bytes-done _ _ _ _ (c .loop-test .left) ∙ c .before .loop .inv .1
+returns c = bytes-done _ _ _ _ (omega arith) ∙ c .before .loop .inv .1
 
 pub store-number-spec : {M : Type 1} → statement M
 store-number-spec =

@@ -1,5 +1,6 @@
 use borrow.Author.Needs.{needs}
 use mathlib.Core.Path.{ap, _∙_}
+use native.Mathlib.Omega.{arith}
 use Rattle.definitions.specs.Basics.{[], _∷_, sets}
 use Rattle.definitions.specs.Outcomes.{written}
 use Rattle.definitions.specs.Boundary.{bytesOf}
@@ -8,7 +9,7 @@ use Rattle.byte_areas.proofs.store_price.Statement.{statement}
 use Rattle.byte_areas.proofs.store_price.Tie as tie
 
 returns : tie.Need-returns
-returns c = result-short _ _ (c .if1 .taken)
+returns c = result-short _ _ (omega arith)
 
 cast-store-number : tie.Need-cast-store-number
 cast-store-number c = search needs
@@ -29,7 +30,7 @@ returns-2 c =
     c .before .before .store-number2 .ensures
     ∙ ap (λ l. sets l 8 (bytesOf 8 (lent .total))) (first .store-number .ensures)
     ∙ ap (λ n. written 0 8 (bytesOf 8) (n ∷ lent .total ∷ []) (lent .result .now)) (flag-number (lent .allowed))
-    ∙ result-written _ _ (first .before .before .if1 .left)
+    ∙ result-written _ _ (omega arith)
 
 pub store-price-spec : {M : Type 1} → statement M
 store-price-spec =
