@@ -36,12 +36,12 @@ loop-less c = search needs
 loop-again : tie.Need-loop-again Inv-loop μ-loop
 loop-again c =
     let stored = c .before .before in
-    let turn = stored .before .before .before .before in
-    let lent = turn .before .before .before .args in
+    let turn = stored .before .before .before .before .before in
+    let lent = turn .before .before .args in
     let few : lent .n ≤ length (lent .held .now) = omega arith in (
       search needs,
-      numbers-next _ _ _ _ (omega arith) few (stored .before .cost-at .ensures) (stored .store-number .ensures)
-          ∙ turn .before .loop .inv .1,
+      numbers-next (lent .n) (lent .held .now) _ (turn .loop .i) (omega arith) few (stored .before .cost-at .ensures) (stored .store-number .ensures)
+          ∙ turn .loop .inv .1,
     )
 
 same-length : tie.Need-same-length Inv-loop μ-loop

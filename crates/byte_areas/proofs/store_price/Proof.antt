@@ -1,10 +1,7 @@
 use borrow.Author.Needs.{needs}
-use mathlib.Core.Path.{ap, _∙_}
+use mathlib.Core.Path.{_∙_}
 use native.Mathlib.Omega.{arith}
-use Rattle.definitions.specs.Basics.{[], _∷_, sets}
-use Rattle.definitions.specs.Outcomes.{written}
-use Rattle.definitions.specs.Boundary.{bytesOf}
-use Rattle.byte_areas.proofs.Stores.{result-written, result-short, flag-number}
+use Rattle.byte_areas.proofs.Stores.{price-written, result-written, result-short}
 use Rattle.byte_areas.proofs.store_price.Statement.{statement}
 use Rattle.byte_areas.proofs.store_price.Tie as tie
 
@@ -27,9 +24,7 @@ returns-2 : tie.Need-returns-2
 returns-2 c =
     let first = c .before .before .before .before .before .before in
     let lent = first .before .before .before .before .args in
-    c .before .before .store-number2 .ensures
-    ∙ ap (λ l. sets l 8 (bytesOf 8 (lent .total))) (first .store-number .ensures)
-    ∙ ap (λ n. written 0 8 (bytesOf 8) (n ∷ lent .total ∷ []) (lent .result .now)) (flag-number (lent .allowed))
+    price-written (lent .allowed) (lent .total) (lent .result .now) (first .store-number .ensures) (c .before .before .store-number2 .ensures)
     ∙ result-written _ _ (omega arith)
 
 pub store-price-spec : {M : Type 1} → statement M
