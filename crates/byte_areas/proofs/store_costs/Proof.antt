@@ -1,0 +1,67 @@
+use borrow.Author.Needs.{needs}
+use mathlib.Core.Path.{_≡_, refl, _∙_}
+use Prim.Native.Nat.{_-_, _≤_}
+use native.Mathlib.Omega.{arith}
+use lib.ListN.{length, take}
+use Rattle.definitions.specs.Outcomes.{written}
+use Rattle.definitions.specs.Boundary.{bytesOf}
+use Rattle.byte_areas.proofs.Stores.{numbersLeft, numbers-all, numbers-next, numbers-done}
+use Rattle.byte_areas.proofs.store_costs.Statement.{statement}
+use Rattle.byte_areas.proofs.store_costs.Tie as tie
+
+abbrev Inv-loop : tie.InvT-loop
+Inv-loop costs₀ held n i₀ costs i = (length costs ≡ length costs₀) × (numbersLeft (take n held) i costs ≡ written 0 8 (bytesOf 8) (take n held) costs₀)
+
+abbrev μ-loop : tie.MeasureT-loop
+μ-loop costs₀ held n i₀ costs i = n - i
+
+loop-holds : tie.Need-loop-holds Inv-loop μ-loop
+loop-holds c = (refl, numbers-all _ _)
+
+mul-store-number : tie.Need-mul-store-number Inv-loop μ-loop
+mul-store-number c = search needs
+
+cost-at-requires : tie.Need-cost-at-requires Inv-loop μ-loop
+cost-at-requires c κs = search needs
+
+store-number-requires : tie.Need-store-number-requires Inv-loop μ-loop
+store-number-requires c κs = search needs
+
+add-i : tie.Need-add-i Inv-loop μ-loop
+add-i c = search needs
+
+loop-less : tie.Need-loop-less Inv-loop μ-loop
+loop-less c = search needs
+
+loop-again : tie.Need-loop-again Inv-loop μ-loop
+loop-again c =
+    let stored = c .before .before in
+    let turn = stored .before .before .before .before .before in
+    let lent = turn .before .before .args in
+    let few : lent .n ≤ length (lent .held .now) = omega arith in (
+      search needs,
+      numbers-next (lent .n) (lent .held .now) _ (turn .loop .i) (omega arith) few (stored .before .cost-at .ensures) (stored .store-number .ensures)
+          ∙ turn .loop .inv .1,
+    )
+
+same-length : tie.Need-same-length Inv-loop μ-loop
+same-length c = search needs
+
+returns : tie.Need-returns Inv-loop μ-loop
+returns c = numbers-done _ _ _ _ (c .loop-test .left) ∙ c .before .loop .inv .1
+
+pub store-costs-spec : {M : Type 1} → statement M
+store-costs-spec =
+    tie.close
+    (tie.spec
+    Inv-loop
+    μ-loop
+    loop-holds
+    mul-store-number
+    cost-at-requires
+    store-number-requires
+    add-i
+    loop-less
+    loop-again
+    same-length
+    returns)

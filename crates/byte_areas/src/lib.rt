@@ -1,0 +1,61 @@
+// The numbers that the calls from C leave in lent byte areas: eight bytes each, lowest first.
+ghost use mathlib.Core.Path.{_≡_};
+ghost use Prim.Native.Nat.{_+_, _*_, _≤_, _<_};
+ghost use Rattle.definitions.specs.Basics.{[], _∷_, cond, length, getD, take, sets};
+ghost use Rattle.definitions.specs.Outcomes.{written};
+ghost use Rattle.definitions.specs.Boundary.{bytesOf, resultAfter};
+
+// One number, from place `at` on.
+pub fn store_number(area: &mut [u8], at: usize, n: u64)
+    requires { ⌜ at + 8 ≤ length (now area) ⌝ }
+    ensures { λ _. ⌜ now (area .exit) ≡ sets (now (area .entry)) at (bytesOf 8 n) ⌝ }
+{
+    let mut rest = n;
+    let mut i = 0;
+    while i < 8 {
+        area[at + i] = (rest % 256) as u8;
+        rest = rest / 256;
+        i += 1;
+    }
+}
+
+// The result of list and sheet: the row count. A shorter area is untouched.
+pub fn store_count(result: &mut [u8], n: u64)
+    ensures { λ _. ⌜ now (result .exit) ≡ resultAfter (n ∷ []) (now (result .entry)) ⌝ }
+{
+    if result.len() < 8 {
+        return;
+    }
+    store_number(result, 0, n);
+}
+
+// The result of price: allowed is 1, not allowed 0; then the total. A shorter area is untouched.
+pub fn store_price(result: &mut [u8], allowed: bool, total: u64)
+    ensures { λ _. ⌜ now (result .exit) ≡ resultAfter (cond allowed 1 0 ∷ total ∷ []) (now (result .entry)) ⌝ }
+{
+    if result.len() < 16 {
+        return;
+    }
+    store_number(result, 0, allowed as u64);
+    store_number(result, 8, total);
+}
+
+// Lent as a slice, of which the length and the size of each number are known.
+fn cost_at(held: &[u32], i: usize) -> u64
+    requires { ⌜ i < length (now held) ⌝ }
+    ensures { λ n. ⌜ n ≡ getD (now (held .entry)) i 0 ⌝ }
+{
+    held[i] as u64
+}
+
+// The first n of the costs that the proved entry left.
+pub fn store_costs(costs: &mut [u8], held: &[u32; 64], n: usize)
+    requires { ⌜ (n ≤ 64) × (n * 8 ≤ length (now costs)) ⌝ }
+    ensures { λ _. ⌜ now (costs .exit) ≡ written 0 8 (bytesOf 8) (take n (now (held .entry))) (now (costs .entry)) ⌝ }
+{
+    let mut i = 0;
+    while i < n {
+        store_number(costs, i * 8, cost_at(held, i));
+        i += 1;
+    }
+}
