@@ -59,7 +59,7 @@ least-entry region plan t y e = go (leastOf (t .entries)) (least-at-most (t .ent
     go none h = absurd h
     go (some x) h = h
 
-least-sum : (region : Region) (plan : Plan) (tables : List Table) (n : ℕ) → costOver tables region plan ≡ some n → sum (map leastEntry tables) ≤ n
+pub least-sum : (region : Region) (plan : Plan) (tables : List Table) (n : ℕ) → costOver tables region plan ≡ some n → sum (map leastEntry tables) ≤ n
 least-sum region plan [] n e = omega arith
 least-sum region plan (t ∷ tables) n e =
     let h : Halves (entryFor region plan t) (costOver tables region plan) n = halves _ _ n (sym (cost-cons region plan t tables) ∙ e) in

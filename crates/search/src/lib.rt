@@ -1,0 +1,1 @@
+// The cheapest plans of a region, found tree by tree.
