@@ -5,7 +5,7 @@ use native.Mathlib.Omega.{arith}
 use Prim.Native.Nat.{_≤_}
 use lib.ListN.{drop, drop-of-length-le}
 use lib.Seq.{drop-cons, getD-take, length-take-le}
-use Rattle.definitions.specs.Basics.{ℕ, suc, _+_, _*_, _%_, _<_, compare, Ordering, Ordering·lt, Ordering·eq, Ordering·gt, Bool, true, false, List, [], _∷_}
+use Rattle.definitions.specs.Basics.{ℕ, suc, _+_, _*_, _%_, _<_, compare, Ordering, Ordering·lt, Ordering·eq, Ordering·gt, Bool, true, false, List, []}
 use Rattle.definitions.specs.Basics.{length, getD, take}
 use Rattle.definitions.specs.Plans.{thenBy, compareBeds, compareRows}
 use Rattle.ranking.specs.Orders.{View, before, equal, after, ℕ-view}

@@ -6,7 +6,7 @@ use native.Mathlib.Omega.{arith}
 use Prim.Native.Nat.{_≤_}
 use lib.ListN.{drop, set, length-set, length-append, length-take, length-drop, List·getD-append}
 use lib.Seq.{ext-getD, getD-set-same, getD-set-other, getD-drop, getD-take, getD-at, getD-append-add, length-take-le, take-at, take-all}
-use Rattle.definitions.specs.Basics.{ℕ, suc, _+_, _-_, _*_, _<_, List, [], _∷_, _++_, length, getD, take, insert, min}
+use Rattle.definitions.specs.Basics.{ℕ, suc, _+_, _-_, _*_, _<_, List, _∷_, _++_, length, getD, take, insert, min}
 use Rattle.definitions.specs.Plans as Said
 use Rattle.definitions.specs.Plans.{compareRows}
 use Rattle.row_list.specs.declared.Row.{Row}
@@ -36,9 +36,6 @@ module _ {A : Type 0} (p : ℕ) (z d : A) (l : List A) (h : p ≤ length l) wher
       let q : suc j ≡ length (take p l) + suc (j - p) = omega (arith, front) in
       let r : p + (j - p) ≡ j = omega arith in
       ap (λ (i : ℕ). getD (putAt p z l) i d) q ∙ getD-append-add (take p l) (z ∷ drop p l) (suc (j - p)) d ∙ getD-drop p l (j - p) d ∙ ap (λ (i : ℕ). getD l i d) r
-
-pub none-moved : (to : ℕ) (area : List ℕ) → Moved to to area area
-none-moved to area = record { low = λ k h. refl; moved = λ k h l. absurd (omega arith); long = refl }
 
 pub one-moved : (from to : ℕ) (area after : List ℕ) → 34 ≤ from → from < to → to ≤ length area → Moved (from + 1) to area after
     → Moved from to area (set after from (getD after (from - 34) 0))

@@ -4,9 +4,9 @@ use native.Mathlib.Numerals.{add-one}
 use native.Mathlib.Omega.{arith}
 use Prim.Native.Nat.{_≤_}
 use lib.ListN.{drop, drop-of-length-le}
-use lib.Seq.{drop-cons, take-suc, append-snoc, take-all}
-use Rattle.definitions.specs.Basics.{ℕ, zero, suc, _+_, _<_, Ordering, Ordering·lt, Ordering·eq, Ordering·gt, Bool, true, false, List, [], _∷_, _++_}
-use Rattle.definitions.specs.Basics.{length, getD, take, insert}
+use lib.Seq.{drop-cons, take-suc, append-snoc}
+use Rattle.definitions.specs.Basics.{ℕ, suc, _+_, _<_, Ordering, Ordering·lt, Ordering·eq, Ordering·gt, true, false, List, [], _∷_, _++_}
+use Rattle.definitions.specs.Basics.{take, insert}
 use Rattle.definitions.specs.Plans as Said
 use Rattle.definitions.specs.Plans.{compareRows}
 use Rattle.row_list.specs.declared.Row.{Row}

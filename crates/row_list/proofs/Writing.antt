@@ -1,5 +1,5 @@
 -- A row written word by word: its cost, and its beds one by one. Assumes nothing.
-use mathlib.Core.Path.{_≡_, refl, sym, ap, _∙_}
+use mathlib.Core.Path.{_≡_, refl, ap, _∙_}
 use native.Mathlib.Decide.{decLt}
 use native.Mathlib.Nat.{mod-add-div', mod-eq-of-lt}
 use native.Mathlib.Omega.{arith}

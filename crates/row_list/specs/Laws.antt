@@ -1,10 +1,9 @@
 -- Laws of rows that lie in an area.
-use mathlib.Core.Path.{_≡_, refl, sym, ap, ap₂, _∙_}
-use native.Mathlib.Nat.{mul-le-mul-right}
+use mathlib.Core.Path.{_≡_, refl, sym, ap}
 use native.Mathlib.Omega.{arith}
 use Prim.Native.Nat.{_≤_}
 use lib.Seq.{getD-take}
-use Rattle.definitions.specs.Basics.{ℕ, zero, suc, _+_, _*_, _%_, _<_, List, [], _∷_, _++_, map, length, getD, take, below}
+use Rattle.definitions.specs.Basics.{ℕ, suc, _+_, _*_, _%_, _<_, List, [], _∷_, _++_, map, length, getD, take, below}
 use Rattle.definitions.specs.Plans.{Row}
 use Rattle.row_list.specs.Below.{below-long, below-at, below-suc, below-same}
 use Rattle.row_list.specs.Rows.{rowIn, rowsIn}

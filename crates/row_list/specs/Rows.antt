@@ -1,7 +1,6 @@
 -- Rows that lie in an area of numbers, 34 to a row: the cost in two words, and a bed for each of 32 patients in the low byte of a word.
 use Prim.Native.Nat.{_≤_}
 use lib.ListN.{drop}
-use mathlib.Core.Logic.{_⊎_}
 use Rattle.definitions.specs.Basics.{ℕ, _+_, _-_, _*_, _%_, _<_, Ordering, Ordering·lt, Ordering·eq, Ordering·gt, _≡_, Bool, true, false, List, map, length}
 use Rattle.definitions.specs.Basics.{getD, take, replicate, below, insert}
 use Rattle.definitions.specs.Plans as Said

@@ -1,6 +1,6 @@
 use borrow.Author.Needs.{needs}
 use native.Mathlib.Omega.{arith}
-use mathlib.Core.Path.{_≡_, sym, _∙_}
+use mathlib.Core.Path.{sym, _∙_}
 use Prim.Native.Nat.{_-_, _≤_}
 use Rattle.row_list.proofs.Placing.{Passed, none-passed, found, next, all-passed}
 use Rattle.row_list.proofs.place_of.Statement.{statement}

@@ -3,7 +3,7 @@ use native.Mathlib.Omega.{arith}
 use mathlib.Core.Path.{_≡_}
 use Prim.Native.Nat.{_+_, _-_, _*_, _≤_}
 use Rattle.row_list.specs.Steps.{Moved}
-use Rattle.row_list.proofs.Moving.{none-moved, one-moved}
+use Rattle.row_list.proofs.Moving.{one-moved}
 use Rattle.row_list.proofs.shift.Statement.{statement}
 use Rattle.row_list.proofs.shift.Tie as tie
 
