@@ -1,0 +1,5 @@
+pub mod Reading
+pub mod Writing
+pub mod Comparing
+pub mod Placing
+pub mod Moving

@@ -1,0 +1,170 @@
+// Rows in a lent area of 32-bit numbers: the list of the cheapest rows found so far.
+// A row takes 34 words: its cost in two, the low one first, then the beds of 32 patients.
+ghost use mathlib.Core.Path.{_≡_};
+ghost use mathlib.Core.Bool.{not, _&&_};
+ghost use Prim.Native.Nat.{_+_, _-_, _*_, _/_, _%_, _<_, _≤_};
+ghost use lib.Dec.{eqb};
+ghost use lib.ListN.{length};
+ghost use Rattle.definitions.specs.Plans.{compareRows};
+ghost use Rattle.row_list.specs.Rows.{rowOf, rowIn, beforeOr, isBefore, RowHeld, RowRead, Stored, Room, Inserted};
+ghost use Rattle.row_list.specs.Steps.{Place, Moved};
+
+// A row by value: its cost, and a bed for each of 32 patients.
+pub struct Row {
+    pub cost: u64,
+    pub beds: [u8; 32],
+}
+
+fn cost_of(low: u32, high: u32) -> u64
+    ensures { λ r. ⌜ r ≡ low + high * 4_294_967_296 ⌝ }
+{
+    low as u64 + high as u64 * 4_294_967_296
+}
+
+fn low_word(cost: u64) -> u32
+    ensures { λ r. ⌜ r ≡ cost % 4_294_967_296 ⌝ }
+{
+    (cost % 4_294_967_296) as u32
+}
+
+fn high_word(cost: u64) -> u32
+    ensures { λ r. ⌜ r ≡ cost / 4_294_967_296 ⌝ }
+{
+    (cost / 4_294_967_296) as u32
+}
+
+fn bed_of(word: u32) -> u8
+    ensures { λ r. ⌜ r ≡ word % 256 ⌝ }
+{
+    (word % 256) as u8
+}
+
+fn word_of(bed: u8) -> u32
+    ensures { λ r. ⌜ (r ≡ bed) × (r < 256) ⌝ }
+{
+    bed as u32
+}
+
+// Row i of the list.
+pub fn row_at(list: &[u32], v: usize, i: usize) -> Row
+    requires { ⌜ RowHeld v i (now list) ⌝ }
+    ensures { λ r. ⌜ RowRead v i (now (list .entry)) r ⌝ }
+{
+    let at = i * 34;
+    let mut beds = [0u8; 32];
+    let mut j: usize = 0;
+    while j < v {
+        beds[j] = bed_of(list[at + 2 + j]);
+        j += 1;
+    }
+    let cost = cost_of(list[at], list[at + 1]);
+    Row { cost, beds }
+}
+
+// Writes a row as row i of the list.
+pub fn set_row(list: &mut [u32], v: usize, i: usize, row: Row)
+    requires { ⌜ RowHeld v i (now list) ⌝ }
+    ensures { λ _. ⌜ Stored v i row (now (list .entry)) (now (list .exit)) ⌝ }
+{
+    let at = i * 34;
+    list[at] = low_word(row.cost);
+    list[at + 1] = high_word(row.cost);
+    let mut j: usize = 0;
+    while j < v {
+        list[at + 2 + j] = word_of(row.beds[j]);
+        j += 1;
+    }
+}
+
+// Does a row come before row i of the list? At a tie, the answer is the one handed in.
+fn precedes(row: Row, list: &[u32], v: usize, i: usize, equal: bool) -> bool
+    requires { ⌜ RowHeld v i (now list) ⌝ }
+    ensures { λ r. ⌜ r ≡ beforeOr equal (compareRows (rowOf v row) (rowIn v (now (list .entry)) i)) ⌝ }
+{
+    let at = i * 34;
+    let cost = cost_of(list[at], list[at + 1]);
+    if row.cost < cost {
+        return true;
+    }
+    if cost < row.cost {
+        return false;
+    }
+    let mut j: usize = 0;
+    while j < v {
+        let bed = row.beds[j];
+        let held = bed_of(list[at + 2 + j]);
+        if bed < held {
+            return true;
+        }
+        if held < bed {
+            return false;
+        }
+        j += 1;
+    }
+    equal
+}
+
+// Does a row come before row i of the list? An equal row does not.
+pub fn comes_before(row: Row, list: &[u32], v: usize, i: usize) -> bool
+    requires { ⌜ RowHeld v i (now list) ⌝ }
+    ensures { λ r. ⌜ r ≡ isBefore (compareRows (rowOf v row) (rowIn v (now (list .entry)) i)) ⌝ }
+{
+    precedes(row, list, v, i, false)
+}
+
+// Is the list full, and the row not before its last?
+pub fn is_past(list: &[u32], v: usize, n: usize, m: usize, row: Row) -> bool
+    requires { ⌜ Room v n m (now list) ⌝ }
+    ensures { λ r. ⌜ r ≡ (eqb n m && not (isBefore (compareRows (rowOf v row) (rowIn v (now (list .entry)) (m - 1))))) ⌝ }
+{
+    if n < m {
+        return false;
+    }
+    !comes_before(row, list, v, m - 1)
+}
+
+// The place of a new row: the first row of the n that it does not come after, or n.
+fn place_of(list: &[u32], v: usize, n: usize, row: Row) -> usize
+    requires { ⌜ (v ≤ 32) × (n * 34 ≤ length (now list)) ⌝ }
+    ensures { λ r. ⌜ Place v n row (now (list .entry)) r ⌝ }
+{
+    let mut i: usize = 0;
+    while i < n {
+        if precedes(row, list, v, i, true) {
+            return i;
+        }
+        i += 1;
+    }
+    i
+}
+
+// Moves the rows from one on up to another one row further, the last first, so that none is overwritten unread.
+fn shift(list: &mut [u32], first: usize, end: usize)
+    requires { ⌜ (first ≤ end) × (end * 34 + 34 ≤ length (now list)) ⌝ }
+    ensures { λ _. ⌜ Moved (first * 34 + 34) (end * 34 + 34) (now (list .entry)) (now (list .exit)) ⌝ }
+{
+    let stop = first * 34 + 34;
+    let mut k = end * 34 + 34;
+    while stop < k {
+        k -= 1;
+        list[k] = list[k - 34];
+    }
+}
+
+// Inserts a row where it belongs among the n rows held, of at most m: the last one falls out of a full list.
+pub fn insert(list: &mut [u32], v: usize, n: usize, m: usize, row: Row) -> usize
+    requires { ⌜ Room v n m (now list) ⌝ }
+    ensures { λ r. ⌜ Inserted v n m row (now (list .entry)) (now (list .exit)) r ⌝ }
+{
+    let at = place_of(list, v, n, row);
+    if at == m {
+        return n;
+    }
+    let mut end = n;
+    if n == m {
+        end = n - 1;
+    }
+    shift(list, at, end);
+    set_row(list, v, at, row);
+    end + 1
+}
