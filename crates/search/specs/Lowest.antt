@@ -78,31 +78,33 @@ module _ (r : Region) {D F : Patients} (s : ℕ) (split : Splits D (only s) F) (
       let total : w .cost ≡ u .cost + branch .rest .cost = ap (λ (z : Row). z .cost) (branch .is) in
       omega (arith, first-cost, rest (addBeds placed (u .beds)) (branch .rest) (branch .inRest))
 
+-- A set that is given by a rising list: its first is the lowest, and the others are the rest.
+module _ (D : Patients) (s : ℕ) (l : List ℕ) (is : (q : ℕ) → D q ≡ contains (s ∷ l) q) (up : everyTwo ltb (s ∷ l) ≡ true) where
+  later : (q : ℕ) → contains l q ≡ true → s < q
+  later q e = ltb-true s q (every-at (ltb s) l q (both (every (ltb s) l) up .0) e)
+
+  pub list-split : Splits D (only s) (contains l)
+  list-split = splits-one D (contains l) s (is s ∙ ap (λ b. b || contains l s) (eq-eqb s s refl)) (λ q. rw (is q) (go q (eqb q s) refl (contains l q) refl))
+    where
+      go : (q : ℕ) (a : Bool) → eqb q s ≡ a → (b : Bool) → contains l q ≡ b → b ≡ ((a || b) && not (eqb s q))
+      go q true e true f = absurd (omega (arith, later q f, eqb-true q s e))
+      go q true e false f = rw (eq-eqb s q (sym (eqb-true q s e))) refl
+      go q false e true f = rw (ne-eqb s q (λ z. eqb-false q s e (sym z))) refl
+      go q false e false f = refl
+
+  pub list-lowest : (q : ℕ) → D q ≡ true → s ≤ q
+  list-lowest q e = go (eqb q s) refl (sym (is q) ∙ e)
+    where
+      go : (b : Bool) → eqb q s ≡ b → (b || contains l q) ≡ true → s ≤ q
+      go true h k = omega (arith, eqb-true q s h)
+      go false h k = omega (arith, later q k)
+
 -- So the least numbers of the buckets of a set's patients bound the cost of its rows.
 pub bound-members : (r : Region) (l : List ℕ) (D : Patients) → ((q : ℕ) → D q ≡ contains l q) → everyTwo ltb l ≡ true → Upward r D
     → (placed : Plan) → LowerBound r D placed (sum (map (leastIn r) l))
 bound-members r [] D is up upward placed = bound-zero r D placed
 bound-members r (s ∷ l) D is up upward placed =
-    bound-more r s split lowest upward placed (sum (map (leastIn r) l)) (bound-members r l (contains l) (λ q. refl) (parts .1) (upward-rest r s split lowest upward))
-  where
-    parts : (every (ltb s) l ≡ true) × (everyTwo ltb l ≡ true)
-    parts = both (every (ltb s) l) up
-
-    later : (q : ℕ) → contains l q ≡ true → s < q
-    later q e = ltb-true s q (every-at (ltb s) l q (parts .0) e)
-
-    split : Splits D (only s) (contains l)
-    split = splits-one D (contains l) s (is s ∙ ap (λ b. b || contains l s) (eq-eqb s s refl)) (λ q. rw (is q) (go q (eqb q s) refl (contains l q) refl))
-      where
-        go : (q : ℕ) (a : Bool) → eqb q s ≡ a → (b : Bool) → contains l q ≡ b → b ≡ ((a || b) && not (eqb s q))
-        go q true e true f = absurd (omega (arith, later q f, eqb-true q s e))
-        go q true e false f = rw (eq-eqb s q (sym (eqb-true q s e))) refl
-        go q false e true f = rw (ne-eqb s q (λ z. eqb-false q s e (sym z))) refl
-        go q false e false f = refl
-
-    lowest : (q : ℕ) → D q ≡ true → s ≤ q
-    lowest q e = go (eqb q s) refl (sym (is q) ∙ e)
-      where
-        go : (b : Bool) → eqb q s ≡ b → (b || contains l q) ≡ true → s ≤ q
-        go true h k = omega (arith, eqb-true q s h)
-        go false h k = omega (arith, later q k)
+    let split = list-split D s l is up in
+    let lowest = list-lowest D s l is up in
+    bound-more r s split lowest upward placed (sum (map (leastIn r) l))
+    (bound-members r l (contains l) (λ q. refl) (both (every (ltb s) l) up .1) (upward-rest r s split lowest upward))

@@ -1,1 +1,2 @@
 // The cheapest plans of a region, found tree by tree.
+pub mod walk;

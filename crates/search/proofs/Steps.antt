@@ -1,0 +1,134 @@
+-- One more bed on a walk: what it asks for, and the head below it. Assumes nothing.
+use mathlib.Core.Path.{_≡_, refl, sym, ap, _∙_, subst⁻¹}
+use Prim.Native.Nat.{_≤_}
+use native.Mathlib.Omega.{arith}
+use lib.ListN.{set, length-set}
+use lib.Seq.{getD-set-same, getD-set-other, take-set-lt}
+use borrow.Author.Tests.{eq-eqb, eqb-true, eqb-false}
+use Rattle.definitions.specs.Basics.{ℕ, _+_, _<_, Bool, true, false, not, _&&_, _||_, Option, List, _∷_, map, length, getD, take, sum, eqb, isEmpty, contains, ltb, everyTwo}
+use Rattle.definitions.specs.Syntax.{Region, patientAt}
+use Rattle.definitions.specs.Plans.{Plan, bedOf, Row, costOver}
+use Rattle.patient_set.specs.Sets.{inSet, members, first}
+use Rattle.patient_set.specs.Laws.{rising, lowest-and-rest}
+use Rattle.partial_rows.specs.Sets.{only, Splits}
+use Rattle.partial_rows.specs.Rows.{Position, decidedTables, withBed, LowerBound}
+use Rattle.partial_rows.specs.Branches.{position-bed}
+use Rattle.buckets.specs.Terms.{Fitting, bucketOf, leastIn, leastAt, Prepared}
+use Rattle.pricing.specs.Pricing as Price
+use Rattle.pricing.specs.Pricing.{costIn}
+use Rattle.pricing.specs.declared.Cost.{Cost}
+use Rattle.search.specs.Lowest.{Upward, list-split, list-lowest, bucket-decided, upward-rest, bound-members}
+use Rattle.search.specs.Walks.{remaining, leftIn, headRow, Light, Heads, AsksNext, Below, Decides}
+use Rattle.search.specs.declared.walk.Head.{Head}
+
+-- A plan that fits still fits with another bed below its patient's count.
+fitting-set : (r : Region) (beds : Plan) (s bed : ℕ) → s < length beds → Fitting r beds → bed < patientAt r s .bedCount → Fitting r (set beds s bed)
+fitting-set r beds s bed inside fits h q l = go (eqb s q) refl
+  where
+    go : (b : Bool) → eqb s q ≡ b → bedOf (set beds s bed) q < patientAt r q .bedCount
+    go true e = rw (← eqb-true s q e, getD-set-same beds s bed 0 inside) h
+    go false e = rw (getD-set-other beds s q bed 0 (λ z. eqb-false s q e (sym z))) (fits q l)
+
+module _ {r : Region} {store patients terms : List ℕ} {v : ℕ} {head : Head} (heads : Heads r store patients terms v head) {s : ℕ} {others : List ℕ} (lowest : remaining head ≡ s ∷ others) where
+  here : leftIn head s ≡ true
+  here = ap (λ l. contains l s) lowest ∙ ap (λ b. b || contains others s) (eq-eqb s s refl)
+
+  pub known : s < length (r .patients)
+  known = heads .position .known s here
+
+  pub least-known : leastAt patients s ≡ leastIn r s
+  least-known = heads .prepared .least s known
+
+  pub least-most : leastAt patients s ≤ head .bound
+  least-most = omega (arith, least-known, heads .bound ∙ ap (λ l. sum (map (leastIn r) l)) lowest)
+
+  up : everyTwo ltb (s ∷ others) ≡ true
+  up = ap (everyTwo ltb) (sym lowest) ∙ rising (head .left .0)
+
+  split : Splits (leftIn head) (only s) (contains others)
+  split = list-split (leftIn head) s others (λ q. ap (λ l. contains l q) lowest) up
+
+  low : (q : ℕ) → leftIn head q ≡ true → s ≤ q
+  low = list-lowest (leftIn head) s others (λ q. ap (λ l. contains l q) lowest) up
+
+  decided : decidedTables r (only s) (contains others) ≡ bucketOf r s
+  decided = bucket-decided r s split low (heads .upward)
+
+  pub fits-next : Light head → (bed : ℕ) → bed < patientAt r s .bedCount → Fitting r (set (head .plan .beds) s bed)
+  fits-next light bed h = fitting-set r (head .plan .beds) s bed (omega (arith, known, heads .counted, heads .few, light .beds)) (heads .fits) h
+
+  pub few : s < 32
+  few = omega (arith, known, heads .counted, heads .few)
+
+-- What is asked for on the way to the head below a bed.
+module _ {store patients terms : List ℕ} {head : Head} {s bed : ℕ} (asks : AsksNext store patients terms head s bed) where
+  pub asks-few : s < 32
+  asks-few = few (asks .heads) (asks .lowest)
+
+  pub asks-room : head .plan .len < 32
+  asks-room = omega (arith, asks .light .placed, ap length (asks .lowest))
+
+  pub asks-least : leastAt patients s ≤ head .bound
+  asks-least = least-most (asks .heads) (asks .lowest)
+
+  module _ {beds : List ℕ} (is : beds ≡ set (head .plan .beds) s bed) where
+    pub asks-price : Price.Asks store patients terms s beds
+    asks-price =
+        record {
+          region = asks .region;
+          prepared = asks .heads .prepared;
+          fits = rw is (fits-next (asks .heads) (asks .lowest) (asks .light) bed (asks .fits));
+          known = known (asks .heads) (asks .lowest);
+          few = asks-few;
+        }
+
+    pub decides : {cost : Cost} → Price.Gives store patients terms s beds cost → {o : Option ℕ} → costIn cost ≡ o → Decides store patients terms head s bed o
+    decides gives e r v heads h =
+        ap (costOver (bucketOf r s) r) (sym is)
+        ∙ sym (gives .cost r (heads .prepared) (rw is (fits-next heads (asks .lowest) (asks .light) bed h)) (known heads (asks .lowest))) ∙ e
+
+-- Those who are left without the lowest.
+pub rest-left : (w s one rest : ℕ) (others : List ℕ) → members w ≡ s ∷ others → ((q : ℕ) → inSet one q ≡ eqb q s) → ((q : ℕ) → inSet rest q ≡ (inSet w q && not (inSet one q)))
+    → members w ≡ s ∷ members rest
+rest-left w s one rest others e is minus = lowest-and-rest w s one rest (ap isEmpty e) (sym (ap (first 32) e)) is minus
+
+-- The head below a bed.
+module _ {patients : List ℕ} {head below : Head} {s bed c : ℕ} (is : Below patients head s bed c below) where
+  pub light-below : Light head → Light below
+  light-below light =
+      record {
+        beds = ap length (is .beds) ∙ length-set (head .plan .beds) s bed ∙ light .beds;
+        placed = omega (arith, is .len, light .placed, ap length (is .left));
+        cost = omega (arith, is .len, is .cost, is .most, light .cost);
+        bound = omega (arith, is .bound, light .bound);
+      }
+
+  module _ {r : Region} {store terms : List ℕ} {v : ℕ} (heads : Heads r store patients terms v head) where
+    pub below-split : Splits (leftIn head) (only s) (leftIn below)
+    below-split = split heads (is .left)
+
+    pub row-below : headRow v below ≡ withBed (headRow v head) s bed c
+    row-below =
+        let cost : below .cost ≡ head .cost + c = is .cost in
+        let beds : take v (below .plan .beds) ≡ set (take v (head .plan .beds)) s bed =
+        ap (take v) (is .beds) ∙ take-set-lt v (head .plan .beds) s bed (omega (arith, known heads (is .left), heads .counted)) in
+        λ i. record { cost = cost i; beds = beds i }
+
+    pub heads-below : Light head → bed < patientAt r s .bedCount → Heads r store patients terms v below
+    heads-below light h =
+        record {
+          prepared = heads .prepared;
+          counted = heads .counted;
+          few = heads .few;
+          fits = rw (is .beds) (fits-next heads (is .left) light bed h);
+          position = subst⁻¹ (λ p. Position r (leftIn below) p (headRow v below)) (is .beds)
+              (subst⁻¹ (λ u. Position r (leftIn below) (set (head .plan .beds) s bed) u) row-below (position-bed s below-split (heads .position) bed c));
+          upward = upward-rest r s below-split (low heads (is .left)) (heads .upward);
+          bound = omega (arith, is .bound, least-known heads (is .left), heads .bound ∙ ap (λ l. sum (map (leastIn r) l)) (is .left));
+        }
+
+-- The bound of a head is a lower bound of what the rest costs.
+pub bound-holds : {r : Region} {store patients terms : List ℕ} {v : ℕ} {head : Head} → Heads r store patients terms v head
+    → LowerBound r (leftIn head) (head .plan .beds) (head .bound)
+bound-holds {r} {head} heads =
+    rw (heads .bound) (bound-members r (remaining head) (leftIn head) (λ q. refl) (rising (head .left .0)) (heads .upward) (head .plan .beds))

@@ -1,0 +1,101 @@
+-- What the walk asks for and gives.
+use lib.ListN.{set}
+use Prim.Native.Nat.{_≤_}
+use Rattle.definitions.specs.Basics.{ℕ, _+_, _-_, _*_, _<_, _≡_, Bool, true, false, not, _&&_, Option, none, some, List, _∷_, map, length, take, sum, eqb, contains}
+use Rattle.definitions.specs.Syntax.{Region, patientAt}
+use Rattle.definitions.specs.Plans.{Row, costOver, compareRows}
+use Rattle.ranking.specs.Growing.{Grown, Ready}
+use Rattle.theorems.specs.List.{rowOrder}
+use Rattle.patient_set.specs.Sets.{members}
+use Rattle.partial_rows.specs.Rows.{Branch, Position}
+use Rattle.buckets.specs.Terms.{Fitting, bucketOf, leastIn, leastAt, Prepared}
+use Rattle.row_list.specs.Rows.{rowIn, rowsIn, isBefore, Room}
+use Rattle.search.specs.Lowest.{Upward}
+use Rattle.search.specs.declared.walk.Head.{Head}
+use Rattle.search.specs.declared.walk.Next.{Next}
+
+-- The patients that are left; is a patient left? The row of the beds and the cost so far.
+abbrev pub remaining : Head → List ℕ
+remaining head = members (head .left .0)
+
+abbrev pub leftIn : Head → ℕ → Bool
+leftIn head = contains (remaining head)
+
+abbrev pub headRow : ℕ → Head → Row
+headRow v head = record { cost = head .cost; beds = take v (head .plan .beds) }
+
+-- A head whose sums fit: the cost grows with the patients placed.
+pub record Light (head : Head) : Type 0 where
+  pub beds : length (head .plan .beds) ≡ 32
+  pub placed : head .plan .len + length (remaining head) ≤ 32
+  pub cost : head .cost ≤ head .plan .len * 64_000_000
+  pub bound : head .bound ≤ 137_438_953_472
+
+-- A head of a branch in a region: its bound is the sum of the least numbers of the buckets of those who are left.
+pub record Heads (r : Region) (store patients terms : List ℕ) (v : ℕ) (head : Head) : Type 0 where
+  pub prepared : Prepared r store patients terms
+  pub counted : v ≡ length (r .patients)
+  pub few : v ≤ 32
+  pub fits : Fitting r (head .plan .beds)
+  pub position : Position r (leftIn head) (head .plan .beds) (headRow v head)
+  pub upward : Upward r (leftIn head)
+  pub bound : head .bound ≡ sum (map (leastIn r) (remaining head))
+
+-- The rows of the branch below a head.
+abbrev pub BranchOf : Region → ℕ → Head → Row → Type 0
+BranchOf r v head = Branch r (leftIn head) (head .plan .beds) (headRow v head)
+
+-- ---- one more bed
+
+pub record AsksNext (store patients terms : List ℕ) (head : Head) (s bed : ℕ) : Type 0 where
+  pub region : Region
+  pub v : ℕ
+  pub heads : Heads region store patients terms v head
+  pub light : Light head
+  pub others : List ℕ
+  pub lowest : remaining head ≡ s ∷ others
+  pub fits : bed < patientAt region s .bedCount
+
+-- The head below a bed that costs c.
+pub record Below (patients : List ℕ) (head : Head) (s bed c : ℕ) (below : Head) : Type 0 where
+  pub left : remaining head ≡ s ∷ remaining below
+  pub beds : below .plan .beds ≡ set (head .plan .beds) s bed
+  pub len : below .plan .len ≡ head .plan .len + 1
+  pub cost : below .cost ≡ head .cost + c
+  pub most : c ≤ 64_000_000
+  pub bound : below .bound ≡ head .bound - leastAt patients s
+
+-- What the bed decides costs so much, or is forbidden, in every region that the head is one of.
+abbrev pub Decides : List ℕ → List ℕ → List ℕ → Head → ℕ → ℕ → Option ℕ → Type 0
+Decides store patients terms head s bed cost =
+    (r : Region) (v : ℕ) → Heads r store patients terms v head → bed < patientAt r s .bedCount → costOver (bucketOf r s) r (set (head .plan .beds) s bed) ≡ cost
+
+pub record GivesNext (store patients terms : List ℕ) (head : Head) (s bed : ℕ) (next : Next) : Type 0 where
+  pub forbidden : next .allowed ≡ false → Decides store patients terms head s bed none
+  pub allowed : next .allowed ≡ true → (c : ℕ) × Below patients head s bed c (next .head) × Decides store patients terms head s bed (some c)
+
+-- ---- the cut
+
+pub record Walkable (v n m : ℕ) (area : List ℕ) (head : Head) : Type 0 where
+  pub room : Room v n m area
+  pub light : Light head
+
+-- The list is full, and the cost so far with the bound, and the beds so far, are not before its last row.
+unfoldable pub pastHead : ℕ → ℕ → ℕ → List ℕ → Head → Bool
+pastHead v n m area head =
+    eqb n m && not (isBefore (compareRows (record { cost = head .cost + head .bound; beds = take v (head .plan .beds) }) (rowIn v area (m - 1))))
+
+-- ---- the walk
+
+pub record Asks (store patients terms : List ℕ) (v n m : ℕ) (area : List ℕ) (head : Head) : Type 0 where
+  pub region : Region
+  pub heads : Heads region store patients terms v head
+  pub light : Light head
+  pub room : Room v n m area
+
+-- The list grows by the rows of the branch.
+pub record Gives (store patients terms : List ℕ) (v n m : ℕ) (area : List ℕ) (head : Head) (after : List ℕ) (found : ℕ) : Type 0 where
+  pub count : found ≤ m
+  pub long : length after ≡ length area
+  pub grown : (r : Region) → Heads r store patients terms v head → Ready rowOrder m (rowsIn v n area) (BranchOf r v head)
+      → Grown rowOrder m (rowsIn v n area) (BranchOf r v head) (rowsIn v found after)
