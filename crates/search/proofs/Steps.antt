@@ -45,13 +45,13 @@ module _ {r : Region} {store patients terms : List ℕ} {v : ℕ} {head : Head} 
   up : everyTwo ltb (s ∷ others) ≡ true
   up = ap (everyTwo ltb) (sym lowest) ∙ rising (head .left .0)
 
-  split : Splits (leftIn head) (only s) (contains others)
+  pub split : Splits (leftIn head) (only s) (contains others)
   split = list-split (leftIn head) s others (λ q. ap (λ l. contains l q) lowest) up
 
   low : (q : ℕ) → leftIn head q ≡ true → s ≤ q
   low = list-lowest (leftIn head) s others (λ q. ap (λ l. contains l q) lowest) up
 
-  decided : decidedTables r (only s) (contains others) ≡ bucketOf r s
+  pub decided : decidedTables r (only s) (contains others) ≡ bucketOf r s
   decided = bucket-decided r s split low (heads .upward)
 
   pub fits-next : Light head → (bed : ℕ) → bed < patientAt r s .bedCount → Fitting r (set (head .plan .beds) s bed)

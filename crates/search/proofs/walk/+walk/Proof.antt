@@ -1,3 +1,5 @@
+use borrow.Author.Needs.{needs}
+use native.Mathlib.Omega.{arith}
 use Prim.Native.Nat.{ℕ, _<_}
 use borrow.Fn.Kinds.{In}
 use borrow.Fn.PlainCycle.{Measures, is, falls, and}
@@ -28,7 +30,6 @@ walk-Inv-loop list₀ patients terms entries v n m head s count found₀ bed₀ 
 abbrev walk-μ-loop : walk-lts.MeasureT-loop
 walk-μ-loop list₀ patients terms entries v n m head s count found₀ bed₀ list found bed = ?
 
--- src/walk.rt:91:8
 walk-is-empty-requires : (t : ℕ) → walk-lts.Need-is-empty-requires (
   is-empty-reads.Asked,
   is-empty-reads.Learnt,
@@ -45,9 +46,8 @@ walk-is-empty-requires : (t : ℕ) → walk-lts.Need-is-empty-requires (
   walk-below t,
   walk.Post,
 ) (walk-at t) walk.Post walk-Inv-loop walk-μ-loop
-walk-is-empty-requires t c κs = ?
+walk-is-empty-requires t c κs = search needs
 
--- src/walk.rt:95:9
 walk-insert-requires : (t : ℕ) → walk-lts.Need-insert-requires (
   is-empty-reads.Asked,
   is-empty-reads.Learnt,
@@ -64,9 +64,8 @@ walk-insert-requires : (t : ℕ) → walk-lts.Need-insert-requires (
   walk-below t,
   walk.Post,
 ) (walk-at t) walk.Post walk-Inv-loop walk-μ-loop
-walk-insert-requires t c κs = ?
+walk-insert-requires t c κs = search needs
 
--- src/walk.rt:95:9
 walk-same-length : (t : ℕ) → walk-lts.Need-same-length (
   is-empty-reads.Asked,
   is-empty-reads.Learnt,
@@ -83,9 +82,8 @@ walk-same-length : (t : ℕ) → walk-lts.Need-same-length (
   walk-below t,
   walk.Post,
 ) (walk-at t) walk.Post walk-Inv-loop walk-μ-loop
-walk-same-length t c = ?
+walk-same-length t c = search needs
 
--- src/walk.rt:95:9
 walk-returns : (t : ℕ) → walk-lts.Need-returns (
   is-empty-reads.Asked,
   is-empty-reads.Learnt,
@@ -102,9 +100,8 @@ walk-returns : (t : ℕ) → walk-lts.Need-returns (
   walk-below t,
   walk.Post,
 ) (walk-at t) walk.Post walk-Inv-loop walk-μ-loop
-walk-returns t c = ?
+walk-returns t c = search needs
 
--- src/walk.rt:97:13
 walk-lowest-requires : (t : ℕ) → walk-lts.Need-lowest-requires (
   is-empty-reads.Asked,
   is-empty-reads.Learnt,
@@ -121,9 +118,8 @@ walk-lowest-requires : (t : ℕ) → walk-lts.Need-lowest-requires (
   walk-below t,
   walk.Post,
 ) (walk-at t) walk.Post walk-Inv-loop walk-μ-loop
-walk-lowest-requires t c κs = ?
+walk-lowest-requires t c κs = search needs
 
--- src/walk.rt:97:13
 walk-cast-s : (t : ℕ) → walk-lts.Need-cast-s (
   is-empty-reads.Asked,
   is-empty-reads.Learnt,
@@ -140,9 +136,8 @@ walk-cast-s : (t : ℕ) → walk-lts.Need-cast-s (
   walk-below t,
   walk.Post,
 ) (walk-at t) walk.Post walk-Inv-loop walk-μ-loop
-walk-cast-s t c = ?
+walk-cast-s t c = search needs
 
--- src/walk.rt:98:9
 walk-bed-count-requires : (t : ℕ) → walk-lts.Need-bed-count-requires (
   is-empty-reads.Asked,
   is-empty-reads.Learnt,
@@ -159,9 +154,8 @@ walk-bed-count-requires : (t : ℕ) → walk-lts.Need-bed-count-requires (
   walk-below t,
   walk.Post,
 ) (walk-at t) walk.Post walk-Inv-loop walk-μ-loop
-walk-bed-count-requires t c κs = ?
+walk-bed-count-requires t c κs = search needs
 
--- src/walk.rt:101:5
 walk-loop-holds : (t : ℕ) → walk-lts.Need-loop-holds (
   is-empty-reads.Asked,
   is-empty-reads.Learnt,
@@ -178,9 +172,8 @@ walk-loop-holds : (t : ℕ) → walk-lts.Need-loop-holds (
   walk-below t,
   walk.Post,
 ) (walk-at t) walk.Post walk-Inv-loop walk-μ-loop
-walk-loop-holds t c = ?
+walk-loop-holds t c = search needs
 
--- src/walk.rt:102:65
 walk-cast-next-head : (t : ℕ) → walk-lts.Need-cast-next-head (
   is-empty-reads.Asked,
   is-empty-reads.Learnt,
@@ -197,9 +190,8 @@ walk-cast-next-head : (t : ℕ) → walk-lts.Need-cast-next-head (
   walk-below t,
   walk.Post,
 ) (walk-at t) walk.Post walk-Inv-loop walk-μ-loop
-walk-cast-next-head t c = ?
+walk-cast-next-head t c = search needs
 
--- src/walk.rt:102:13
 walk-next-head-requires : (t : ℕ) → walk-lts.Need-next-head-requires (
   is-empty-reads.Asked,
   is-empty-reads.Learnt,
@@ -216,9 +208,8 @@ walk-next-head-requires : (t : ℕ) → walk-lts.Need-next-head-requires (
   walk-below t,
   walk.Post,
 ) (walk-at t) walk.Post walk-Inv-loop walk-μ-loop
-walk-next-head-requires t c κs = ?
+walk-next-head-requires t c κs = search needs
 
--- src/walk.rt:105:17
 walk-is-cut-requires : (t : ℕ) → walk-lts.Need-is-cut-requires (
   is-empty-reads.Asked,
   is-empty-reads.Learnt,
@@ -235,9 +226,8 @@ walk-is-cut-requires : (t : ℕ) → walk-lts.Need-is-cut-requires (
   walk-below t,
   walk.Post,
 ) (walk-at t) walk.Post walk-Inv-loop walk-μ-loop
-walk-is-cut-requires t c κs = ?
+walk-is-cut-requires t c κs = search needs
 
--- src/walk.rt:106:17
 walk-walk-requires : (t : ℕ) → walk-lts.Need-walk-requires (
   is-empty-reads.Asked,
   is-empty-reads.Learnt,
@@ -254,9 +244,8 @@ walk-walk-requires : (t : ℕ) → walk-lts.Need-walk-requires (
   walk-below t,
   walk.Post,
 ) (walk-at t) walk.Post walk-Inv-loop walk-μ-loop
-walk-walk-requires t c κs = ?
+walk-walk-requires t c κs = search needs
 
--- src/walk.rt:109:9
 walk-add-bed : (t : ℕ) → walk-lts.Need-add-bed (
   is-empty-reads.Asked,
   is-empty-reads.Learnt,
@@ -273,9 +262,8 @@ walk-add-bed : (t : ℕ) → walk-lts.Need-add-bed (
   walk-below t,
   walk.Post,
 ) (walk-at t) walk.Post walk-Inv-loop walk-μ-loop
-walk-add-bed t c = ?
+walk-add-bed t c = search needs
 
--- src/walk.rt:101:5
 walk-loop-less : (t : ℕ) → walk-lts.Need-loop-less (
   is-empty-reads.Asked,
   is-empty-reads.Learnt,
@@ -292,9 +280,8 @@ walk-loop-less : (t : ℕ) → walk-lts.Need-loop-less (
   walk-below t,
   walk.Post,
 ) (walk-at t) walk.Post walk-Inv-loop walk-μ-loop
-walk-loop-less t c = ?
+walk-loop-less t c = search needs
 
--- src/walk.rt:101:5
 walk-loop-again : (t : ℕ) → walk-lts.Need-loop-again (
   is-empty-reads.Asked,
   is-empty-reads.Learnt,
@@ -311,9 +298,8 @@ walk-loop-again : (t : ℕ) → walk-lts.Need-loop-again (
   walk-below t,
   walk.Post,
 ) (walk-at t) walk.Post walk-Inv-loop walk-μ-loop
-walk-loop-again t c = ?
+walk-loop-again t c = search needs
 
--- src/walk.rt:77:1
 walk-same-length-2 : (t : ℕ) → walk-lts.Need-same-length-2 (
   is-empty-reads.Asked,
   is-empty-reads.Learnt,
@@ -330,9 +316,8 @@ walk-same-length-2 : (t : ℕ) → walk-lts.Need-same-length-2 (
   walk-below t,
   walk.Post,
 ) (walk-at t) walk.Post walk-Inv-loop walk-μ-loop
-walk-same-length-2 t c = ?
+walk-same-length-2 t c = search needs
 
--- src/walk.rt:77:1
 walk-returns-2 : (t : ℕ) → walk-lts.Need-returns-2 (
   is-empty-reads.Asked,
   is-empty-reads.Learnt,
@@ -349,7 +334,7 @@ walk-returns-2 : (t : ℕ) → walk-lts.Need-returns-2 (
   walk-below t,
   walk.Post,
 ) (walk-at t) walk.Post walk-Inv-loop walk-μ-loop
-walk-returns-2 t c = ?
+walk-returns-2 t c = search needs
 
 pub +walk-spec : {M : Type 1} → statement M
 +walk-spec = close μ-walk λ t. walk-lts.spec (

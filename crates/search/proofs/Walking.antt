@@ -1,0 +1,194 @@
+-- The walk's loop over the beds of the lowest patient left. Assumes nothing.
+use mathlib.Core.Path.{_≡_, refl, sym, ap, _∙_, subst, subst⁻¹}
+use mathlib.Core.Bool.{true≢false, false≢true}
+use Prim.Native.Nat.{_≤_}
+use native.Mathlib.Numerals.{add-one}
+use native.Mathlib.Omega.{arith}
+use lib.ListN.{set}
+use borrow.Author.Tests.{eqb-true, not-true}
+use Rattle.definitions.specs.Basics.{ℕ, zero, suc, _+_, _-_, _<_, Ordering, Bool, true, false, not, _&&_, Option, none, some, List, [], _∷_, length, getD, take, eqb, isEmpty, insert, contains}
+use Rattle.definitions.specs.Limits.{limits, within, clinic, bedCount}
+use Rattle.definitions.specs.Syntax.{Patient, Region, patientAt}
+use Rattle.definitions.specs.Plans.{Row, costOver, compareRows}
+use Rattle.definitions.specs.Questions.{patientsWithin}
+use Rattle.ranking.specs.Orders.{View, before, equal, after}
+use Rattle.ranking.specs.Growing.{Grown, Ready}
+use Rattle.theorems.specs.Tests.{both}
+use Rattle.theorems.specs.Every.{every-at}
+use Rattle.theorems.specs.Accepted.{at-most}
+use Rattle.theorems.specs.List.{rowOrder}
+use Rattle.patient_set.specs.Sets.{members}
+use Rattle.partial_rows.specs.Sets.{only, Splits}
+use Rattle.partial_rows.specs.Rows.{Branch, decidedTables, withBed}
+use Rattle.partial_rows.specs.Walk.{BranchBelow, walk-leaf, walk-cut, walk-none, ready-bed, walk-bed, walk-skip, walk-all}
+use Rattle.buckets.specs.Terms.{bucketOf, bedsAt, Answered}
+use Rattle.row_list.specs.Rows.{rowOf, rowIn, rowsIn, isBefore, Room}
+use Rattle.row_list.specs.Laws.{rows-long, rows-at}
+use Rattle.search.specs.Walks.{remaining, leftIn, headRow, Light, Heads, BranchOf, AsksNext, Below, Decides, pastHead, Asks, Gives}
+use Rattle.search.specs.declared.walk.Head.{Head}
+use Rattle.search.proofs.Steps.{known, split, decided, below-split, row-below, light-below, heads-below, bound-holds}
+
+-- A patient has at most 16 beds.
+beds-most : (r : Region) → Answered r → (s : ℕ) → s < length (r .patients) → patientAt r s .bedCount ≤ 16
+unfolding patientsWithin patientAt limits
+beds-most r answered s h =
+    let d : Patient = record { clinic = 0; bedCount = 0; parent = none } in
+    at-most bedCount _ (both (within clinic (getD (r .patients) s d .clinic)) (every-at (λ p. within clinic (p .clinic) && within bedCount (p .bedCount)) (r .patients) s d h (answered .patientsFit)) .1)
+
+-- A row that is not before another.
+not-before : (v w : Row) → isBefore (compareRows v w) ≡ false → rowOrder .Lt v w → ⊥
+not-before v w e h = go (rowOrder .view v w) e
+  where
+    go : {o : Ordering} → View (rowOrder .Lt) v w o → isBefore o ≡ false → ⊥
+    go (before k) f = true≢false f
+    go (equal k) f = rowOrder .irrefl {x = w} (rw k at h)
+    go (after k) f = rowOrder .irrefl {x = v} (rowOrder .trans {x = v} {y = w} {z = v} h k)
+
+-- Where the loop stands: the list has grown by the rows whose bed for s is below the next one.
+pub record Sofar (store patients terms : List ℕ) (v n m : ℕ) (area : List ℕ) (head : Head) (s count : ℕ) (now : List ℕ) (found bed : ℕ) : Type 0 where
+  pub others : List ℕ
+  pub lowest : remaining head ≡ s ∷ others
+  pub counts : count ≡ bedsAt patients s
+  pub bed-most : bed ≤ count
+  pub few : found ≤ m
+  pub long : length now ≡ length area
+  pub grown : (r : Region) → Heads r store patients terms v head → Ready rowOrder m (rowsIn v n area) (BranchOf r v head)
+      → Grown rowOrder m (rowsIn v n area) (BranchBelow r (leftIn head) (head .plan .beds) (headRow v head) s bed) (rowsIn v found now)
+
+module _ {store patients terms : List ℕ} {v n m : ℕ} {area : List ℕ} {head : Head} where
+  -- Nobody is left: the row of the head is inserted.
+  pub walk-end : {found : ℕ} {now : List ℕ} → isEmpty (remaining head) ≡ true → found ≤ m → length now ≡ length area
+      → rowsIn v found now ≡ take m (insert compareRows (headRow v head) (rowsIn v n area)) → Gives store patients terms v n m area head now found
+  walk-end nobody few long rows =
+      record {
+        count = few;
+        long = long;
+        grown = λ r heads ready. rw rows (walk-leaf r (leftIn head) (head .plan .beds) (headRow v head) ready (gone (remaining head) nobody) (heads .position .long));
+      }
+    where
+      gone : (l : List ℕ) → isEmpty l ≡ true → (s : ℕ) → contains l s ≡ false
+      gone [] e s = refl
+      gone (x ∷ l) e s = absurd (false≢true e)
+
+  module _ (asks : Asks store patients terms v n m area head) {s : ℕ} where
+    pub sofar-start : {count : ℕ} (others : List ℕ) → remaining head ≡ s ∷ others → count ≡ bedsAt patients s → Sofar store patients terms v n m area head s count area n 0
+    sofar-start others lowest counts =
+        record {
+          others = others;
+          lowest = lowest;
+          counts = counts;
+          bed-most = omega arith;
+          few = asks .room .held;
+          long = refl;
+          grown = λ r heads ready. walk-none s (split-of r heads) (heads .position) ready;
+        }
+      where
+        split-of : (r : Region) (heads : Heads r store patients terms v head) → Splits (leftIn head) (only s) (contains others)
+        split-of r heads = split heads lowest
+
+  module _ (asks : Asks store patients terms v n m area head) {s count : ℕ} {now : List ℕ} {found bed : ℕ} (sofar : Sofar store patients terms v n m area head s count now found bed) where
+    -- At the end all beds were tried.
+    pub sofar-done : count ≤ bed → Gives store patients terms v n m area head now found
+    sofar-done end =
+        record {
+          count = sofar .few;
+          long = sofar .long;
+          grown = λ r heads ready.
+              let all : bed ≡ patientAt r s .bedCount = omega (arith, sofar .bed-most, sofar .counts, heads .prepared .beds s (known heads (sofar .lowest))) in
+              walk-all s (split heads (sofar .lowest)) (heads .position) ready
+              (subst (λ b. Grown rowOrder m (rowsIn v n area) (BranchBelow r (leftIn head) (head .plan .beds) (headRow v head) s b) (rowsIn v found now)) all (sofar .grown r heads ready));
+        }
+
+    pub room-now : Room v found m now
+    room-now =
+        let room = asks .room in
+        record { patients = room .patients; held = sofar .few; wanted = room .wanted; some = room .some; long = omega (arith, room .long, sofar .long) }
+
+    module _ (more : bed < count) where
+      fits : (r : Region) → Heads r store patients terms v head → bed < patientAt r s .bedCount
+      fits r heads = omega (arith, sofar .counts, heads .prepared .beds s (known heads (sofar .lowest)))
+
+      pub bed-small : bed < 16
+      bed-small = omega (arith, fits (asks .region) (asks .heads), beds-most (asks .region) (asks .heads .prepared .answered) s (known (asks .heads) (sofar .lowest)))
+
+      pub asks-next : AsksNext store patients terms head s bed
+      asks-next =
+          record {
+            region = asks .region;
+            v = v;
+            heads = asks .heads;
+            light = asks .light;
+            others = sofar .others;
+            lowest = sofar .lowest;
+            fits = fits (asks .region) (asks .heads);
+          }
+
+      -- One more bed, however the list grew by its rows.
+      next-bed : {after : List ℕ} {grows : ℕ} → grows ≤ m → length after ≡ length now
+          → ((r : Region) (heads : Heads r store patients terms v head) → Ready rowOrder m (rowsIn v n area) (BranchOf r v head)
+          → Grown rowOrder m (rowsIn v n area) (BranchBelow r (leftIn head) (head .plan .beds) (headRow v head) s (suc bed)) (rowsIn v grows after))
+          → Sofar store patients terms v n m area head s count after grows (bed + 1)
+      next-bed {after} {grows} few long grown =
+          record {
+            others = sofar .others;
+            lowest = sofar .lowest;
+            counts = sofar .counts;
+            bed-most = omega arith;
+            few = few;
+            long = long ∙ sofar .long;
+            grown = λ r heads ready.
+                subst⁻¹ (λ b. Grown rowOrder m (rowsIn v n area) (BranchBelow r (leftIn head) (head .plan .beds) (headRow v head) s b) (rowsIn v grows after)) (add-one bed) (grown r heads ready);
+          }
+
+      -- A forbidden bed.
+      pub sofar-skip : Decides store patients terms head s bed none → Sofar store patients terms v n m area head s count now found (bed + 1)
+      sofar-skip decides =
+          next-bed (sofar .few) refl (λ r heads ready.
+          walk-skip s (split heads (sofar .lowest)) (heads .position) ready
+          (ap (λ l. costOver l r (set (head .plan .beds) s bed)) (decided heads (sofar .lowest)) ∙ decides r v heads (fits r heads)) (sofar .grown r heads ready))
+
+      -- A bed with a head below it.
+      module _ {c : ℕ} {below : Head} (is : Below patients head s bed c below) (decides : Decides store patients terms head s bed (some c)) where
+        pub asks-below : Asks store patients terms v found m now below
+        asks-below =
+            record {
+              region = asks .region;
+              heads = heads-below is (asks .heads) (asks .light) (fits (asks .region) (asks .heads));
+              light = light-below is (asks .light);
+              room = room-now;
+            }
+
+        module _ (r : Region) (heads : Heads r store patients terms v head) (ready : Ready rowOrder m (rowsIn v n area) (BranchOf r v head)) where
+          priced : costOver (decidedTables r (only s) (leftIn below)) r (set (head .plan .beds) s bed) ≡ some c
+          priced = ap (λ l. costOver l r (set (head .plan .beds) s bed)) (decided heads (is .left)) ∙ decides r v heads (fits r heads)
+
+          branch : BranchOf r v below ≡ Branch r (leftIn below) (set (head .plan .beds) s bed) (withBed (headRow v head) s bed c)
+          branch = λ i. Branch r (leftIn below) (is .beds i) (row-below is heads i)
+
+          ready-below : Ready rowOrder m (rowsIn v found now) (BranchOf r v below)
+          ready-below = subst⁻¹ (Ready rowOrder m (rowsIn v found now)) branch
+              (ready-bed s (below-split is heads) (heads .position) ready (fits r heads) priced (sofar .grown r heads ready))
+
+          grown-below : (then : List ℕ) (grows : ℕ) → Grown rowOrder m (rowsIn v found now) (BranchOf r v below) (rowsIn v grows then)
+              → Grown rowOrder m (rowsIn v n area) (BranchBelow r (leftIn head) (head .plan .beds) (headRow v head) s (suc bed)) (rowsIn v grows then)
+          grown-below then grows g = walk-bed s (below-split is heads) (heads .position) ready (fits r heads) priced (sofar .grown r heads ready)
+              (subst (λ Q. Grown rowOrder m (rowsIn v found now) Q (rowsIn v grows then)) branch g)
+
+        pub sofar-walk : {after : List ℕ} {grows : ℕ} → Gives store patients terms v found m now below after grows → Sofar store patients terms v n m area head s count after grows (bed + 1)
+        sofar-walk {after = then} {grows} gives =
+            next-bed (gives .count) (gives .long) (λ r heads ready.
+            grown-below r heads ready then grows (gives .grown r (heads-below is heads (asks .light) (fits r heads)) (ready-below r heads ready)))
+
+        pub sofar-cut : pastHead v found m now below ≡ true → Sofar store patients terms v n m area head s count now found (bed + 1)
+        unfolding pastHead
+        sofar-cut past =
+            let parts = both (eqb found m) past in
+            let full : found ≡ m = eqb-true found m (parts .0) in
+            let d : Row = record { cost = 0; beds = [] } in
+            let best : Row = record { cost = below .cost + below .bound; beds = take v (below .plan .beds) } in
+            let last = rows-at v found now (m - 1) d (omega (arith, asks .room .some)) in
+            next-bed (sofar .few) refl (λ r heads ready.
+            grown-below r heads ready now found
+            (walk-cut r (leftIn below) (below .plan .beds) (headRow v below) (ready-below r heads ready) (m - 1) (below .bound) d (omega (arith, asks .room .some)) (rows-long v found now ∙ full)
+            (bound-holds (heads-below is heads (asks .light) (fits r heads)))
+            (λ lt. not-before best (rowIn v now (m - 1)) (not-true _ (parts .1)) (subst⁻¹ (rowOrder .Lt best) last lt))))
