@@ -1,5 +1,5 @@
 use borrow.Author.Needs.{needs}
-use mathlib.Core.Path.{sym, ap, _∙_}
+use mathlib.Core.Path.{sym, ap}
 use Rattle.held_region.specs.Held.{parentOf}
 use Rattle.forest.specs.Trees.{rootFrom}
 use Rattle.forest.proofs.root_number.Statement.{statement}
