@@ -1,5 +1,6 @@
 use borrow.Author.Needs.{needs}
 use mathlib.Core.Path.{sym, ap}
+use native.Mathlib.Omega.{arith}
 use Rattle.held_region.specs.Held.{parentOf}
 use Rattle.forest.specs.Trees.{rootFrom}
 use Rattle.forest.proofs.root_number.Statement.{statement}
@@ -21,7 +22,7 @@ mul-result : tie.Need-mul-result
 mul-result c = search needs
 
 array-read-result : tie.Need-array-read-result
-array-read-result c = c .before .before .before .pre .1 _ (ap parentOf (c .before .parent .given .1))
+array-read-result c = omega (arith, c .before .before .before .pre .1 _ (ap parentOf (c .before .parent .given .1)))
 
 returns : tie.Need-returns
 returns c = search needs
