@@ -22,7 +22,6 @@ use Rattle.buckets.specs.Terms.{Answered}
 
 -- The numbers are the patients' roots.
 pub record Rooted (r : Region) (numbers : List ℕ) : Type 0 where
-  pub long : length numbers ≡ 32
   pub roots : (s : ℕ) → s < length (r .patients) → getD numbers s 0 ≡ rootOf r s
 
 -- The root of a patient with this parent, from the roots of those before it.

@@ -47,10 +47,8 @@ loop-again c =
     (simp length-set (inv .0), rooted-more _ _ (c .before .before .loop-test .taken) _ _ (omega (arith, room)) (c .root-number .ensures) (inv .1))
 
 returns : tie.Need-returns Inv-loop μ-loop
-returns c = λ r holds answered. record {
-  long = c .before .loop .inv .0;
-  roots = λ s l. c .before .loop .inv .1 r holds answered s (omega (arith, patient-lines _ r holds (answered .counted)));
-}
+returns c = λ r holds answered.
+    record { roots = λ s l. c .before .loop .inv .1 r holds answered s (omega (arith, patient-lines _ r holds (answered .counted))) }
 
 pub root-numbers-spec : {M : Type 1} → statement M
 root-numbers-spec =
