@@ -4,7 +4,7 @@ use mathlib.Core.Bool.{true≢false, false≢true}
 use Prim.Native.Nat.{_≤_}
 use native.Mathlib.Numerals.{add-one}
 use native.Mathlib.Omega.{arith}
-use lib.ListN.{set}
+use lib.ListN.{set, drop}
 use borrow.Author.Tests.{eqb-true, not-true}
 use Rattle.definitions.specs.Basics.{ℕ, zero, suc, _+_, _-_, _<_, Ordering, Bool, true, false, not, _&&_, Option, none, some, List, [], _∷_, length, getD, take, eqb, isEmpty, insert, contains}
 use Rattle.definitions.specs.Limits.{limits, within, clinic, bedCount}
@@ -17,7 +17,7 @@ use Rattle.theorems.specs.Tests.{both}
 use Rattle.theorems.specs.Every.{every-at}
 use Rattle.theorems.specs.Accepted.{at-most}
 use Rattle.theorems.specs.List.{rowOrder}
-use Rattle.patient_set.specs.Sets.{members}
+use Rattle.patient_set.specs.Sets.{first}
 use Rattle.partial_rows.specs.Sets.{only, Splits}
 use Rattle.partial_rows.specs.Rows.{Branch, decidedTables, withBed}
 use Rattle.partial_rows.specs.Walk.{BranchBelow, walk-leaf, walk-cut, walk-none, ready-bed, walk-bed, walk-skip, walk-all}
@@ -192,3 +192,8 @@ module _ {store patients terms : List ℕ} {v n m : ℕ} {area : List ℕ} {head
             (walk-cut r (leftIn below) (below .plan .beds) (headRow v below) (ready-below r heads ready) (m - 1) (below .bound) d (omega (arith, asks .room .some)) (rows-long v found now ∙ full)
             (bound-holds (heads-below is heads (asks .light) (fits r heads)))
             (λ lt. not-before best (rowIn v now (m - 1)) (not-true _ (parts .1)) (subst⁻¹ (rowOrder .Lt best) last lt))))
+
+-- The lowest of those who are left, and the others.
+pub lowest-first : (l : List ℕ) (s : ℕ) → isEmpty l ≡ false → s ≡ first 32 l → l ≡ s ∷ drop 1 l
+lowest-first [] s e f = absurd (true≢false e)
+lowest-first (x ∷ l) s e f = ap (λ y. y ∷ l) (sym f)

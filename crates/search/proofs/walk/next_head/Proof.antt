@@ -36,7 +36,7 @@ add-t18 : tie.Need-add-t18
 add-t18 c = omega (arith, c .before .before .before .before .bucket-cost .ensures .most _ (ap costIn (c .before .before .cost .given .1)), c .before .before .before .before .before .before .before .before .before .before .before .before .pre .light .cost, c .before .before .before .before .before .before .before .before .before .before .before .before .pre .light .placed)
 
 returns : tie.Need-returns
-returns c = 
+returns c =
     let pre = c .before .before .before .before .before .before .before .before .before .before .pre in
     record {
       forbidden = λ e. decides pre (c .before .before .before .before .before .place .ensures .0) (c .before .before .bucket-cost .ensures) (ap costIn (c .enum-told .given .1));
@@ -44,7 +44,7 @@ returns c =
     }
 
 returns-2 : tie.Need-returns-2
-returns-2 c = 
+returns-2 c =
     let pre = c .before .before .before .before .before .before .before .before .before .before .before .before .pre in
     let priced = ap costIn (c .before .before .cost .given .1) in
     record {
