@@ -9,7 +9,7 @@ use Rattle.definitions.specs.Syntax.{Table, Region}
 use Rattle.definitions.specs.Plans.{Plan, bedOf, constraints, Row, compareRows}
 use Rattle.ranking.specs.Members.{_∈_}
 use Rattle.ranking.specs.First.{First, first-iff}
-use Rattle.ranking.specs.Combining.{Combined, Injective, Rising, cross, first-cross}
+use Rattle.ranking.specs.Combining.{Combined, Injective, Rising, cross, first-combined, first-cross}
 use Rattle.theorems.specs.List.{rowOrder}
 use Rattle.partial_rows.specs.Adding.{addBeds, addRows, add-at, add-rising, add-rising-right}
 use Rattle.partial_rows.specs.Sets.{Patients, Splits, swap-parts, not-both}
@@ -89,3 +89,8 @@ module _ (region : Region) {D E F : Patients} (split : Splits D E F) (apart : Ap
   pub parts-first : {m j k : ℕ} {xs ys : List Row} → m ≤ j → m ≤ k → First rowOrder j (RowOf region E placed) xs → First rowOrder k (RowOf region F placed) ys
       → First rowOrder m (RowOf region D placed) (take m (sort compareRows (cross addRows xs ys)))
   parts-first lej lek h g = first-iff (λ z. parts-rows z .1) (λ z. parts-rows z .0) (first-cross parts-rising parts-injective lej lek h g)
+
+  -- So do those of the combinations of two lists that hold them.
+  pub parts-combined : {m j k : ℕ} {xs ys l : List Row} → m ≤ j → m ≤ k → First rowOrder j (RowOf region E placed) xs → First rowOrder k (RowOf region F placed) ys
+      → First rowOrder m (Combined addRows (λ x. x ∈ xs) (λ y. y ∈ ys)) l → First rowOrder m (RowOf region D placed) l
+  parts-combined lej lek h g c = first-iff (λ z. parts-rows z .1) (λ z. parts-rows z .0) (first-combined parts-rising lej lek h g .1 c)
