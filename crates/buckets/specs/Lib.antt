@@ -1,1 +1,4 @@
 pub mod Terms
+pub mod Places
+pub mod Least
+pub mod Written

@@ -1,0 +1,55 @@
+-- What the code writes, word by word.
+use Prim.Native.Nat.{_≤_}
+use Rattle.definitions.specs.Basics.{ℕ, _+_, _*_, _-_, _^_, _<_, _≡_, List, getD, length}
+use Rattle.held_region.specs.declared.Patient.{Patient}
+use Rattle.held_region.specs.declared.Table.{Table}
+use Rattle.held_region.specs.Held.{noPatient}
+use Rattle.held_region.specs.Outline.{membersOf}
+use Rattle.buckets.specs.Terms.{startAt, nextAt, memberAt, strideAt, bedsAt, leastAt, firstAt}
+use Rattle.buckets.specs.Places.{strideOf}
+use Rattle.buckets.specs.Least.{leastNumber}
+
+-- The words of the first patients: their beds, and no term yet.
+pub record PatientsWritten (patients : List Patient) (v : ℕ) (words : List ℕ) : Type 0 where
+  pub beds : (s : ℕ) → s < v → bedsAt words s ≡ getD patients s noPatient .beds
+  pub least : (s : ℕ) → s < v → leastAt words s ≡ 0
+  pub first : (s : ℕ) → s < v → firstAt words s ≡ 64
+
+-- What is read of a table's members: they are patients, with few beds each.
+pub record MembersRead (patients : List ℕ) (t : Table) (k : ℕ) : Type 0 where
+  pub few : t .members ≤ 4
+  pub known : (j : ℕ) → j < t .members → getD (t .first) j 0 < 32
+  pub small : (j : ℕ) → j < t .members → bedsAt patients (getD (t .first) j 0) ≤ 16
+  pub term : k < 64
+
+-- All words but those of one term are as they were.
+pub record OthersKept (k : ℕ) (before after : List ℕ) : Type 0 where
+  pub lower : (p : ℕ) → p < k * 10 → getD after p 0 ≡ getD before p 0
+  pub higher : (p : ℕ) → k * 10 + 10 ≤ p → getD after p 0 ≡ getD before p 0
+
+-- The members and strides of a term whose words were 0.
+pub record MembersWritten (patients : List ℕ) (t : Table) (k : ℕ) (before after : List ℕ) : Type 0 where
+  pub others : OthersKept k before after
+  pub members : ((j : ℕ) → j < 4 → memberAt before k j ≡ 0) → (j : ℕ) → j < 4 → memberAt after k j ≡ getD (membersOf t) j 0
+  pub strides : ((j : ℕ) → j < 4 → strideAt before k j ≡ 0) → (j : ℕ) → j < 4 → strideAt after k j ≡ strideOf (bedsAt patients) (membersOf t) j
+
+-- The patient in whose bucket a table is put: its last member.
+abbrev pub lastOf : Table → ℕ
+lastOf t = getD (t .first) (t .members - 1) 0
+
+pub record AddAsked (store : List ℕ) (t : Table) (k start : ℕ) (patients : List ℕ) : Type 0 where
+  pub read : MembersRead patients t k
+  pub some : 0 < t .members
+  pub inside : start + t .entries ≤ 4096
+  pub fits : leastAt patients (lastOf t) + leastNumber store start (start + t .entries) < 2 ^ 32
+
+-- A table put in front of a bucket.
+pub record TermAdded (store : List ℕ) (t : Table) (k start : ℕ) (patients afterPatients before after : List ℕ) : Type 0 where
+  pub members : MembersWritten patients t k before after
+  pub starts : startAt after k ≡ start
+  pub next : nextAt after k ≡ firstAt patients (lastOf t)
+  pub beds : (s : ℕ) → bedsAt afterPatients s ≡ bedsAt patients s
+  pub least : leastAt afterPatients (lastOf t) ≡ leastAt patients (lastOf t) + leastNumber store start (start + t .entries)
+  pub first : firstAt afterPatients (lastOf t) ≡ k
+  pub otherLeast : (s : ℕ) → (s ≡ lastOf t → ⊥) → leastAt afterPatients s ≡ leastAt patients s
+  pub otherFirst : (s : ℕ) → (s ≡ lastOf t → ⊥) → firstAt afterPatients s ≡ firstAt patients s
