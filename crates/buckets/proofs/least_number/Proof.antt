@@ -1,45 +1,51 @@
+use borrow.Author.Needs.{needs}
+use mathlib.Core.Logic.{⊎-elim}
+use mathlib.Core.Path.{_≡_, refl, sym, ap, _∙_}
+use Prim.Native.Nat.{_+_, _-_}
+use native.Mathlib.Omega.{arith}
+use Rattle.held_region.specs.Held.{mark}
+use Rattle.buckets.specs.Least.{lowest, codesIn, code-lower, code-kept, codes-done, none-found, number-found}
 use Rattle.buckets.proofs.least_number.Statement.{statement}
 use Rattle.buckets.proofs.least_number.Tie as tie
 use Rattle.buckets.proofs.least_number.Reads as reads
 use Rattle.buckets.proofs.least_number.Lts as lts
 
 abbrev Inv-loop : tie.InvT-loop
-Inv-loop entries from to least₀ i₀ least i = ?
+Inv-loop entries from to least₀ i₀ least i = lowest least (codesIn entries i to) ≡ lowest mark (codesIn entries from to)
 
 abbrev μ-loop : tie.MeasureT-loop
-μ-loop entries from to least₀ i₀ least i = ?
+μ-loop entries from to least₀ i₀ least i = to - i
 
--- src/lib.rt:48:5
 loop-holds : tie.Need-loop-holds Inv-loop μ-loop
-loop-holds c = ?
+loop-holds c = refl
 
--- src/lib.rt:49:20
 mul-code : tie.Need-mul-code Inv-loop μ-loop
-mul-code c = ?
+mul-code c = search needs
 
--- src/lib.rt:49:20
 element-copy-out-code : tie.Need-element-copy-out-code Inv-loop μ-loop
-element-copy-out-code c = ?
+element-copy-out-code c = search needs
 
--- src/lib.rt:53:9
 add-i : tie.Need-add-i Inv-loop μ-loop
-add-i c = ?
+add-i c = search needs
 
--- src/lib.rt:48:5
 loop-less : tie.Need-loop-less Inv-loop μ-loop
-loop-less c = ?
+loop-less c = search needs
 
--- src/lib.rt:48:5
 loop-again : tie.Need-loop-again Inv-loop μ-loop
-loop-again c = ?
+loop-again c =
+    let args = c .before .before .before .before .args in
+    let at = c .before .before .before .loop in
+    let more = c .before .before .loop-test .taken in
+    ⊎-elim
+    (λ w. ap (λ n. lowest n (codesIn (args .entries .now) (at .i + 1) (args .to))) (w .1) ∙ code-lower _ _ _ _ (at .inv) more (w .0 .taken))
+    (λ w. ap (λ n. lowest n (codesIn (args .entries .now) (at .i + 1) (args .to))) (w .1) ∙ code-kept _ _ _ _ (at .inv) more (w .0 .left))
+    (c .if1 .came)
 
--- src/lib.rt:42:1
 returns : tie.Need-returns Inv-loop μ-loop
-returns c = ?
+returns c = none-found _ _ _ _ (codes-done _ _ _ _ (c .before .before .loop .inv) (c .before .loop-test .left)) (c .if2 .taken)
 
--- src/lib.rt:42:1
 returns-2 : tie.Need-returns-2 Inv-loop μ-loop
-returns-2 c = ?
+returns-2 c = number-found _ _ _ _ (codes-done _ _ _ _ (c .before .before .loop .inv) (c .before .loop-test .left)) (c .if2 .left)
 
 pub least-number-spec : {M : Type 1} → statement M
 least-number-spec =
