@@ -10,7 +10,7 @@ ghost use Rattle.definitions.specs.Syntax as Said;
 ghost use Rattle.held_region.specs.Held.{Holds};
 ghost use Rattle.buckets.specs.Terms.{Answered, Planned, Prepared};
 ghost use Rattle.buckets.specs.Least.{leastNumber};
-ghost use Rattle.buckets.specs.Written.{MembersRead, MembersWritten, AddAsked, TermAdded, PatientsWritten};
+ghost use Rattle.buckets.specs.Written.{PatientsWritten, MembersKnown, MembersWritten, TermKnown, TermAdded};
 
 // For each patient three words: its count of beds, the sum of the least numbers of its bucket, and the first term of its bucket.
 // For each table a term of ten words: the start of its entries, the next term of the bucket, four members and their strides.
@@ -57,7 +57,7 @@ fn least_number(entries: &[u32; 4096], from: usize, to: usize) -> u32
 
 // The members of a table, and for each the product of the bed counts of the members after it.
 fn write_members(terms: &mut [u32; 640], patients: &[u32; 96], table: Table, k: usize)
-    requires { ⌜ MembersRead (now patients) table k ⌝ }
+    requires { ⌜ MembersKnown (now patients) table k (now terms) ⌝ }
     ensures { λ r. ⌜ MembersWritten (now (patients .entry)) table k (now (terms .entry)) (now (terms .exit)) ⌝ }
 {
     let mut stride: u32 = 1;
@@ -81,7 +81,7 @@ fn add_term(
     k: usize,
     start: usize,
 )
-    requires { ⌜ AddAsked (now entries) table k start (now patients) ⌝ }
+    requires { ⌜ TermKnown (now entries) table k start (now patients) (now terms) ⌝ }
     ensures { λ r. ⌜ TermAdded (now (entries .entry)) table k start (now (patients .entry)) (now (patients .exit)) (now (terms .entry)) (now (terms .exit)) ⌝ }
 {
     let least = least_number(entries, start, start + table.entries);
