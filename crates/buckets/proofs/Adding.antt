@@ -34,11 +34,11 @@ module _ {store : List ℕ} {t : Table} {k start : ℕ} {patients before : List 
   members-kept =
       record {
         others =
-          record {
-            wide = two-length written (k * 10) (k * 10 + 1) start (firstAt patients s) ∙ w .others .wide;
-            lower = λ p h. kept p (λ z. omega arith) (λ z. omega arith) ∙ w .others .lower p h;
-            higher = λ p h. kept p (λ z. omega arith) (λ z. omega arith) ∙ w .others .higher p h;
-          };
+            record {
+              wide = two-length written (k * 10) (k * 10 + 1) start (firstAt patients s) ∙ w .others .wide;
+              lower = λ p h. kept p (λ z. omega arith) (λ z. omega arith) ∙ w .others .lower p h;
+              higher = λ p h. kept p (λ z. omega arith) (λ z. omega arith) ∙ w .others .higher p h;
+            };
         members = λ blank j h. kept (k * 10 + 2 + j) (λ z. omega arith) (λ z. omega arith) ∙ w .members blank j h;
         strides = λ blank j h. kept (k * 10 + 6 + j) (λ z. omega arith) (λ z. omega arith) ∙ w .strides blank j h;
       }
@@ -52,8 +52,8 @@ module _ {store : List ℕ} {t : Table} {k start : ℕ} {patients before : List 
         wide = two-length patients (s * 3 + 1) (s * 3 + 2) (leastAt patients s + least) k ∙ known .wide;
         beds = λ q. same (q * 3) (λ z. omega arith) (λ z. omega arith);
         least =
-          two-first patients (s * 3 + 1) (s * 3 + 2) (leastAt patients s + least) k (omega (arith, known .wide, known .last)) (λ z. omega arith)
-          ∙ ap (λ n. leastAt patients s + n) is;
+            two-first patients (s * 3 + 1) (s * 3 + 2) (leastAt patients s + least) k (omega (arith, known .wide, known .last)) (λ z. omega arith)
+            ∙ ap (λ n. leastAt patients s + n) is;
         first = two-second patients (s * 3 + 1) (s * 3 + 2) (leastAt patients s + least) k (omega (arith, known .wide, known .last));
         otherLeast = λ q n. same (q * 3 + 1) (λ z. n (omega arith)) (λ z. omega arith);
         otherFirst = λ q n. same (q * 3 + 2) (λ z. omega arith) (λ z. n (omega arith));

@@ -1,3 +1,4 @@
 pub mod Writing
 pub mod Members
 pub mod Adding
+pub mod Held
