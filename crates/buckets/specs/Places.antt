@@ -24,6 +24,20 @@ place-cons : (count bed : ℕ → ℕ) (s : ℕ) (members : List ℕ) → placeO
 unfolding place
 place-cons count bed s members = ap (λ l. bed s * product l + placeOf count bed members) (counts-of count bed members)
 
+-- The strides depend only on the members' counts.
+counts-same : (count other : ℕ → ℕ) (members : List ℕ) → ((j : ℕ) → j < length members → count (getD members j 0) ≡ other (getD members j 0))
+    → map count members ≡ map other members
+counts-same count other [] same = refl
+counts-same count other (s ∷ members) same =
+    ap₂ (λ n ns. n ∷ ns) (same 0 (omega arith)) (counts-same count other members (λ j h. same (suc j) (omega arith)))
+
+pub stride-same : (count other : ℕ → ℕ) (members : List ℕ) → ((j : ℕ) → j < length members → count (getD members j 0) ≡ other (getD members j 0))
+    → (j : ℕ) → strideOf count members j ≡ strideOf other members j
+unfolding strideOf
+stride-same count other [] same j = refl
+stride-same count other (s ∷ members) same zero = ap product (counts-same count other members (λ j h. same (suc j) (omega arith)))
+stride-same count other (s ∷ members) same (suc j) = stride-same count other members (λ i h. same (suc i) (omega arith)) j
+
 -- Past the last member there are no strides.
 pub stride-past : (count : ℕ → ℕ) (members : List ℕ) (j : ℕ) → length members ≤ j → strideOf count members j ≡ 0
 unfolding strideOf
