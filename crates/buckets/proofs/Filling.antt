@@ -5,7 +5,7 @@ use native.Mathlib.Decide.{ℕ-discrete}
 use native.Mathlib.Nat.{le-refl, add-comm}
 use native.Mathlib.Omega.{arith}
 use borrow.Author.Tests.{eq-eqb, ne-eqb}
-use lib.ListN.{drop, drop-of-length-le}
+use lib.ListN.{drop, replicate, drop-of-length-le}
 use lib.Seq.{drop-cons}
 use Rattle.definitions.specs.Basics.{ℕ, zero, suc, _+_, _-_, _*_, _^_, _<_, Bool, true, false, not, _&&_, cond, List, [], _∷_, map, length, getD, eqb, ltb, sum, product, keep}
 use Rattle.definitions.specs.Syntax as Said
@@ -17,15 +17,17 @@ use Rattle.held_region.specs.declared.Table.{Table}
 use Rattle.held_region.specs.declared.Region.{Region}
 use Rattle.held_region.specs.Held.{Holds, noPatient, tableAt, storeOf}
 use Rattle.held_region.specs.Outline.{outline, tableIn, membersOf}
-use Rattle.held_region.specs.Entries.{entryTotal}
-use Rattle.held_region.specs.Faithful.{patient-lines, total-told}
-use Rattle.buckets.specs.Terms.{Answered, Term, Chain, Prepared, bucketOf, leastIn, startAt, nextAt, memberAt, strideAt, bedsAt, leastAt, firstAt}
+use Rattle.held_region.specs.Sound.{Sound}
+use Rattle.held_region.specs.Entries.{countsMatch, entryTotal, counts-match}
+use Rattle.held_region.specs.Faithful.{patient-lines, total-told, sound-told, entry-counts-told}
+use Rattle.buckets.specs.Terms.{Answered, Planned, Term, Chain, Prepared, bucketOf, leastIn, startAt, nextAt, memberAt, strideAt, bedsAt, leastAt, firstAt}
 use Rattle.buckets.specs.Least.{leastNumber}
 use Rattle.buckets.specs.Places.{strideOf, stride-same}
 use Rattle.buckets.specs.Stores.{startOf, start-next, start-all, start-most}
 use Rattle.buckets.specs.Right.{in-bucket, patients-few, tables-few, entries-few, beds-few}
 use Rattle.buckets.specs.Chains.{term-right, chain-kept, chain-lower}
 use Rattle.buckets.specs.Written.{PatientsWritten, MembersKnown, lastOf, TermKnown, TermAdded}
+use Rattle.buckets.proofs.Writing.{zeros}
 use Rattle.buckets.proofs.Held.{held-lines, least-fits, held-place, held-right, members-same, entries-same, count-same, first-same, last-same, last-known, least-told, least-one}
 
 -- The tables from place i on whose highest member is s.
@@ -94,22 +96,24 @@ module _ (h : Region) (r : Said.Region) (held : Holds h r) (a : Answered r) wher
     term-known wide termsWide =
         record {
           members =
-            record {
-              few = omega (arith, count-same h r held a i l, held-right h r held a i l .few);
-              known = λ j m. omega (arith, member-known j m, patients-few r a);
-              small = λ j m. omega (arith, f .beds _ (member-known j m), beds-few r a _ (member-known j m));
-              term = omega (arith, held-place h r held a i l, tables-few r a);
-              wide = termsWide;
-            };
+              record {
+                few = omega (arith, count-same h r held a i l, held-right h r held a i l .few);
+                known = λ j m. omega (arith, member-known j m, patients-few r a);
+                small = λ j m. omega (arith, f .beds _ (member-known j m), beds-few r a _ (member-known j m));
+                term = omega (arith, held-place h r held a i l, tables-few r a);
+                wide = termsWide;
+              };
           wide = wide;
           some = omega (arith, count-same h r held a i l, held-right h r held a i l .some);
           last = omega (arith, last-known h r held a i l, patients-few r a);
           inside = omega (arith, start-down, f .starts, start-most (r .tables) (suc i), entries-few r a);
           fits =
-            omega (
-              arith, least-is, least-one h r held a i l,
-              least-fits h r held a _ (suc i) _ (f .least (lastOf table) (last-known h r held a i l)),
-            );
+              omega (
+                arith,
+                least-is,
+                least-one h r held a i l,
+                least-fits h r held a _ (suc i) _ (f .least (lastOf table) (last-known h r held a i l)),
+              );
         }
 
     module _ (blank : (p : ℕ) → p < suc i * 10 → getD terms p 0 ≡ 0) {counted after : List ℕ} (w : TermAdded (h .entries) table i from patients counted terms after) where
@@ -147,8 +151,7 @@ module _ (h : Region) (r : Said.Region) (held : Holds h r) (a : Answered r) wher
       unfolding Chain
       bucket-last =
           subst (λ ts. Chain r (h .entries) after i (firstAt counted (lastOf table)) ts) (sym (put (lastOf table) refl))
-          (subst (λ p. Chain r (h .entries) after i p (t ∷ bucketFrom r (suc i) (lastOf table))) (sym (w .first))
-          (
+          (subst (λ p. Chain r (h .entries) after i p (t ∷ bucketFrom r (suc i) (lastOf table))) (sym (w .first)) (
             le-refl i,
             omega (arith, held-place h r held a i l, tables-few r a),
             term-there,
@@ -174,3 +177,71 @@ module _ (h : Region) (r : Said.Region) (held : Holds h r) (a : Answered r) wher
             least = λ s m. least-of s m (ℕ-discrete s (lastOf table));
             bucket = λ s m. bucket-of s m (ℕ-discrete s (lastOf table));
           }
+
+-- ---- the loop
+
+-- At place i: the terms below it are blank, and of every region that is held the tables from it on are in their buckets.
+pub record Filling (h : Region) (i start : ℕ) (patients terms : List ℕ) : Type 0 where
+  pub wide : length patients ≡ 96
+  pub termsWide : length terms ≡ 640
+  pub left : i ≤ h .t
+  pub few : i ≤ 64
+  pub blank : (p : ℕ) → p < i * 10 → getD terms p 0 ≡ 0
+  pub each : (r : Said.Region) → Holds h r → Answered r → Filled r (h .entries) i start patients terms
+
+module _ (h : Region) where
+  -- What the functions that are called ask for.
+  pub sound-held : Planned h → Sound h
+  sound-held p = sound-told h (p .region) (p .holds) (p .answered .counted) (p .answered .countsFit) (p .answered .patientsFit) (p .answered .membersFit)
+
+  pub counts-held : Planned h → countsMatch (outline h) ≡ true
+  counts-held p = counts-match (outline h) (entry-counts-told h (p .region) (p .holds) (p .answered .counted) (p .answered .membersFit) ∙ p .answered .entryCountsFit)
+
+  pub filling-none : (start : ℕ) (words : List ℕ) → h .t ≤ 64 → PatientsWritten (h .patients) (h .v) words → start ≡ entryTotal (outline h) → Filling h (h .t) start words (replicate 640 0)
+  filling-none start words few w total =
+      record {
+        wide = w .wide;
+        termsWide = refl;
+        left = omega arith;
+        few = few;
+        blank = λ p l. zeros 640 p;
+        each = λ r held a. filled-none h r held a start words (replicate 640 0) w total;
+      }
+
+  pub filling-all : (start i : ℕ) (patients terms : List ℕ) → i ≤ 0 → Filling h i start patients terms
+      → (r : Said.Region) → Holds h r → Answered r → Prepared r (h .entries) patients terms
+  filling-all start i patients terms done f r held a =
+      let none-left : i ≡ 0 = omega arith in
+      filled-all h r held a start patients terms (rw none-left at (f .each r held a))
+
+  module _ (i start : ℕ) (patients terms : List ℕ) (more : 0 < i) (f : Filling h i start patients terms) where
+    abbrev k : ℕ
+    k = i - 1
+
+    place : k < h .t
+    place = omega (arith, f .left)
+
+    next-place : i ≡ suc k
+    next-place = omega arith
+
+    filled : (r : Said.Region) → Holds h r → Answered r → Filled r (h .entries) (suc k) start patients terms
+    filled r held a = subst (λ n. Filled r (h .entries) n start patients terms) next-place (f .each r held a)
+
+    pub filling-start : Planned h → tableIn h k .entries ≤ start
+    filling-start p = start-enough h (p .region) (p .holds) (p .answered) k place start patients terms (filled (p .region) (p .holds) (p .answered))
+
+    pub filling-known : Planned h → TermKnown (h .entries) (tableIn h k) k (start - tableIn h k .entries) patients terms
+    filling-known p =
+        term-known h (p .region) (p .holds) (p .answered) k place start patients terms (filled (p .region) (p .holds) (p .answered)) (f .wide) (f .termsWide)
+
+    pub filling-more : {counted after : List ℕ} → TermAdded (h .entries) (tableIn h k) k (start - tableIn h k .entries) patients counted terms after
+        → Filling h k (start - tableIn h k .entries) counted after
+    filling-more {counted} {after} w =
+        record {
+          wide = w .wide;
+          termsWide = w .members .others .wide ∙ f .termsWide;
+          left = omega (arith, f .left);
+          few = omega (arith, f .few);
+          blank = λ p l. w .members .others .lower p l ∙ f .blank p (omega arith);
+          each = λ r held a. filled-more h r held a k place start patients terms (filled r held a) (λ p l. f .blank p (omega arith)) w;
+        }
