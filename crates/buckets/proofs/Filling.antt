@@ -7,7 +7,7 @@ use native.Mathlib.Omega.{arith}
 use borrow.Author.Tests.{eq-eqb, ne-eqb}
 use lib.ListN.{drop, replicate, drop-of-length-le}
 use lib.Seq.{drop-cons}
-use Rattle.definitions.specs.Basics.{ℕ, zero, suc, _+_, _-_, _*_, _^_, _<_, Bool, true, false, not, _&&_, cond, List, [], _∷_, map, length, getD, eqb, ltb, sum, product, keep}
+use Rattle.definitions.specs.Basics.{ℕ, suc, _+_, _-_, _*_, _<_, Bool, true, not, _&&_, cond, List, [], _∷_, map, length, getD, eqb, ltb, sum, keep}
 use Rattle.definitions.specs.Syntax as Said
 use Rattle.definitions.specs.Syntax.{patientAt}
 use Rattle.partial_rows.specs.Sets.{only}
@@ -15,24 +15,28 @@ use Rattle.partial_rows.specs.Rows.{holds, decidedTables}
 use Rattle.partial_rows.specs.Bounds.{leastEntry}
 use Rattle.held_region.specs.declared.Table.{Table}
 use Rattle.held_region.specs.declared.Region.{Region}
-use Rattle.held_region.specs.Held.{Holds, noPatient, tableAt, storeOf}
-use Rattle.held_region.specs.Outline.{outline, tableIn, membersOf}
+use Rattle.held_region.specs.Held.{Holds, tableAt}
+use Rattle.held_region.specs.Outline.{outline, tableIn}
 use Rattle.held_region.specs.Sound.{Sound}
 use Rattle.held_region.specs.Entries.{countsMatch, entryTotal, counts-match}
 use Rattle.held_region.specs.Faithful.{patient-lines, total-told, sound-told, entry-counts-told}
-use Rattle.buckets.specs.Terms.{Answered, Planned, Term, Chain, Prepared, bucketOf, leastIn, startAt, nextAt, memberAt, strideAt, bedsAt, leastAt, firstAt}
+use Rattle.buckets.specs.Terms.{Answered, Planned, Term, Chain, Prepared, bucketOf, leastIn, bedsAt, leastAt, firstAt}
 use Rattle.buckets.specs.Least.{leastNumber}
 use Rattle.buckets.specs.Places.{strideOf, stride-same}
 use Rattle.buckets.specs.Stores.{startOf, start-next, start-all, start-most}
 use Rattle.buckets.specs.Right.{in-bucket, patients-few, tables-few, entries-few, beds-few}
 use Rattle.buckets.specs.Chains.{term-right, chain-kept, chain-lower}
-use Rattle.buckets.specs.Written.{PatientsWritten, MembersKnown, lastOf, TermKnown, TermAdded}
+use Rattle.buckets.specs.Written.{PatientsWritten, lastOf, TermKnown, TermAdded}
 use Rattle.buckets.proofs.Writing.{zeros}
-use Rattle.buckets.proofs.Held.{held-lines, least-fits, held-place, held-right, members-same, entries-same, count-same, first-same, last-same, last-known, least-told, least-one}
+use Rattle.buckets.proofs.Held.{held-lines, least-fits, held-place, held-right, members-same, entries-same, count-same}
+use Rattle.buckets.proofs.Held.{first-same, last-same, last-known, least-told, least-one}
 
--- The tables from place i on whose highest member is s.
+-- Is s the highest member? The tables from place i on of which it is.
+abbrev inBucket : ℕ → Said.Table → Bool
+inBucket s t = holds (only s) t && not (holds (ltb s) t)
+
 abbrev pub bucketFrom : Said.Region → ℕ → ℕ → List Said.Table
-bucketFrom r i s = keep (λ t. holds (only s) t && not (holds (ltb s) t)) (drop i (r .tables))
+bucketFrom r i s = keep (inBucket s) (drop i (r .tables))
 
 -- The words say the buckets of the tables from place i on.
 pub record Filled (r : Said.Region) (store : List ℕ) (i start : ℕ) (patients terms : List ℕ) : Type 0 where
@@ -50,8 +54,8 @@ module _ (h : Region) (r : Said.Region) (held : Holds h r) (a : Answered r) wher
       record {
         starts = total ∙ total-told h r held (a .counted) ∙ sym (start-all (r .tables)) ∙ ap (startOf (r .tables)) (held-lines h r held a);
         beds = λ s l. w .beds s (known s l) ∙ ap (λ p. p .bedCount) (held .patients s l);
-        least = λ s l. w .least s ∙ sym (ap (λ ts. sum (map leastEntry (keep (λ t. holds (only s) t && not (holds (ltb s) t)) ts))) none-left);
-        bucket = λ s l. subst (λ ts. Chain r (h .entries) terms (h .t) (firstAt words s) (keep (λ t. holds (only s) t && not (holds (ltb s) t)) ts)) (sym none-left) (w .first s (known s l));
+        least = λ s l. w .least s ∙ sym (ap (λ ts. sum (map leastEntry (keep (inBucket s) ts))) none-left);
+        bucket = λ s l. subst (λ ts. Chain r (h .entries) terms (h .t) (firstAt words s) (keep (inBucket s) ts)) (sym none-left) (w .first s (known s l));
       }
     where
       known : (s : ℕ) → s < length (r .patients) → s < h .v
@@ -131,7 +135,7 @@ module _ (h : Region) (r : Said.Region) (held : Holds h r) (a : Answered r) wher
 
       one-more : (s : ℕ) → bucketFrom r i s ≡ cond (eqb s (lastOf table)) (t ∷ bucketFrom r (suc i) s) (bucketFrom r (suc i) s)
       one-more s =
-          ap (keep (λ u. holds (only s) u && not (holds (ltb s) u))) (drop-cons (r .tables) i (record { members = []; entries = [] }) (held-place h r held a i l))
+          ap (keep (inBucket s)) (drop-cons (r .tables) i (record { members = []; entries = [] }) (held-place h r held a i l))
           ∙ ap (λ b. cond b (t ∷ bucketFrom r (suc i) s) (bucketFrom r (suc i) s))
           (in-bucket s t (held-right h r held a i l .some) (held-right h r held a i l .rising) ∙ ap (eqb s) (sym (last-same h r held a i l)))
 
@@ -197,7 +201,8 @@ module _ (h : Region) where
   pub counts-held : Planned h → countsMatch (outline h) ≡ true
   counts-held p = counts-match (outline h) (entry-counts-told h (p .region) (p .holds) (p .answered .counted) (p .answered .membersFit) ∙ p .answered .entryCountsFit)
 
-  pub filling-none : (start : ℕ) (words : List ℕ) → h .t ≤ 64 → PatientsWritten (h .patients) (h .v) words → start ≡ entryTotal (outline h) → Filling h (h .t) start words (replicate 640 0)
+  pub filling-none : (start : ℕ) (words : List ℕ) → h .t ≤ 64
+      → PatientsWritten (h .patients) (h .v) words → start ≡ entryTotal (outline h) → Filling h (h .t) start words (replicate 640 0)
   filling-none start words few w total =
       record {
         wide = w .wide;

@@ -6,7 +6,7 @@ use native.Mathlib.Omega.{arith}
 use lib.ListN.{length, getD, set, List·getD-eq-default}
 use Prim.Native.Nat.{ℕ, zero, suc, _+_, _-_, _*_, _^_, _≤_, _<_}
 use mathlib.Core.List.{List, _∷_, map}
-use Rattle.definitions.specs.Basics.{product, numbersFrom, below}
+use Rattle.definitions.specs.Basics.{product, numbersFrom}
 use Rattle.held_region.specs.declared.Table.{Table}
 use Rattle.held_region.specs.Outline.{membersOf}
 use Rattle.held_region.specs.Members.{membersFrom, members-next, members-done}
@@ -79,53 +79,70 @@ module _ (patients : List ℕ) (t : Table) (k : ℕ) (before : List ℕ) (known 
         let room : 16 ^ (t .members - i) ≤ 16 ^ 4 = pow-le-pow-right (zero-lt-suc 15) few in
         omega (arith, stride-most)
 
+    place : i < t .members
+    place = omega (arith, so .left)
+
+    next-place : i + 1 ≡ j
+    next-place = omega arith
+
+    room : k * 10 + 6 + i < length terms
+    room = omega (arith, so .others .wide, known .wide, known .term, known .few, place)
+
     kept : (p : ℕ) → (p ≡ k * 10 + 2 + i → ⊥) → (p ≡ k * 10 + 6 + i → ⊥) → getD after p 0 ≡ getD terms p 0
     kept = two-other terms (k * 10 + 2 + i) (k * 10 + 6 + i) member stride
+
+    others-kept : OthersKept k before after
+    others-kept =
+        record {
+          wide = two-length terms (k * 10 + 2 + i) (k * 10 + 6 + i) member stride ∙ so .others .wide;
+          lower = λ p h. kept p (λ z. omega arith) (λ z. omega arith) ∙ so .others .lower p h;
+          higher = λ p h. kept p (λ z. omega (arith, place, known .few)) (λ z. omega (arith, place, known .few)) ∙ so .others .higher p h;
+        }
+
+    member-of : (q : ℕ) → i ≤ q → q < t .members → Dec (q ≡ i) → memberAt after k q ≡ getD (t .first) q 0
+    member-of q h l (yes e) = rw e (two-first terms (k * 10 + 2 + i) (k * 10 + 6 + i) member stride (omega (arith, room)) (λ z. omega arith))
+    member-of q h l (no n) = kept (k * 10 + 2 + q) (λ z. n (omega arith)) (λ z. omega (arith, known .few)) ∙ so .members q (omega arith) l
+
+    stride-of : (q : ℕ) → i ≤ q → q < t .members → Dec (q ≡ i) → strideAt after k q ≡ strideOf (bedsAt patients) (membersOf t) q
+    stride-of q h l (yes e) =
+        rw e
+        (two-second terms (k * 10 + 2 + i) (k * 10 + 6 + i) member stride room
+        ∙ so .multiplied ∙ ap (λ n. product (map (bedsAt patients) (membersFrom t n))) (sym next-place) ∙ sym (stride-from (bedsAt patients) t i place))
+    stride-of q h l (no n) = kept (k * 10 + 6 + q) (λ z. omega (arith, known .few, place)) (λ z. n (omega arith)) ∙ so .strides q (omega arith) l
 
     pub members-more : MembersSoFar patients t k before i (stride * bedsAt patients member) after
     members-more =
         record {
           left = omega (arith, so .left);
-          others = record { wide = two-length terms (k * 10 + 2 + i) (k * 10 + 6 + i) member stride ∙ so .others .wide; lower = λ p h. kept p (λ z. omega arith) (λ z. omega arith) ∙ so .others .lower p h; higher = λ p h. kept p (λ z. omega (arith, small-place)) (λ z. omega (arith, small-place)) ∙ so .others .higher p h };
+          others = others-kept;
           members = λ q h l. member-of q h l (ℕ-discrete q i);
           strides = λ q h l. stride-of q h l (ℕ-discrete q i);
-          pastMembers = λ q h l. kept (k * 10 + 2 + q) (λ z. omega (arith, small-place)) (λ z. omega (arith, small-place)) ∙ so .pastMembers q h l;
-          pastStrides = λ q h l. kept (k * 10 + 6 + q) (λ z. omega (arith, small-place)) (λ z. omega (arith, small-place)) ∙ so .pastStrides q h l;
+          pastMembers = λ q h l. kept (k * 10 + 2 + q) (λ z. omega (arith, place)) (λ z. omega (arith, place)) ∙ so .pastMembers q h l;
+          pastStrides = λ q h l. kept (k * 10 + 6 + q) (λ z. omega (arith, place)) (λ z. omega (arith, place)) ∙ so .pastStrides q h l;
           multiplied =
               ap (λ n. n * bedsAt patients member) (so .multiplied) ∙ mul-comm _ _
-              ∙ sym (ap (λ l. product (map (bedsAt patients) l)) (members-next t i small-place ∙ ap (λ n. member ∷ membersFrom t n) next-place));
+              ∙ sym (ap (λ l. product (map (bedsAt patients) l)) (members-next t i place ∙ ap (λ n. member ∷ membersFrom t n) next-place));
           small = stride-most;
         }
-      where
-        small-place : i < t .members
-        small-place = omega (arith, so .left)
-
-        next-place : i + 1 ≡ j
-        next-place = omega arith
-
-        member-of : (q : ℕ) → i ≤ q → q < t .members → Dec (q ≡ i) → memberAt after k q ≡ getD (t .first) q 0
-        member-of q h l (yes e) = rw e (two-first terms (k * 10 + 2 + i) (k * 10 + 6 + i) member stride (omega (arith, so .others .wide, known .wide, known .term, known .few, small-place)) (λ z. omega arith))
-        member-of q h l (no n) = kept (k * 10 + 2 + q) (λ z. n (omega arith)) (λ z. omega (arith, known .few)) ∙ so .members q (apart q h n) l
-          where
-            apart : (q : ℕ) → i ≤ q → (q ≡ i → ⊥) → j ≤ q
-            apart q h n = omega arith
-
-        stride-of : (q : ℕ) → i ≤ q → q < t .members → Dec (q ≡ i) → strideAt after k q ≡ strideOf (bedsAt patients) (membersOf t) q
-        stride-of q h l (yes e) = rw e (two-second terms (k * 10 + 2 + i) (k * 10 + 6 + i) member stride (omega (arith, so .others .wide, known .wide, known .term, known .few, small-place))
-            ∙ so .multiplied ∙ ap (λ n. product (map (bedsAt patients) (membersFrom t n))) (sym next-place) ∙ sym (stride-from (bedsAt patients) t i small-place))
-        stride-of q h l (no n) = kept (k * 10 + 6 + q) (λ z. omega (arith, known .few, small-place)) (λ z. n (omega arith)) ∙ so .strides q (omega arith) l
 
   -- All members.
   pub members-written : (stride : ℕ) (terms : List ℕ) (j : ℕ) → j ≤ 0 → MembersSoFar patients t k before j stride terms → MembersWritten patients t k before terms
-  members-written stride terms j done so = record { others = so .others; members = λ blank i h. member-of blank i h (decLt i (t .members)); strides = λ blank i h. stride-of blank i h (decLt i (t .members)) }
+  members-written stride terms j done so =
+      record {
+        others = so .others;
+        members = λ blank i h. member-of blank i h (decLt i (t .members));
+        strides = λ blank i h. stride-of blank i h (decLt i (t .members));
+      }
     where
       counted : length (membersOf t) ≡ t .members
       counted = length-by-places (λ i. getD (t .first) i 0) 0 (t .members)
 
-      member-of : ((i : ℕ) → i < 4 → memberAt before k i ≡ 0) → (i : ℕ) → i < 4 → Dec (i < t .members) → memberAt terms k i ≡ getD (membersOf t) i 0
+      member-of : ((i : ℕ) → i < 4 → memberAt before k i ≡ 0) → (i : ℕ) → i < 4 → Dec (i < t .members)
+          → memberAt terms k i ≡ getD (membersOf t) i 0
       member-of blank i h (yes l) = so .members i (omega arith) l ∙ sym (at-place (λ n. getD (t .first) n 0) 0 (t .members) i l)
       member-of blank i h (no l) = so .pastMembers i (omega arith) h ∙ blank i h ∙ sym (List·getD-eq-default (membersOf t) 0 (omega (arith, counted)))
 
-      stride-of : ((i : ℕ) → i < 4 → strideAt before k i ≡ 0) → (i : ℕ) → i < 4 → Dec (i < t .members) → strideAt terms k i ≡ strideOf (bedsAt patients) (membersOf t) i
+      stride-of : ((i : ℕ) → i < 4 → strideAt before k i ≡ 0) → (i : ℕ) → i < 4 → Dec (i < t .members)
+          → strideAt terms k i ≡ strideOf (bedsAt patients) (membersOf t) i
       stride-of blank i h (yes l) = so .strides i (omega arith) l
       stride-of blank i h (no l) = so .pastStrides i (omega arith) h ∙ blank i h ∙ sym (stride-past (bedsAt patients) (membersOf t) i (omega (arith, counted)))

@@ -1,5 +1,5 @@
 -- Two words written into a list of words. Assumes nothing.
-use mathlib.Core.Path.{_≡_, refl, ap, _∙_}
+use mathlib.Core.Path.{_≡_, refl, _∙_}
 use native.Mathlib.Decide.{ℕ-discrete}
 use native.Mathlib.Omega.{arith}
 use lib.ListN.{length, getD, set, replicate, length-set}
@@ -38,7 +38,13 @@ module _ (patients : List Patient) (words : List ℕ) (s : ℕ) (h : s < 32) (wr
   after = set (set words (s * 3) beds) (s * 3 + 2) 64
 
   pub patients-more : PatientsWritten patients (s + 1) after
-  patients-more = record { wide = two-length words (s * 3) (s * 3 + 2) beds 64 ∙ written .wide; beds = λ q l. beds-of q l (ℕ-discrete q s); least = least-of; first = λ q l. first-of q l (ℕ-discrete q s) }
+  patients-more =
+      record {
+        wide = two-length words (s * 3) (s * 3 + 2) beds 64 ∙ written .wide;
+        beds = λ q l. beds-of q l (ℕ-discrete q s);
+        least = least-of;
+        first = λ q l. first-of q l (ℕ-discrete q s);
+      }
     where
       beds-of : (q : ℕ) → q < s + 1 → Dec (q ≡ s) → bedsAt after q ≡ getD patients q noPatient .beds
       beds-of q l (yes e) = rw e (two-first words (s * 3) (s * 3 + 2) beds 64 (omega (arith, written .wide)) (λ z. omega arith))

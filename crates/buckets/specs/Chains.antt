@@ -5,13 +5,13 @@ use native.Mathlib.Decide.{decLt}
 use native.Mathlib.Nat.{one-mul, le-trans, mul-le-mul-right}
 use native.Mathlib.Omega.{arith}
 use lib.ListN.{List·getD-eq-default}
-use Rattle.definitions.specs.Basics.{ℕ, zero, suc, _+_, _*_, _<_, _≡_, refl, none, List, [], _∷_, map, length, getD, numbersFrom, below, sum, product}
-use Rattle.definitions.specs.Syntax.{Table, Region, patientAt, bedCounts}
-use Rattle.definitions.specs.Plans.{Plan, bedOf, place, entryFor}
-use Rattle.held_region.specs.Held.{tableAt, codeOf, storeOf}
+use Rattle.definitions.specs.Basics.{ℕ, zero, suc, _+_, _*_, _<_, _≡_, refl, List, [], _∷_, map, length, getD, numbersFrom, sum, product}
+use Rattle.definitions.specs.Syntax.{Table, Region, patientAt}
+use Rattle.definitions.specs.Plans.{Plan, bedOf, entryFor}
+use Rattle.held_region.specs.Held.{tableAt, storeOf}
 use Rattle.buckets.specs.Terms.{Answered, Fitting, startAt, nextAt, memberAt, strideAt, placeAt, Term, Chain}
-use Rattle.buckets.specs.Places.{strideOf, placeOf, stride-past, place-strides, place-bound}
-use Rattle.buckets.specs.Stores.{startOf, entriesOf, start-next, start-most, stored-at}
+use Rattle.buckets.specs.Places.{strideOf, placeOf, place-strides, place-bound}
+use Rattle.buckets.specs.Stores.{startOf, start-next, start-most, stored-at}
 use Rattle.buckets.specs.Right.{TableRight, table-right, patients-few, entries-few, beds-some, entry-small}
 
 sum-same : (f g : ℕ → ℕ) (a n : ℕ) → ((j : ℕ) → j < a + n → f j ≡ g j) → sum (map f (numbersFrom a n)) ≡ sum (map g (numbersFrom a n))
@@ -24,7 +24,8 @@ whole-most count s members h =
     let rest : 1 * product (map count members) ≤ count s * product (map count members) = mul-le-mul-right (product (map count members)) h in
     omega (arith, one-mul (product (map count members)))
 
-stride-most : (count : ℕ → ℕ) (members : List ℕ) → ((j : ℕ) → j < length members → 1 ≤ count (getD members j 0)) → (j : ℕ) → strideOf count members j ≤ product (map count members)
+stride-most : (count : ℕ → ℕ) (members : List ℕ) → ((j : ℕ) → j < length members → 1 ≤ count (getD members j 0)) → (j : ℕ)
+    → strideOf count members j ≤ product (map count members)
 unfolding strideOf
 stride-most count [] each j = omega arith
 stride-most count (s ∷ members) each zero = whole-most count s members (each 0 (omega arith))
@@ -106,7 +107,8 @@ module _ (r : Region) (store before after : List ℕ) where
   )
 
 -- A chain that begins no lower begins no lower than before that.
-pub chain-lower : (r : Region) (store terms : List ℕ) (low lower p : ℕ) (tables : List Table) → lower ≤ low → Chain r store terms low p tables → Chain r store terms lower p tables
+pub chain-lower : (r : Region) (store terms : List ℕ) (low lower p : ℕ) (tables : List Table) → lower ≤ low
+    → Chain r store terms low p tables → Chain r store terms lower p tables
 unfolding Chain
 chain-lower r store terms low lower p [] h chain = chain
 chain-lower r store terms low lower p (t ∷ tables) h (above, inside, term, rest) = (omega arith, inside, term, rest)

@@ -1,7 +1,7 @@
 -- The place of beds among all of their members', as a sum of strides. Assumes nothing.
 use mathlib.Core.Path.{sym, ap, ap₂, _∙_}
 use Prim.Native.Nat.{_≤_}
-use native.Mathlib.Nat.{mul-comm, mul-le-mul-right, le-trans}
+use native.Mathlib.Nat.{mul-le-mul-right}
 use native.Mathlib.Omega.{arith}
 use Rattle.definitions.specs.Basics.{ℕ, zero, suc, _+_, _*_, _<_, _≡_, refl, List, [], _∷_, map, length, getD, numbersFrom, below, sum, product}
 use Rattle.definitions.specs.Plans.{place}

@@ -1,13 +1,12 @@
 -- What the answers say of each patient and each table. Assumes nothing.
-use mathlib.Core.Path.{sym, ap, ap₂, _∙_}
+use mathlib.Core.Path.{sym, ap, _∙_}
 use mathlib.Core.Bool.{and-false}
 use Prim.Native.Nat.{_≤_}
-use native.Mathlib.Nat.{mul-le-mul-right}
 use native.Mathlib.Omega.{arith}
 use borrow.Author.Tests.{ltb-true, lt-ltb, le-ltb, eqb-true}
-use Rattle.definitions.specs.Basics.{ℕ, zero, suc, _+_, _-_, _*_, _<_, _≡_, refl, Bool, true, false, not, _&&_, _||_, Option, none, some, noneOr, List, [], _∷_, map, length, getD, eqb, ltb, sum, product, every, everyTwo, any}
+use Rattle.definitions.specs.Basics.{ℕ, zero, suc, _-_, _<_, _≡_, refl, Bool, true, false, not, _&&_, _||_, Option, none, some, noneOr, List, [], _∷_, length, getD, eqb, ltb, product, every, everyTwo, any}
 use Rattle.definitions.specs.Limits.{limits, within, patientCount, tableCount, clinic, bedCount, memberCount, entry, entryCount}
-use Rattle.definitions.specs.Syntax.{Patient, Table, Region, patientAt, bedCounts}
+use Rattle.definitions.specs.Syntax.{Table, Region, patientAt, bedCounts}
 use Rattle.definitions.specs.Questions.{countsTrue, countsWithin, patientsWithin, membersRight, entryCountsRight, entriesWithin}
 use Rattle.theorems.specs.Tests.{both}
 use Rattle.theorems.specs.Every.{every-at}

@@ -1,5 +1,5 @@
 -- Where the store has the entries of each table. Assumes nothing.
-use mathlib.Core.Path.{sym, ap, ap₂, _∙_}
+use mathlib.Core.Path.{ap, ap₂, _∙_}
 use mathlib.Core.List.{flatMap}
 use Prim.Native.Nat.{_≤_}
 use native.Mathlib.Omega.{arith}

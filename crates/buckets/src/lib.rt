@@ -19,6 +19,9 @@ pub struct Buckets {
     pub terms: [u32; 640],
 }
 
+// The end of a bucket: no table has this number.
+const NO_TERM: u32 = 64;
+
 // The words of the patients before any table is put into its bucket.
 fn patient_words(patients: [Patient; 32], v: usize) -> [u32; 96]
     requires { ⌜ v ≤ 32 ⌝ }
@@ -34,9 +37,6 @@ fn patient_words(patients: [Patient; 32], v: usize) -> [u32; 96]
     }
     words
 }
-
-// The end of a bucket: no table has this number.
-const NO_TERM: u32 = 64;
 
 // The least number of a part of the store, or 0 where all of it is forbidden.
 fn least_number(entries: &[u32; 4096], from: usize, to: usize) -> u32

@@ -2,10 +2,6 @@ use borrow.Author.Needs.{needs}
 use Rattle.buckets.proofs.Adding.{term-added}
 use Rattle.buckets.proofs.add_term.Statement.{statement}
 use Rattle.buckets.proofs.add_term.Tie as tie
-use Rattle.buckets.proofs.add_term.Reads as reads
-use Rattle.buckets.proofs.add_term.Lts as lts
-use Rattle.buckets.proofs.least_number.Reads as least-number-reads
-use Rattle.buckets.proofs.write_members.Reads as write-members-reads
 
 add-least-number : tie.Need-add-least-number
 add-least-number c = search needs

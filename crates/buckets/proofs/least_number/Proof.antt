@@ -1,14 +1,11 @@
 use borrow.Author.Needs.{needs}
 use mathlib.Core.Logic.{⊎-elim}
-use mathlib.Core.Path.{_≡_, refl, sym, ap, _∙_}
+use mathlib.Core.Path.{_≡_, refl, ap, _∙_}
 use Prim.Native.Nat.{_+_, _-_}
-use native.Mathlib.Omega.{arith}
 use Rattle.held_region.specs.Held.{mark}
 use Rattle.buckets.specs.Least.{lowest, codesIn, code-lower, code-kept, codes-done, none-found, number-found}
 use Rattle.buckets.proofs.least_number.Statement.{statement}
 use Rattle.buckets.proofs.least_number.Tie as tie
-use Rattle.buckets.proofs.least_number.Reads as reads
-use Rattle.buckets.proofs.least_number.Lts as lts
 
 abbrev Inv-loop : tie.InvT-loop
 Inv-loop entries from to least₀ i₀ least i = lowest least (codesIn entries i to) ≡ lowest mark (codesIn entries from to)

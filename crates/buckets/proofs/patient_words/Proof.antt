@@ -1,14 +1,11 @@
 use borrow.Author.Needs.{needs}
-use mathlib.Core.Path.{_≡_, refl, _∙_}
+use mathlib.Core.Path.{_≡_, refl}
 use Prim.Native.Nat.{_+_, _*_, _-_, _≤_}
 use native.Mathlib.Omega.{arith}
-use lib.ListN.{length}
 use Rattle.buckets.specs.Written.{PatientsWritten}
 use Rattle.buckets.proofs.Writing.{zeros, patients-more}
 use Rattle.buckets.proofs.patient_words.Statement.{statement}
 use Rattle.buckets.proofs.patient_words.Tie as tie
-use Rattle.buckets.proofs.patient_words.Reads as reads
-use Rattle.buckets.proofs.patient_words.Lts as lts
 
 abbrev Inv-loop : tie.InvT-loop
 Inv-loop v patients words₀ s₀ words s = (s ≤ v) × PatientsWritten patients s words

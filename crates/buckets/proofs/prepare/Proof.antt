@@ -1,13 +1,7 @@
 use borrow.Author.Needs.{needs}
-use native.Mathlib.Omega.{arith}
 use Rattle.buckets.proofs.Filling.{Filling, sound-held, counts-held, filling-none, filling-all, filling-start, filling-known, filling-more}
 use Rattle.buckets.proofs.prepare.Statement.{statement}
 use Rattle.buckets.proofs.prepare.Tie as tie
-use Rattle.buckets.proofs.prepare.Reads as reads
-use Rattle.buckets.proofs.prepare.Lts as lts
-use Rattle.buckets.proofs.add_term.Reads as add-term-reads
-use Rattle.buckets.proofs.patient_words.Reads as patient-words-reads
-use Rattle.held_region.proofs.entries.entry_total.Reads as entry-total-reads
 
 abbrev Inv-loop : tie.InvT-loop
 Inv-loop region patients₀ terms₀ start₀ i₀ patients terms start i = Filling region i start patients terms
@@ -34,16 +28,22 @@ element-copy-out-table : tie.Need-element-copy-out-table Inv-loop μ-loop
 element-copy-out-table c = search needs
 
 sub-start : tie.Need-sub-start Inv-loop μ-loop
-sub-start c = filling-start _ _ _ _ _ (c .before .before .loop-test .taken) (c .before .before .before .loop .inv) (c .before .before .before .before .before .before .before .pre)
+sub-start c =
+    let turn = c .before .before in
+    filling-start _ _ _ _ _ (turn .loop-test .taken) (turn .before .loop .inv) (turn .before .before .before .before .before .pre)
 
 add-term-requires : tie.Need-add-term-requires Inv-loop μ-loop
-add-term-requires c κs = filling-known _ _ _ _ _ (c .before .before .before .before .before .before .loop-test .taken) (c .before .before .before .before .before .before .before .loop .inv) (c .before .before .before .before .before .before .before .before .before .before .before .pre)
+add-term-requires c κs =
+    let turn = c .before .before .before .before .before .before in
+    filling-known _ _ _ _ _ (turn .loop-test .taken) (turn .before .loop .inv) (turn .before .before .before .before .before .pre)
 
 loop-less : tie.Need-loop-less Inv-loop μ-loop
 loop-less c = search needs
 
 loop-again : tie.Need-loop-again Inv-loop μ-loop
-loop-again c = filling-more _ _ _ _ _ (c .before .before .before .before .before .before .before .loop-test .taken) (c .before .before .before .before .before .before .before .before .loop .inv) (c .add-term .ensures)
+loop-again c =
+    let turn = c .before .before .before .before .before .before .before in
+    filling-more _ _ _ _ _ (turn .loop-test .taken) (turn .before .loop .inv) (c .add-term .ensures)
 
 returns : tie.Need-returns Inv-loop μ-loop
 returns c = filling-all _ _ _ _ _ (c .loop-test .left) (c .before .loop .inv)

@@ -4,8 +4,6 @@ use Rattle.buckets.specs.Written.{MembersSoFar}
 use Rattle.buckets.proofs.Members.{place-left, members-none, members-more, stride-fits, members-written}
 use Rattle.buckets.proofs.write_members.Statement.{statement}
 use Rattle.buckets.proofs.write_members.Tie as tie
-use Rattle.buckets.proofs.write_members.Reads as reads
-use Rattle.buckets.proofs.write_members.Lts as lts
 
 abbrev Inv-loop : tie.InvT-loop
 Inv-loop terms₀ patients k table stride₀ j₀ terms stride j = MembersSoFar patients table k terms₀ j stride terms
