@@ -1,1 +1,7 @@
 pub mod Terms
+pub mod Places
+pub mod Least
+pub mod Written
+pub mod Stores
+pub mod Right
+pub mod Chains

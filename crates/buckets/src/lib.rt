@@ -1,8 +1,117 @@
 // The tables by their highest members, in a form in which a walk finds an entry at once.
+use held_region::FORBIDDEN;
+use held_region::Patient;
+use held_region::Region;
+use held_region::Table;
+use held_region::entries::entry_total;
+ghost use mathlib.Core.Path.{_≡_};
+ghost use Prim.Native.Nat.{_≤_, _<_};
+ghost use Rattle.definitions.specs.Syntax as Said;
+ghost use Rattle.held_region.specs.Held.{Holds};
+ghost use Rattle.buckets.specs.Terms.{Answered, Planned, Prepared};
+ghost use Rattle.buckets.specs.Least.{leastNumber};
+ghost use Rattle.buckets.specs.Written.{PatientsWritten, MembersKnown, MembersWritten, TermKnown, TermAdded};
 
 // For each patient three words: its count of beds, the sum of the least numbers of its bucket, and the first term of its bucket.
 // For each table a term of ten words: the start of its entries, the next term of the bucket, four members and their strides.
 pub struct Buckets {
     pub patients: [u32; 96],
     pub terms: [u32; 640],
+}
+
+// The end of a bucket: no table has this number.
+const NO_TERM: u32 = 64;
+
+// The words of the patients before any table is put into its bucket.
+fn patient_words(patients: [Patient; 32], v: usize) -> [u32; 96]
+    requires { ⌜ v ≤ 32 ⌝ }
+    ensures { λ words. ⌜ PatientsWritten patients v words ⌝ }
+{
+    let mut words = [0u32; 96];
+    let mut s = 0;
+    while s < v {
+        let patient = patients[s];
+        words[s * 3] = patient.beds;
+        words[s * 3 + 2] = NO_TERM;
+        s += 1;
+    }
+    words
+}
+
+// The least number of a part of the store, or 0 where all of it is forbidden.
+fn least_number(entries: &[u32; 4096], from: usize, to: usize) -> u32
+    requires { ⌜ to ≤ 4096 ⌝ }
+    ensures { λ n. ⌜ n ≡ leastNumber (now (entries .entry)) from to ⌝ }
+{
+    let mut least = FORBIDDEN;
+    let mut i = from;
+    while i < to {
+        let code = entries[i];
+        if code < least {
+            least = code;
+        }
+        i += 1;
+    }
+    if least == FORBIDDEN { 0 } else { least }
+}
+
+// The members of a table, and for each the product of the bed counts of the members after it.
+fn write_members(terms: &mut [u32; 640], patients: &[u32; 96], table: Table, k: usize)
+    requires { ⌜ MembersKnown (now patients) table k (now terms) ⌝ }
+    ensures { λ r. ⌜ MembersWritten (now (patients .entry)) table k (now (terms .entry)) (now (terms .exit)) ⌝ }
+{
+    let mut stride: u32 = 1;
+    let mut j = table.members;
+    while 0 < j {
+        j -= 1;
+        let member = table.first[j];
+        let s = member as usize;
+        terms[k * 10 + 2 + j] = member;
+        terms[k * 10 + 6 + j] = stride;
+        stride = stride * patients[s * 3];
+    }
+}
+
+// A table as a term in front of its bucket, which is that of its last member: members rise.
+fn add_term(
+    patients: &mut [u32; 96],
+    terms: &mut [u32; 640],
+    entries: &[u32; 4096],
+    table: Table,
+    k: usize,
+    start: usize,
+)
+    requires { ⌜ TermKnown (now entries) table k start (now patients) (now terms) ⌝ }
+    ensures { λ r. ⌜ TermAdded (now (entries .entry)) table k start (now (patients .entry)) (now (patients .exit)) (now (terms .entry)) (now (terms .exit)) ⌝ }
+{
+    let least = least_number(entries, start, start + table.entries);
+    write_members(terms, patients, table, k);
+    let last = table.members - 1;
+    let s = table.first[last] as usize;
+    terms[k * 10] = start as u32;
+    terms[k * 10 + 1] = patients[s * 3 + 2];
+    patients[s * 3 + 1] += least;
+    patients[s * 3 + 2] = k as u32;
+}
+
+// Every table as a term in the bucket of its highest member. From the last table on, so that each bucket has the order of the file.
+pub fn prepare(region: Region) -> Buckets
+    requires { ⌜ Planned region ⌝ }
+    ensures { λ b. ⌜ ((r : Said.Region) → Holds region r → Answered r → Prepared r (region .entries) (b .patients) (b .terms)) ⌝ }
+{
+    let held = region.patients;
+    let mut patients = patient_words(held, region.v);
+    let mut terms = [0u32; 640];
+    let mut start = entry_total(region);
+    let mut i = region.t;
+    while 0 < i {
+        i -= 1;
+        let table = region.tables[i];
+        start -= table.entries;
+        add_term(&mut patients, &mut terms, &region.entries, table, i, start);
+    }
+    Buckets {
+        patients: patients,
+        terms: terms,
+    }
 }

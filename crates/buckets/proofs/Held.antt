@@ -1,0 +1,120 @@
+-- A held table of a region that can be planned: its words, and the least of its numbers. Assumes nothing.
+use mathlib.Core.Path.{_≡_, sym, ap, _∙_}
+use Prim.Native.Nat.{_≤_}
+use native.Mathlib.Omega.{arith}
+use borrow.Author.Tests.{lt-ltb}
+use lib.ListN.{drop, length-drop, length-replicate}
+use Rattle.definitions.specs.Basics.{ℕ, zero, suc, _+_, _-_, _*_, _<_, refl, Bool, true, false, cond, Option, none, some, Option·getD, noneOr, List, [], _∷_, map, length, getD, ltb, sum, every, keep}
+use Rattle.definitions.specs.Limits.{limits, within, entry}
+use Rattle.definitions.specs.Questions.{entriesWithin}
+use Rattle.definitions.specs.Syntax as Said
+use Rattle.theorems.specs.Tests.{both}
+use Rattle.theorems.specs.Every.{every-weaken}
+use Rattle.theorems.specs.Accepted.{at-most}
+use Rattle.partial_rows.specs.Bounds.{smaller, leastOf, leastEntry}
+use Rattle.held_region.specs.declared.Table.{Table}
+use Rattle.held_region.specs.declared.Region.{Region}
+use Rattle.held_region.specs.Held.{Holds, HoldsTable, noTable, mark, tableAt, storeOf}
+use Rattle.held_region.specs.Outline.{tableIn, membersOf}
+use Rattle.held_region.specs.Places.{length-by-places, at-place}
+use Rattle.held_region.specs.Faithful.{table-lines, members-told, entries-counted}
+use Rattle.buckets.specs.Terms.{Answered}
+use Rattle.buckets.specs.Least.{leastNumber, least-of-entries}
+use Rattle.buckets.specs.Stores.{startOf, stored-at}
+use Rattle.buckets.specs.Right.{TableRight, table-right, entries-few, tables-few}
+use Rattle.buckets.specs.Written.{lastOf}
+
+-- ---- least numbers
+
+below-mark : (o : Option ℕ) → noneOr (within entry) o ≡ true → noneOr (λ n. ltb n mark) o ≡ true
+unfolding limits
+below-mark none h = refl
+below-mark (some e) h = lt-ltb e mark (omega (arith, at-most entry e h))
+
+least-small : (es : List (Option ℕ)) → every (noneOr (within entry)) es ≡ true → Option·getD (leastOf es) 0 ≤ 1_000_000
+unfolding limits
+least-small [] all = omega arith
+least-small (none ∷ es) all = least-small es all
+least-small (some x ∷ es) all = go (leastOf es) (at-most entry x (both (within entry x) all .0))
+  where
+    go : (o : Option ℕ) → x ≤ 1_000_000 → Option·getD (smaller (some x) o) 0 ≤ 1_000_000
+    go none h = h
+    go (some y) h = omega arith
+
+abbrev fitting : Said.Table → Bool
+fitting t = every (noneOr (within entry)) (t .entries)
+
+sum-small : (f : Said.Table → Bool) (tables : List Said.Table) → every fitting tables ≡ true → sum (map leastEntry (keep f tables)) ≤ length tables * 1_000_000
+unfolding leastEntry
+sum-small f [] all = omega arith
+sum-small f (t ∷ tables) all =
+    let parts = both (fitting t) all in
+    go (f t) (least-small (t .entries) (parts .0)) (sum-small f tables (parts .1))
+  where
+    go : (b : Bool) → leastEntry t ≤ 1_000_000 → sum (map leastEntry (keep f tables)) ≤ length tables * 1_000_000
+        → sum (map leastEntry (cond b (t ∷ keep f tables) (keep f tables))) ≤ suc (length tables) * 1_000_000
+    go true h k = omega arith
+    go false h k = omega arith
+
+every-drop : {A : Type 0} (p : A → Bool) (i : ℕ) (l : List A) → every p l ≡ true → every p (drop i l) ≡ true
+every-drop p zero l all = all
+every-drop p (suc i) [] all = all
+every-drop p (suc i) (x ∷ l) all = every-drop p i l (both (p x) all .1)
+
+-- ---- a held table
+
+module _ (h : Region) (r : Said.Region) (holds : Holds h r) (a : Answered r) where
+  pub held-lines : length (r .tables) ≡ h .t
+  held-lines = table-lines h r holds (a .counted)
+
+  -- The sum of some tables' least numbers, and one more, fits.
+  pub least-fits : (f : Said.Table → Bool) (i n : ℕ) → n ≡ sum (map leastEntry (keep f (drop i (r .tables)))) → n ≤ 64_000_000
+  unfolding entriesWithin
+  least-fits f i n is =
+      omega (arith, sum-small f (drop i (r .tables)) (every-drop fitting i (r .tables) (a .entriesFit)), length-drop i (r .tables), tables-few r a)
+
+  module _ (i : ℕ) (l : i < h .t) where
+    abbrev table : Table
+    table = tableIn h i
+
+    abbrev t : Said.Table
+    t = tableAt r i
+
+    pub held-place : i < length (r .tables)
+    held-place = omega (arith, held-lines)
+
+    pub held-right : TableRight r t
+    held-right = table-right r a i held-place
+
+    holds-table : HoldsTable (getD (h .tables) i noTable) t
+    holds-table = holds .tables i held-place
+
+    pub members-same : membersOf table ≡ t .members
+    members-same = members-told h t i holds-table (held-right .few)
+
+    pub entries-same : table .entries ≡ length (t .entries)
+    entries-same = sym (length-replicate (table .entries) none) ∙ entries-counted h t i holds-table
+
+    pub count-same : table .members ≡ length (t .members)
+    count-same = sym (length-by-places (λ j. getD (table .first) j 0) 0 (table .members)) ∙ ap length members-same
+
+    pub first-same : (j : ℕ) → j < table .members → getD (table .first) j 0 ≡ getD (t .members) j 0
+    first-same j m = sym (at-place (λ n. getD (table .first) n 0) 0 (table .members) j m) ∙ ap (λ ms. getD ms j 0) members-same
+
+    pub last-same : lastOf table ≡ getD (t .members) (length (t .members) - 1) 0
+    last-same = first-same (table .members - 1) (omega (arith, count-same, held-right .some)) ∙ ap (λ n. getD (t .members) (n - 1) 0) count-same
+
+    pub last-known : lastOf table < length (r .patients)
+    last-known = omega (arith, last-same, held-right .known (length (t .members) - 1) (omega (arith, held-right .some)))
+
+    pub least-told : leastNumber (h .entries) (startOf (r .tables) i) (startOf (r .tables) i + table .entries) ≡ leastEntry t
+    unfolding leastEntry
+    least-told =
+        ap (λ n. leastNumber (h .entries) (startOf (r .tables) i) (startOf (r .tables) i + n)) entries-same
+        ∙ ap (λ store. leastNumber store (startOf (r .tables) i) (startOf (r .tables) i + length (t .entries))) (holds .entries)
+        ∙ least-of-entries (storeOf (r .tables)) (startOf (r .tables) i) (t .entries) (λ q m. stored-at (r .tables) i q (entries-few r a) held-place m)
+        (every-weaken (noneOr (within entry)) (noneOr (λ n. ltb n mark)) below-mark (t .entries) (held-right .within))
+
+    pub least-one : leastEntry t ≤ 1_000_000
+    unfolding leastEntry
+    least-one = least-small (t .entries) (held-right .within)

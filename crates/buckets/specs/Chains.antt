@@ -1,0 +1,114 @@
+-- When the words of a term are right, and what leaves a chain of terms as it is. Assumes nothing.
+use mathlib.Core.Path.{sym, ap, ap₂, _∙_, subst}
+use Prim.Native.Nat.{_≤_}
+use native.Mathlib.Decide.{decLt}
+use native.Mathlib.Nat.{one-mul, le-trans, mul-le-mul-right}
+use native.Mathlib.Omega.{arith}
+use lib.ListN.{List·getD-eq-default}
+use Rattle.definitions.specs.Basics.{ℕ, zero, suc, _+_, _*_, _<_, _≡_, refl, List, [], _∷_, map, length, getD, numbersFrom, sum, product}
+use Rattle.definitions.specs.Syntax.{Table, Region, patientAt}
+use Rattle.definitions.specs.Plans.{Plan, bedOf, entryFor}
+use Rattle.held_region.specs.Held.{tableAt, storeOf}
+use Rattle.buckets.specs.Terms.{Answered, Fitting, startAt, nextAt, memberAt, strideAt, placeAt, Term, Chain}
+use Rattle.buckets.specs.Places.{strideOf, placeOf, place-strides, place-bound}
+use Rattle.buckets.specs.Stores.{startOf, start-next, start-most, stored-at}
+use Rattle.buckets.specs.Right.{TableRight, table-right, patients-few, entries-few, beds-some, entry-small}
+
+sum-same : (f g : ℕ → ℕ) (a n : ℕ) → ((j : ℕ) → j < a + n → f j ≡ g j) → sum (map f (numbersFrom a n)) ≡ sum (map g (numbersFrom a n))
+sum-same f g a zero same = refl
+sum-same f g a (suc n) same = ap₂ (λ x y. x + y) (same a (omega arith)) (sum-same f g (suc a) n (λ j h. same j (omega arith)))
+
+-- A stride is at most the product of all counts, where none is 0.
+whole-most : (count : ℕ → ℕ) (s : ℕ) (members : List ℕ) → 1 ≤ count s → product (map count members) ≤ count s * product (map count members)
+whole-most count s members h =
+    let rest : 1 * product (map count members) ≤ count s * product (map count members) = mul-le-mul-right (product (map count members)) h in
+    omega (arith, one-mul (product (map count members)))
+
+stride-most : (count : ℕ → ℕ) (members : List ℕ) → ((j : ℕ) → j < length members → 1 ≤ count (getD members j 0)) → (j : ℕ)
+    → strideOf count members j ≤ product (map count members)
+unfolding strideOf
+stride-most count [] each j = omega arith
+stride-most count (s ∷ members) each zero = whole-most count s members (each 0 (omega arith))
+stride-most count (s ∷ members) each (suc j) =
+    le-trans (stride-most count members (λ i l. each (suc i) (omega arith)) j) (whole-most count s members (each 0 (omega arith)))
+
+-- The term of a table, from its words.
+module _ (r : Region) (a : Answered r) (i : ℕ) (h : i < length (r .tables)) (terms : List ℕ) where
+  abbrev t : Table
+  t = tableAt r i
+
+  abbrev count : ℕ → ℕ
+  count s = patientAt r s .bedCount
+
+  right : TableRight r t
+  right = table-right r a i h
+
+  -- The entries begin and end in the store.
+  ends : startOf (r .tables) i + length (t .entries) ≤ 4096
+  ends = omega (arith, start-next (r .tables) i h, start-most (r .tables) (suc i), entries-few r a)
+
+  module _ (starts : startAt terms i ≡ startOf (r .tables) i) (members : (j : ℕ) → j < 4 → memberAt terms i j ≡ getD (t .members) j 0)
+      (strides : (j : ℕ) → j < 4 → strideAt terms i j ≡ strideOf count (t .members) j) where
+    places : (plan : Plan) → placeAt terms i plan ≡ startOf (r .tables) i + placeOf count (bedOf plan) (t .members)
+    unfolding placeAt
+    places plan =
+        ap₂ (λ n m. n + m) starts
+        (sum-same _ (λ j. bedOf plan (getD (t .members) j 0) * strideOf count (t .members) j) 0 4
+        (λ j l. ap₂ (λ s n. bedOf plan s * n) (members j (omega arith)) (strides j (omega arith)))
+        ∙ sym (place-strides count (bedOf plan) (t .members) 4 (right .few)))
+
+    bounded : (plan : Plan) → Fitting r plan → placeOf count (bedOf plan) (t .members) < length (t .entries)
+    bounded plan fits = omega (arith, right .counted, place-bound count (bedOf plan) (t .members) (λ j l. fits _ (right .known j l)))
+
+    pub term-right : Term r (storeOf (r .tables)) terms i t
+    unfolding entryFor
+    term-right =
+        record {
+          known = λ j l. omega (arith, members j l, member-small j (decLt j (length (t .members))));
+          near = λ j l. omega (arith, strides j l, stride-most count (t .members) (λ q m. beds-some r a _ (right .known q m)) j, right .counted, ends);
+          starts = omega (arith, starts, ends);
+          inside = λ plan fits. omega (arith, places plan, bounded plan fits, ends);
+          finds = λ plan fits. ap (λ n. getD (storeOf (r .tables)) n 0) (places plan) ∙ stored-at (r .tables) i _ (entries-few r a) h (bounded plan fits);
+          small = λ plan e is. entry-small (t .entries) (right .within) _ e is;
+        }
+      where
+        member-small : (j : ℕ) → Dec (j < length (t .members)) → getD (t .members) j 0 < 32
+        member-small j (yes l) = omega (arith, right .known j l, patients-few r a)
+        member-small j (no l) = omega (arith, List·getD-eq-default (t .members) 0 {n = j} (omega arith))
+
+-- Words that are the same from a place on leave the terms there as they are.
+module _ (r : Region) (store before after : List ℕ) where
+  term-kept : (k : ℕ) (t : Table) → ((p : ℕ) → k * 10 ≤ p → getD after p 0 ≡ getD before p 0) → Term r store before k t → Term r store after k t
+  unfolding placeAt
+  term-kept k t same term =
+      record {
+        known = λ j l. omega (arith, term .known j l, same (k * 10 + 2 + j) (omega arith));
+        near = λ j l. omega (arith, term .near j l, same (k * 10 + 6 + j) (omega arith));
+        starts = omega (arith, term .starts, same (k * 10) (omega arith));
+        inside = λ plan fits. omega (arith, term .inside plan fits, places plan);
+        finds = λ plan fits. ap (λ n. getD store n 0) (places plan) ∙ term .finds plan fits;
+        small = term .small;
+      }
+    where
+      places : (plan : Plan) → placeAt after k plan ≡ placeAt before k plan
+      places plan =
+          ap₂ (λ n m. n + m) (same (k * 10) (omega arith))
+          (sum-same _ _ 0 4 (λ j l. ap₂ (λ s n. bedOf plan s * n) (same (k * 10 + 2 + j) (omega arith)) (same (k * 10 + 6 + j) (omega arith))))
+
+  pub chain-kept : (low p : ℕ) (tables : List Table) → ((q : ℕ) → low * 10 ≤ q → getD after q 0 ≡ getD before q 0)
+      → Chain r store before low p tables → Chain r store after low p tables
+  unfolding Chain
+  chain-kept low p [] same chain = chain
+  chain-kept low p (t ∷ tables) same (above, inside, term, rest) = (
+    above,
+    inside,
+    term-kept p t (λ q h. same q (omega arith)) term,
+    subst (λ n. Chain r store after (suc p) n tables) (sym (same (p * 10 + 1) (omega arith))) (chain-kept (suc p) (nextAt before p) tables (λ q h. same q (omega arith)) rest),
+  )
+
+-- A chain that begins no lower begins no lower than before that.
+pub chain-lower : (r : Region) (store terms : List ℕ) (low lower p : ℕ) (tables : List Table) → lower ≤ low
+    → Chain r store terms low p tables → Chain r store terms lower p tables
+unfolding Chain
+chain-lower r store terms low lower p [] h chain = chain
+chain-lower r store terms low lower p (t ∷ tables) h (above, inside, term, rest) = (omega arith, inside, term, rest)
