@@ -18,10 +18,14 @@ use Rattle.row_sums.specs.Sums.{part, listAt, SmallRow, Small}
 use Rattle.row_sums.specs.Steps.{backwards, Holds, Kept, GivesRow, Found}
 use Rattle.row_sums.proofs.Areas.{replaced, replaced-long, part-new, part-before, part-long}
 
--- Each row of a small list is small.
-pub small-row : (v n i : ℕ) (area : List ℕ) (x : Row) → i < n → Small (rowsIn v n area) → RowRead v i area x → SmallRow (rowOf v x)
-small-row v n i area x h small r =
-    subst SmallRow (sym (r .row ∙ rows-at v n area i (rowIn v area i) h)) (small _ (getD-in (rowsIn v n area) i (rowIn v area i) (omega (arith, rows-long v n area))))
+-- Each row of a small list is small, where the list has stayed as it was.
+pub small-row : (v n i : ℕ) (area now : List ℕ) (x : Row) → i < n → Small (rowsIn v n area) → now ≡ area → RowRead v i now x → SmallRow (rowOf v x)
+small-row v n i area now x h small e r =
+    let d = rowIn v area i in
+    subst SmallRow (sym (r .row ∙ ap (λ (p : List ℕ). rowIn v p i) e ∙ rows-at v n area i d h)) (small _ (getD-in (rowsIn v n area) i d (omega (arith, rows-long v n area))))
+
+pub kept-small : (v n : ℕ) (area now : List ℕ) → Small (rowsIn v n area) → now ≡ area → Small (rowsIn v n now)
+kept-small v n area now small e = subst (λ (p : List ℕ). Small (rowsIn v n p)) (sym e) small
 
 pub none-changed : (work : List ℕ) → Kept work work
 none-changed work = record { first = refl; second = refl; long = refl }
