@@ -14,8 +14,8 @@ use Rattle.partial_rows.specs.Adding.{addRows}
 use Rattle.row_list.specs.declared.Row.{Row}
 use Rattle.row_list.specs.Rows.{rowOf, rowIn, rowsIn, RowRead, Inserted}
 use Rattle.row_list.specs.Laws.{rows-long, rows-at, rows-none}
-use Rattle.row_sums.specs.Sums.{part, listAt, SmallRow, Small}
-use Rattle.row_sums.specs.Steps.{backwards, Holds, Kept, GivesRow, Found}
+use Rattle.row_sums.specs.Sums.{part, SmallRow, Small, Asks}
+use Rattle.row_sums.specs.Steps.{backwards, Kept, AsksRow, GivesRow, Found}
 use Rattle.row_sums.proofs.Areas.{replaced, replaced-long, part-new, part-before, part-long}
 
 -- Each row of a small list is small, where the list has stayed as it was.
@@ -23,9 +23,6 @@ pub small-row : (v n i : ℕ) (area now : List ℕ) (x : Row) → i < n → Smal
 small-row v n i area now x h small e r =
     let d = rowIn v area i in
     subst SmallRow (sym (r .row ∙ ap (λ (p : List ℕ). rowIn v p i) e ∙ rows-at v n area i d h)) (small _ (getD-in (rowsIn v n area) i d (omega (arith, rows-long v n area))))
-
-pub kept-small : (v n : ℕ) (area now : List ℕ) → Small (rowsIn v n area) → now ≡ area → Small (rowsIn v n now)
-kept-small v n area now small e = subst (λ (p : List ℕ). Small (rowsIn v n p)) (sym e) small
 
 pub none-changed : (work : List ℕ) → Kept work work
 none-changed work = record { first = refl; second = refl; long = refl }
@@ -84,3 +81,16 @@ module _ (v m b : ℕ) (work : List ℕ) where
 
       more : map (addRows (rowOf v x)) (backwards v b (part 1 now)) ++ before ≡ cross addRows (backwards v (i + 1) (part 0 work)) (backwards v b (part 1 work))
       more = rw add-one (ap₂ (λ (z : Said.Row) (p : List ℕ). map (addRows z) (backwards v b p) ++ before) x-is (f .kept .second))
+
+  -- What the sums of the next row ask.
+  pub next-row : (a i n : ℕ) (now : List ℕ) (x : Row) → Asks v m a b work → i < a → Found v m b i work now n → RowRead v i (part 0 now) x → AsksRow v m n b x now
+  next-row a i n now x asks h f read = record {
+    patients = asks .patients;
+    some = asks .some;
+    wanted = asks .wanted;
+    held = f .count;
+    second = asks .second;
+    long = omega (arith, asks .long, f .kept .long);
+    small = small-row v a i (part 0 work) (part 0 now) x h (asks .firstSmall) (f .kept .first) read;
+    secondSmall = subst (λ (p : List ℕ). Small (rowsIn v b p)) (sym (f .kept .second)) (asks .secondSmall);
+  }
