@@ -1,0 +1,96 @@
+-- One more sum, and one more row with all of its sums. Assumes nothing.
+use mathlib.Core.Path.{_≡_, refl, sym, ap, ap₂, subst, _∙_}
+use native.Mathlib.Numerals.{add-one}
+use native.Mathlib.Omega.{arith}
+use Prim.Native.Nat.{_≤_}
+use lib.Seq.{take-nil}
+use Rattle.definitions.specs.Basics.{ℕ, zero, suc, _+_, _<_, List, [], _∷_, _++_, map, length, take, insert, sort, flatMap}
+use Rattle.definitions.specs.Plans as Said
+use Rattle.definitions.specs.Plans.{compareRows}
+use Rattle.ranking.specs.Members.{getD-in}
+use Rattle.ranking.specs.Sorting.{take-insert}
+use Rattle.ranking.specs.Combining.{cross}
+use Rattle.partial_rows.specs.Adding.{addRows}
+use Rattle.row_list.specs.declared.Row.{Row}
+use Rattle.row_list.specs.Rows.{rowOf, rowIn, rowsIn, RowRead, Inserted}
+use Rattle.row_list.specs.Laws.{rows-long, rows-at, rows-none}
+use Rattle.row_sums.specs.Sums.{part, SmallRow, Small, Asks}
+use Rattle.row_sums.specs.Steps.{backwards, Kept, AsksRow, GivesRow, Found}
+use Rattle.row_sums.proofs.Areas.{replaced, replaced-long, part-new, part-before, part-long}
+
+-- Each row of a small list is small, where the list has stayed as it was.
+pub small-row : (v n i : ℕ) (area now : List ℕ) (x : Row) → i < n → Small (rowsIn v n area) → now ≡ area → RowRead v i now x → SmallRow (rowOf v x)
+small-row v n i area now x h small e r =
+    let d = rowIn v area i in
+    subst SmallRow (sym (r .row ∙ ap (λ (p : List ℕ). rowIn v p i) e ∙ rows-at v n area i d h)) (small _ (getD-in (rowsIn v n area) i d (omega (arith, rows-long v n area))))
+
+pub none-changed : (work : List ℕ) → Kept work work
+none-changed work = record { first = refl; second = refl; long = refl }
+
+module _ (v m n : ℕ) (x : Row) (work : List ℕ) where
+  pub none-joined : n ≤ m → GivesRow v m n 0 x work work n
+  unfolding backwards
+  none-joined h = record { count = h; kept = none-changed work; joined = λ sums s. s }
+
+  pub one-joined : (j count r : ℕ) (now new : List ℕ) (y sum : Row) → 6_528 ≤ length now → GivesRow v m n j x work now count → RowRead v j (part 1 now) y
+      → rowOf v sum ≡ addRows (rowOf v x) (rowOf v y) → Inserted v count m sum (part 2 now) new r
+      → GivesRow v m n (j + 1) x work (replaced 4_352 new now) r
+  unfolding backwards
+  one-joined j count r now new y sum h g read added ins = record {
+    count = ins .count;
+    kept = record {
+      first = part-before 2 now new h long 0 (omega arith) ∙ g .kept .first;
+      second = part-before 2 now new h long 1 (omega arith) ∙ g .kept .second;
+      long = replaced-long 2 now new h long ∙ g .kept .long;
+    };
+    joined = λ sums s.
+        let l = map f (backwards v j (part 1 work)) ++ sums in
+        let e : rowOf v sum ∷ l ≡ map f (backwards v (j + 1) (part 1 work)) ++ sums = rw add-one (ap (λ (z : Said.Row). z ∷ l) sum-is) in
+        ap (rowsIn v r) (part-new 2 now new h long) ∙ ins .rows ∙ ap (λ (k : List Said.Row). take m (insert compareRows (rowOf v sum) k)) (g .joined sums s)
+        ∙ take-insert compareRows m (rowOf v sum) (sort compareRows l) ∙ ap (λ (k : List Said.Row). take m (sort compareRows k)) e;
+  }
+    where
+      f : Said.Row → Said.Row
+      f = addRows (rowOf v x)
+
+      long : length new ≡ 2_176
+      long = ins .long ∙ part-long 2 now h
+
+      sum-is : rowOf v sum ≡ f (rowIn v (part 1 work) j)
+      sum-is = added ∙ ap f (read .row ∙ ap (λ (p : List ℕ). rowIn v p j) (g .kept .second))
+
+module _ (v m b : ℕ) (work : List ℕ) where
+  pub none-found : Found v m b 0 work work 0
+  unfolding backwards flatMap
+  none-found = record { count = omega arith; kept = none-changed work; sums = rows-none v (part 2 work) ∙ sym (take-nil m) }
+
+  pub row-found : (i n r : ℕ) (now after : List ℕ) (x : Row) → Found v m b i work now n → RowRead v i (part 0 now) x → GivesRow v m n b x now after r
+      → Found v m b (i + 1) work after r
+  unfolding backwards flatMap
+  row-found i n r now after x f read g = record {
+    count = g .count;
+    kept = record { first = g .kept .first ∙ f .kept .first; second = g .kept .second ∙ f .kept .second; long = g .kept .long ∙ f .kept .long };
+    sums = g .joined before (f .sums) ∙ ap (λ (k : List Said.Row). take m (sort compareRows k)) more;
+  }
+    where
+      before : List Said.Row
+      before = cross addRows (backwards v i (part 0 work)) (backwards v b (part 1 work))
+
+      x-is : rowOf v x ≡ rowIn v (part 0 work) i
+      x-is = read .row ∙ ap (λ (p : List ℕ). rowIn v p i) (f .kept .first)
+
+      more : map (addRows (rowOf v x)) (backwards v b (part 1 now)) ++ before ≡ cross addRows (backwards v (i + 1) (part 0 work)) (backwards v b (part 1 work))
+      more = rw add-one (ap₂ (λ (z : Said.Row) (p : List ℕ). map (addRows z) (backwards v b p) ++ before) x-is (f .kept .second))
+
+  -- What the sums of the next row ask.
+  pub next-row : (a i n : ℕ) (now : List ℕ) (x : Row) → Asks v m a b work → i < a → Found v m b i work now n → RowRead v i (part 0 now) x → AsksRow v m n b x now
+  next-row a i n now x asks h f read = record {
+    patients = asks .patients;
+    some = asks .some;
+    wanted = asks .wanted;
+    held = f .count;
+    second = asks .second;
+    long = omega (arith, asks .long, f .kept .long);
+    small = small-row v a i (part 0 work) (part 0 now) x h (asks .firstSmall) (f .kept .first) read;
+    secondSmall = subst (λ (p : List ℕ). Small (rowsIn v b p)) (sym (f .kept .second)) (asks .secondSmall);
+  }

@@ -1,0 +1,5 @@
+pub mod Adding
+pub mod Areas
+pub mod Joining
+pub mod Copying
+pub mod Finding

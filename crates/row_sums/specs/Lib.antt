@@ -1,0 +1,3 @@
+-- The cheapest sums of a row of one list and a row of another.
+pub mod Sums
+pub mod Steps
