@@ -119,7 +119,7 @@ pub fn total(
 }
 
 fn as_count(word: u32) -> usize
-    ensures { λ n. ⌜ n ≡ word ⌝ }
+    ensures { λ n. ⌜ (n ≡ word) × (n < 4_294_967_296) ⌝ }
 {
     word as usize
 }
@@ -135,7 +135,7 @@ pub fn bed_count(patients: &[u32; 96], s: usize) -> usize
 // The sum of the least numbers of a patient's bucket.
 pub fn least_cost(patients: &[u32; 96], s: usize) -> usize
     requires { ⌜ s < 32 ⌝ }
-    ensures { λ n. ⌜ n ≡ leastAt (now (patients .entry)) s ⌝ }
+    ensures { λ n. ⌜ (n ≡ leastAt (now (patients .entry)) s) × (n < 4_294_967_296) ⌝ }
 {
     as_count(patients[s * 3 + 1])
 }

@@ -1,2 +1,76 @@
 // The cheapest plans of a region, found tree by tree.
 pub mod walk;
+
+use buckets::prepare;
+use forest::root_numbers;
+use forest::tree;
+use held_region::Region;
+use patient_set::PatientSet;
+use pricing::Plan;
+use pricing::least_cost;
+use row_list::Row;
+use row_list::set_row;
+use row_sums::combine;
+use walk::Head;
+use walk::walk;
+ghost use mathlib.Core.Path.{_≡_};
+ghost use Prim.Native.Nat.{_≤_};
+ghost use Rattle.definitions.specs.Basics.{map, sum};
+ghost use Rattle.patient_set.specs.Sets.{members};
+ghost use Rattle.buckets.specs.Terms.{leastAt};
+ghost use Rattle.search.specs.Trees.{LeastSummed, AsksTree, GivesTree, AsksRegion, GivesRegion, AsksStart, GivesStart};
+
+// The parts of the work area for the list so far and for the next tree's list.
+const SECOND: usize = 2_176;
+
+const THIRD: usize = 4_352;
+
+// The sum of the least numbers of the buckets of a set.
+fn least_sum(patients: &[u32; 96], set: PatientSet) -> u64
+    ensures { λ n. ⌜ LeastSummed (now (patients .entry)) (members (set .0)) n ⌝ }
+{
+    let mut rest = set;
+    let mut n: u64 = 0;
+    while 0 < rest.size() {
+        let s = rest.lowest() as usize;
+        n += least_cost(patients, s) as u64;
+        rest = rest.minus(PatientSet::one(s));
+    }
+    n
+}
+
+// The list of nobody: one row, which costs nothing.
+fn start_list(work: &mut [u32], v: usize)
+    requires { ⌜ AsksStart v (now work) ⌝ }
+    ensures { λ _. ⌜ GivesStart v (now (work .entry)) (now (work .exit)) ⌝ }
+{
+    let row = Row {
+        cost: 0,
+        beds: [0u8; 32],
+    };
+    set_row(&mut work[0..SECOND], v, 0, row);
+}
+
+// The list with one more tree: a walk lists the tree's rows, and the two lists are combined.
+fn add_tree(
+    work: &mut [u32],
+    patients: &[u32; 96],
+    terms: &[u32; 640],
+    entries: &[u32; 4096],
+    v: usize,
+    m: usize,
+    n: usize,
+    set: PatientSet,
+) -> usize
+    requires { ⌜ AsksTree (now entries) (now patients) (now terms) v m n (now work) (set .0) ⌝ }
+    ensures { λ k. ⌜ GivesTree (now (entries .entry)) (now (patients .entry)) (now (terms .entry)) v m n (now (work .entry)) (set .0) (now (work .exit)) k ⌝ }
+{
+    let head = Head {
+        left: set,
+        plan: Plan::new(),
+        cost: 0,
+        bound: least_sum(patients, set),
+    };
+    let found = walk(&mut work[SECOND..THIRD], patients, terms, entries, v, 0, m, head);
+    combine(work, v, m, n, found)
+}

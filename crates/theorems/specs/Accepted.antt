@@ -90,7 +90,7 @@ module _ (region : Region) (plan : Plan) where
   entry-most u y h q = at-most entry y (entry-passes (noneOr (within entry)) (u .entries) _ y h q)
 
   -- The sum over some tables is at most the highest entry for each of them.
-  cost-most : (tables : List Table) (t : ℕ) → every (λ u. every (noneOr (within entry)) (u .entries)) tables ≡ true
+  pub cost-most : (tables : List Table) (t : ℕ) → every (λ u. every (noneOr (within entry)) (u .entries)) tables ≡ true
       → costOver tables region plan ≡ some t → t ≤ length tables * limits entry .highest
   unfolding costOver bind
   cost-most [] t h e = let z : t ≡ 0 = cc in omega arith

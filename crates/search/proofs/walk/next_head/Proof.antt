@@ -21,7 +21,7 @@ least-cost-requires : tie.Need-least-cost-requires
 least-cost-requires c κs = asks-few (c .before .before .before .before .before .pre)
 
 sub-bound : tie.Need-sub-bound
-sub-bound c = omega (arith, c .before .least-cost .ensures, asks-least (c .before .before .before .before .before .before .before .pre))
+sub-bound c = omega (arith, c .before .least-cost .ensures .0, asks-least (c .before .before .before .before .before .before .before .pre))
 
 bucket-cost-requires : tie.Need-bucket-cost-requires
 bucket-cost-requires c κs = asks-price (c .before .before .before .before .before .before .before .pre) (c .before .before .place .ensures .0)
@@ -57,7 +57,7 @@ returns-2 c =
           len = c .before .before .before .before .before .before .before .place .ensures .1;
           cost = refl;
           most = c .before .before .before .before .bucket-cost .ensures .most _ priced;
-          bound = ap (λ n. c .before .before .before .before .before .before .before .before .before .before .before .before .args .head .bound - n) (c .before .before .before .before .before .before .least-cost .ensures);
+          bound = ap (λ n. c .before .before .before .before .before .before .before .before .before .before .before .before .args .head .bound - n) (c .before .before .before .before .before .before .least-cost .ensures .0);
         },
         decides pre (c .before .before .before .before .before .before .before .place .ensures .0) (c .before .before .before .before .bucket-cost .ensures) priced,
       );

@@ -1,0 +1,29 @@
+use borrow.Author.Needs.{needs}
+use Rattle.search.proofs.start_list.Statement.{statement}
+use Rattle.search.proofs.start_list.Tie as tie
+use Rattle.search.proofs.start_list.Reads as reads
+use Rattle.search.proofs.start_list.Lts as lts
+use Rattle.row_list.proofs.set_row.Reads as set-row-reads
+
+sub-set-row : tie.Need-sub-set-row
+sub-set-row c = search needs
+
+part-set-row-start : tie.Need-part-set-row-start
+part-set-row-start c = search needs
+
+part-set-row-end : tie.Need-part-set-row-end
+part-set-row-end c = search needs
+
+set-row-requires : tie.Need-set-row-requires
+set-row-requires c κs = search needs
+
+same-length : tie.Need-same-length
+same-length c = search needs
+
+returns : tie.Need-returns
+returns c = search needs
+
+pub start-list-spec : {M : Type 1} → statement M
+start-list-spec =
+    tie.close
+    (tie.spec sub-set-row part-set-row-start part-set-row-end set-row-requires same-length returns)

@@ -1,0 +1,69 @@
+-- What listing a region asks for and gives, tree by tree.
+use Prim.Native.Nat.{_≤_}
+use Rattle.definitions.specs.Basics.{ℕ, suc, _<_, _≡_, Bool, true, List, [], _∷_, map, length, replicate, sum, contains}
+use Rattle.definitions.specs.Syntax.{Region}
+use Rattle.definitions.specs.Plans.{Row, listOf}
+use Rattle.ranking.specs.First.{First}
+use Rattle.theorems.specs.List.{rowOrder}
+use Rattle.patient_set.specs.Sets.{members}
+use Rattle.partial_rows.specs.Sets.{Patients, Splits}
+use Rattle.partial_rows.specs.Rows.{noBeds, RowOf}
+use Rattle.partial_rows.specs.Parts.{Apart}
+use Rattle.held_region.specs.declared.Region as Code
+use Rattle.held_region.specs.Held.{Holds}
+use Rattle.buckets.specs.Terms.{leastAt, Answered, Planned, Prepared}
+use Rattle.row_sums.specs.Sums.{listAt}
+use Rattle.search.specs.Lowest.{Upward}
+
+-- The sum of the least numbers of some patients' buckets, a word each.
+pub record LeastSummed (patients : List ℕ) (l : List ℕ) (n : ℕ) : Type 0 where
+  pub is : n ≡ sum (map (leastAt patients) l)
+  pub most : n ≤ 137_438_953_472
+
+-- ---- the list of nobody
+
+pub record AsksStart (v : ℕ) (work : List ℕ) : Type 0 where
+  pub patients : v ≤ 32
+  pub long : 6_528 ≤ length work
+
+pub record GivesStart (v : ℕ) (work after : List ℕ) : Type 0 where
+  pub long : length after ≡ length work
+  pub row : listAt v 1 0 after ≡ record { cost = 0; beds = replicate v 0 } ∷ []
+
+-- ---- one more tree
+
+-- The list so far holds the first rows of E, and D is E with the patients of the set, which no table joins to E.
+pub record Treed (r : Region) (D E : Patients) (store patients terms : List ℕ) (v m n : ℕ) (work : List ℕ) (set : ℕ) : Type 0 where
+  pub prepared : Prepared r store patients terms
+  pub counted : v ≡ length (r .patients)
+  pub known : (s : ℕ) → contains (members set) s ≡ true → s < length (r .patients)
+  pub upward : Upward r (contains (members set))
+  pub split : Splits D E (contains (members set))
+  pub apart : Apart r E (contains (members set))
+  pub first : First rowOrder m (RowOf r E (noBeds r)) (listAt v n 0 work)
+
+pub record AsksTree (store patients terms : List ℕ) (v m n : ℕ) (work : List ℕ) (set : ℕ) : Type 0 where
+  pub region : Region
+  pub D : Patients
+  pub E : Patients
+  pub treed : Treed region D E store patients terms v m n work set
+  pub few : v ≤ 32
+  pub some : 0 < m
+  pub wanted : m ≤ 64
+  pub held : n ≤ m
+  pub long : 6_528 ≤ length work
+
+pub record GivesTree (store patients terms : List ℕ) (v m n : ℕ) (work : List ℕ) (set : ℕ) (after : List ℕ) (k : ℕ) : Type 0 where
+  pub count : k ≤ m
+  pub long : length after ≡ length work
+  pub first : (r : Region) (D E : Patients) → Treed r D E store patients terms v m n work set → First rowOrder m (RowOf r D (noBeds r)) (listAt v k 0 after)
+
+-- ---- the whole region
+
+pub record AsksRegion (h : Code.Region) (work : List ℕ) : Type 0 where
+  pub planned : Planned h
+  pub long : 6_528 ≤ length work
+
+pub record GivesRegion (h : Code.Region) (work after : List ℕ) (n : ℕ) : Type 0 where
+  pub long : length after ≡ length work
+  pub list : (r : Region) → Holds h r → Answered r → listAt (h .v) n 0 after ≡ listOf r
