@@ -7,6 +7,7 @@ ghost use lib.ListN.{length, take, replicate};
 ghost use lib.Seq.{sets};
 ghost use Rattle.row_writer.specs.Writing.{Writable, RowsWritten};
 
+// A cost as the lent area has it.
 fn word_of(cost: u64) -> u32
     requires { ⌜ cost < 4_294_967_296 ⌝ }
     ensures { λ r. ⌜ r ≡ cost ⌝ }
