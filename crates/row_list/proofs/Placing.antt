@@ -25,7 +25,7 @@ module _ (x y : Said.Row) (l : List Said.Row) where
       go : (o : Ordering) → beforeOr true o ≡ true → step o ≡ x ∷ y ∷ l
       go Ordering·lt e = refl
       go Ordering·eq e = refl
-      go Ordering·gt e = let z : x ∷ y ∷ l ≡ x ∷ y ∷ l = refl in cc
+      go Ordering·gt e = cc
 
   further : beforeOr true (compareRows x y) ≡ false → insert compareRows x (y ∷ l) ≡ y ∷ insert compareRows x l
   further h = go (compareRows x y) h

@@ -15,6 +15,7 @@ pub struct Row {
     pub beds: [u8; 32],
 }
 
+// Words and their values, each through a function: of a parameter it is known that it fits its type.
 fn cost_of(low: u32, high: u32) -> u64
     ensures { λ r. ⌜ r ≡ low + high * 4_294_967_296 ⌝ }
 {
