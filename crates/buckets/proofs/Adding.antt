@@ -2,7 +2,7 @@
 use mathlib.Core.Path.{_≡_, ap, _∙_}
 use native.Mathlib.Omega.{arith}
 use lib.ListN.{length, getD, set}
-use Prim.Native.Nat.{ℕ, _+_, _*_, _<_}
+use Prim.Native.Nat.{ℕ, _+_, _*_, _^_, _<_}
 use mathlib.Core.List.{List}
 use Rattle.held_region.specs.declared.Table.{Table}
 use Rattle.buckets.specs.Terms.{leastAt, firstAt}
@@ -43,7 +43,7 @@ module _ {store : List ℕ} {t : Table} {k start : ℕ} {patients before : List 
         strides = λ blank j h. kept (k * 10 + 6 + j) (λ z. omega arith) (λ z. omega arith) ∙ w .strides blank j h;
       }
 
-  pub term-added : TermAdded store t k start patients counted before after
+  term-added : TermAdded store t k start patients counted before after
   term-added =
       record {
         members = members-kept;
@@ -52,9 +52,18 @@ module _ {store : List ℕ} {t : Table} {k start : ℕ} {patients before : List 
         wide = two-length patients (s * 3 + 1) (s * 3 + 2) (leastAt patients s + least) k ∙ known .wide;
         beds = λ q. same (q * 3) (λ z. omega arith) (λ z. omega arith);
         least =
-            two-first patients (s * 3 + 1) (s * 3 + 2) (leastAt patients s + least) k (omega (arith, known .wide, known .last)) (λ z. omega arith)
+            two-first patients (s * 3 + 1) (s * 3 + 2) (leastAt patients s + least) k (omega (arith, known .wide, known .last .patient)) (λ z. omega arith)
             ∙ ap (λ n. leastAt patients s + n) is;
-        first = two-second patients (s * 3 + 1) (s * 3 + 2) (leastAt patients s + least) k (omega (arith, known .wide, known .last));
+        first = two-second patients (s * 3 + 1) (s * 3 + 2) (leastAt patients s + least) k (omega (arith, known .wide, known .last .patient));
         otherLeast = λ q n. same (q * 3 + 1) (λ z. n (omega arith)) (λ z. omega arith);
         otherFirst = λ q n. same (q * 3 + 2) (λ z. omega arith) (λ z. n (omega arith));
       }
+
+  -- As the code has it, with the member that it found.
+  pub least-fits : {n : ℕ} → n ≡ lastOf t → leastAt patients n + least < 2 ^ 32
+  least-fits e = omega (arith, ap (leastAt patients) e, is, known .fits)
+
+  pub term-put : {n : ℕ} → n ≡ lastOf t
+      → TermAdded store t k start patients (set (set patients (n * 3 + 1) (leastAt patients n + least)) (n * 3 + 2) k) before
+      (set (set written (k * 10) start) (k * 10 + 1) (firstAt patients n))
+  term-put e = rw e term-added

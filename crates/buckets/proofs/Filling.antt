@@ -108,8 +108,12 @@ module _ (h : Region) (r : Said.Region) (held : Holds h r) (a : Answered r) wher
                 wide = termsWide;
               };
           wide = wide;
-          some = omega (arith, count-same h r held a i l, held-right h r held a i l .some);
-          last = omega (arith, last-known h r held a i l, patients-few r a);
+          last =
+              record {
+                some = omega (arith, count-same h r held a i l, held-right h r held a i l .some);
+                few = omega (arith, count-same h r held a i l, held-right h r held a i l .few);
+                patient = omega (arith, last-known h r held a i l, patients-few r a);
+              };
           inside = omega (arith, start-down, f .starts, start-most (r .tables) (suc i), entries-few r a);
           fits =
               omega (

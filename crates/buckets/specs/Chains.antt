@@ -106,7 +106,7 @@ module _ (r : Region) (store before after : List ℕ) where
     subst (λ n. Chain r store after (suc p) n tables) (sym (same (p * 10 + 1) (omega arith))) (chain-kept (suc p) (nextAt before p) tables (λ q h. same q (omega arith)) rest),
   )
 
--- A chain that begins no lower begins no lower than before that.
+-- A chain's low bound may be a lower one.
 pub chain-lower : (r : Region) (store terms : List ℕ) (low lower p : ℕ) (tables : List Table) → lower ≤ low
     → Chain r store terms low p tables → Chain r store terms lower p tables
 unfolding Chain

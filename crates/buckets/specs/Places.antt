@@ -1,10 +1,16 @@
 -- The place of beds among all of their members', as a sum of strides. Assumes nothing.
 use mathlib.Core.Path.{sym, ap, ap₂, _∙_}
 use Prim.Native.Nat.{_≤_}
+use native.Mathlib.Decide.{decLt}
 use native.Mathlib.Nat.{mul-le-mul-right}
 use native.Mathlib.Omega.{arith}
-use Rattle.definitions.specs.Basics.{ℕ, zero, suc, _+_, _*_, _<_, _≡_, refl, List, [], _∷_, map, length, getD, numbersFrom, below, sum, product}
-use Rattle.definitions.specs.Plans.{place}
+use borrow.Author.Tests.{ltb-true}
+use lib.ListN.{set}
+use lib.Seq.{getD-set-same, getD-set-other}
+use Rattle.definitions.specs.Basics.{ℕ, zero, suc, _+_, _*_, _<_, _≡_, refl, true, List, [], _∷_, map, length, getD, ltb, numbersFrom, below, sum, product, every, everyTwo}
+use Rattle.definitions.specs.Plans.{Plan, bedOf, place}
+use Rattle.theorems.specs.Tests.{both}
+use Rattle.theorems.specs.Every.{every-at}
 
 -- The stride of the member at a place: how far the table's place moves with its bed. Past the last member it is 0.
 unfoldable pub strideOf : (ℕ → ℕ) → List ℕ → ℕ → ℕ
@@ -98,3 +104,29 @@ place-changed count bed other (s ∷ members) zero h same =
 place-changed count bed other (s ∷ members) (suc j) h same =
     rw (place-cons count bed s members, place-cons count other s members, same 0 (omega arith) (λ e. omega arith))
     (omega (arith, place-changed count bed other members j (omega arith) (λ i l n. same (suc i) (omega arith) (λ e. n (omega arith)))))
+
+-- So where one patient's bed in a plan is set: a rising list has the patient once.
+rising-at : (l : List ℕ) → everyTwo ltb l ≡ true → (i j : ℕ) → i < j → j < length l → getD l i 0 < getD l j 0
+rising-at [] up i j below h = absurd (omega arith)
+rising-at (x ∷ l) up i zero below h = absurd (omega arith)
+rising-at (x ∷ l) up zero (suc j) below h = ltb-true x _ (every-at (ltb x) l j 0 (omega arith) (both (every (ltb x) l) up .0))
+rising-at (x ∷ l) up (suc i) (suc j) below h = rising-at l (both (every (ltb x) l) up .1) i j (omega arith) (omega arith)
+
+rising-once : (l : List ℕ) → everyTwo ltb l ≡ true → (i j : ℕ) → i < length l → j < length l → (i ≡ j → ⊥) → getD l i 0 ≡ getD l j 0 → ⊥
+rising-once l up i j h k apart same = go (decLt i j)
+  where
+    go : Dec (i < j) → ⊥
+    go (yes b) = omega (arith, rising-at l up i j b k)
+    go (no b) = apart-other (decLt j i)
+      where
+        apart-other : Dec (j < i) → ⊥
+        apart-other (yes c) = omega (arith, rising-at l up j i c h)
+        apart-other (no c) = apart (omega arith)
+
+pub place-set : (count : ℕ → ℕ) (plan : Plan) (members : List ℕ) (j bed : ℕ) → j < length members → everyTwo ltb members ≡ true → getD members j 0 < length plan
+    → placeOf count (bedOf (set plan (getD members j 0) bed)) members + bedOf plan (getD members j 0) * strideOf count members j
+    ≡ placeOf count (bedOf plan) members + bed * strideOf count members j
+place-set count plan members j bed h up known =
+    place-changed count (bedOf plan) (bedOf (set plan (getD members j 0) bed)) members j h
+    (λ i l apart. sym (getD-set-other plan (getD members j 0) (getD members i 0) bed 0 (rising-once members up i j l h apart)))
+    ∙ ap (λ b. placeOf count (bedOf plan) members + b * strideOf count members j) (getD-set-same plan (getD members j 0) bed 0 known)

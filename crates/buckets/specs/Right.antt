@@ -70,7 +70,7 @@ module _ (r : Region) (a : Answered r) where
       in
       let two = both (within memberCount (length members) && every (λ s. ltb s (r .patientCount)) members) fits in
       let one = both (within memberCount (length members)) (two .0) in
-      let equal = every-at (λ t. eqb (length (t .entries)) (product (bedCounts r (t .members)))) (r .tables) i _ h
+      let equal : eqb (length (tableAt r i .entries)) (product (bedCounts r members)) ≡ true = every-at (λ t. eqb (length (t .entries)) (product (bedCounts r (t .members)))) (r .tables) i _ h
       (both (every (λ t. eqb (length (t .entries)) (product (bedCounts r (t .members)))) (r .tables)) (a .entryCountsFit) .0)
       in
       record {

@@ -52,12 +52,17 @@ pub record MembersSoFar (patients : List ℕ) (t : Table) (k : ℕ) (before : Li
 abbrev pub lastOf : Table → ℕ
 lastOf t = getD (t .first) (t .members - 1) 0
 
--- What adding a term relies on: the table has a member, its entries are in the store, and the sum of the least numbers fits.
+-- There is one, and it is a patient.
+pub record LastKnown (t : Table) : Type 0 where
+  pub some : 0 < t .members
+  pub few : t .members ≤ 4
+  pub patient : lastOf t < 32
+
+-- What adding a term relies on: its entries are in the store, and the sum of the least numbers fits.
 pub record TermKnown (store : List ℕ) (t : Table) (k start : ℕ) (patients terms : List ℕ) : Type 0 where
   pub members : MembersKnown patients t k terms
   pub wide : length patients ≡ 96
-  pub some : 0 < t .members
-  pub last : lastOf t < 32
+  pub last : LastKnown t
   pub inside : start + t .entries ≤ 4096
   pub fits : leastAt patients (lastOf t) + leastNumber store start (start + t .entries) < 2 ^ 32
 

@@ -10,7 +10,7 @@ ghost use Rattle.definitions.specs.Syntax as Said;
 ghost use Rattle.held_region.specs.Held.{Holds};
 ghost use Rattle.buckets.specs.Terms.{Answered, Planned, Prepared};
 ghost use Rattle.buckets.specs.Least.{leastNumber};
-ghost use Rattle.buckets.specs.Written.{PatientsWritten, MembersKnown, MembersWritten, TermKnown, TermAdded};
+ghost use Rattle.buckets.specs.Written.{PatientsWritten, MembersKnown, MembersWritten, LastKnown, lastOf, TermKnown, TermAdded};
 
 // For each patient three words: its count of beds, the sum of the least numbers of its bucket, and the first term of its bucket.
 // For each table a term of ten words: the start of its entries, the next term of the bucket, four members and their strides.
@@ -72,7 +72,16 @@ fn write_members(terms: &mut [u32; 640], patients: &[u32; 96], table: Table, k: 
     }
 }
 
-// A table as a term in front of its bucket, which is that of its last member: members rise.
+// The highest member of a table: members rise, so it is the last.
+fn highest_member(table: Table) -> usize
+    requires { ⌜ LastKnown table ⌝ }
+    ensures { λ s. ⌜ s ≡ lastOf table ⌝ }
+{
+    let last = table.members - 1;
+    table.first[last] as usize
+}
+
+// A table as a term in front of the bucket of its highest member.
 fn add_term(
     patients: &mut [u32; 96],
     terms: &mut [u32; 640],
@@ -86,8 +95,7 @@ fn add_term(
 {
     let least = least_number(entries, start, start + table.entries);
     write_members(terms, patients, table, k);
-    let last = table.members - 1;
-    let s = table.first[last] as usize;
+    let s = highest_member(table);
     terms[k * 10] = start as u32;
     terms[k * 10 + 1] = patients[s * 3 + 2];
     patients[s * 3 + 1] += least;

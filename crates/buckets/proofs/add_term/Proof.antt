@@ -1,5 +1,5 @@
 use borrow.Author.Needs.{needs}
-use Rattle.buckets.proofs.Adding.{term-added}
+use Rattle.buckets.proofs.Adding.{least-fits, term-put}
 use Rattle.buckets.proofs.add_term.Statement.{statement}
 use Rattle.buckets.proofs.add_term.Tie as tie
 
@@ -12,17 +12,8 @@ least-number-requires c κs = search needs
 write-members-requires : tie.Need-write-members-requires
 write-members-requires c κs = search needs
 
-sub-last : tie.Need-sub-last
-sub-last c = search needs
-
-mul-s : tie.Need-mul-s
-mul-s c = search needs
-
-element-copy-out-s : tie.Need-element-copy-out-s
-element-copy-out-s c = search needs
-
-cast-s : tie.Need-cast-s
-cast-s c = search needs
+highest-member-requires : tie.Need-highest-member-requires
+highest-member-requires c κs = search needs
 
 cast-terms : tie.Need-cast-terms
 cast-terms c = search needs
@@ -73,7 +64,10 @@ element-copy-out-patients : tie.Need-element-copy-out-patients
 element-copy-out-patients c = search needs
 
 add-patients-2 : tie.Need-add-patients-2
-add-patients-2 c = search needs
+add-patients-2 c = record {
+  fits = least-fits (c .before .before .before .before .before .before .before .before .pre) (c .before .before .before .write-members .ensures)
+      (c .before .before .before .before .before .before .least-number .ensures) (c .before .before .highest-member .ensures);
+}
 
 element-write-patients : tie.Need-element-write-patients
 element-write-patients c = search needs
@@ -95,8 +89,8 @@ element-write-patients-2 c = search needs
 
 returns : tie.Need-returns
 returns c =
-    term-added (c .before .before .before .before .before .before .before .pre) (c .before .before .before .write-members .ensures)
-    (c .before .before .before .before .before .before .least-number .ensures)
+    term-put (c .before .before .before .before .before .before .before .before .pre) (c .before .before .before .write-members .ensures)
+    (c .before .before .before .before .before .before .least-number .ensures) (c .before .before .highest-member .ensures)
 
 pub add-term-spec : {M : Type 1} → statement M
 add-term-spec =
@@ -105,10 +99,7 @@ add-term-spec =
     add-least-number
     least-number-requires
     write-members-requires
-    sub-last
-    mul-s
-    element-copy-out-s
-    cast-s
+    highest-member-requires
     cast-terms
     mul-terms
     mul-terms-2
