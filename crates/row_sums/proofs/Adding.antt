@@ -6,7 +6,6 @@ use borrow.Author.Count.{below-more}
 use lib.ListN.{set, length-set}
 use lib.Seq.{ext-getD, getD-set-same, getD-set-other, getD-take, length-take-le}
 use Rattle.definitions.specs.Basics.{ℕ, _+_, _<_, List, length, getD, take, replicate}
-use Rattle.definitions.specs.Plans as Said
 use Rattle.partial_rows.specs.Adding.{addBeds, addRows, add-at, add-length}
 use Rattle.row_list.specs.declared.Row.{Row}
 use Rattle.row_list.specs.Rows.{rowOf}

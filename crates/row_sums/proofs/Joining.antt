@@ -4,7 +4,7 @@ use native.Mathlib.Numerals.{add-one}
 use native.Mathlib.Omega.{arith}
 use Prim.Native.Nat.{_≤_}
 use lib.Seq.{take-nil}
-use Rattle.definitions.specs.Basics.{ℕ, zero, suc, _+_, _<_, List, [], _∷_, _++_, map, length, take, insert, sort, flatMap}
+use Rattle.definitions.specs.Basics.{ℕ, _+_, _<_, List, _∷_, _++_, map, length, take, insert, sort, flatMap}
 use Rattle.definitions.specs.Plans as Said
 use Rattle.definitions.specs.Plans.{compareRows}
 use Rattle.ranking.specs.Members.{getD-in}
