@@ -48,7 +48,7 @@ module _ (v : ℕ) (area : List ℕ) where
       (λ k. absent (back-in n (rowIn v area n) k), back-distinct n rest)
 
 module _ (v m a b : ℕ) (first second : List ℕ) where
-  pub sums-first : Sorted rowOrder (rowsIn v a first) → Sorted rowOrder (rowsIn v b second)
+  sums-first : Sorted rowOrder (rowsIn v a first) → Sorted rowOrder (rowsIn v b second)
       → Injective addRows (λ x. x ∈ rowsIn v a first) (λ y. y ∈ rowsIn v b second)
       → First rowOrder m (Combined addRows (λ x. x ∈ rowsIn v a first) (λ y. y ∈ rowsIn v b second))
       (take m (sort compareRows (cross addRows (backwards v a first) (backwards v b second))))
