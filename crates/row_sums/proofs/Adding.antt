@@ -6,7 +6,6 @@ use borrow.Author.Count.{below-more}
 use lib.ListN.{set, length-set}
 use lib.Seq.{ext-getD, getD-set-same, getD-set-other, getD-take, length-take-le}
 use Rattle.definitions.specs.Basics.{ℕ, _+_, _<_, List, length, getD, take, replicate}
-use Rattle.definitions.specs.Plans as Said
 use Rattle.partial_rows.specs.Adding.{addBeds, addRows, add-at, add-length}
 use Rattle.row_list.specs.declared.Row.{Row}
 use Rattle.row_list.specs.Rows.{rowOf}
@@ -30,7 +29,7 @@ module _ (xs ys : List ℕ) where
     long = length-set beds j _ ∙ r .long;
   }
 
-  pub beds-added : (v : ℕ) (beds : List ℕ) → v ≤ 32 → length xs ≡ 32 → length ys ≡ 32 → Added xs ys v beds → take v beds ≡ addBeds (take v xs) (take v ys)
+  beds-added : (v : ℕ) (beds : List ℕ) → v ≤ 32 → length xs ≡ 32 → length ys ≡ 32 → Added xs ys v beds → take v beds ≡ addBeds (take v xs) (take v ys)
   beds-added v beds h p q r = ext-getD 0 (take v beds) (addBeds (take v xs) (take v ys)) (long ∙ sym sum-long) (λ k l.
       let t : k < v = omega (arith, long) in
       getD-take v beds k 0 t ∙ r .first k t ∙ sym (add-at (take v xs) (take v ys) k ∙ ap₂ _+_ (getD-take v xs k 0 t) (getD-take v ys k 0 t)))

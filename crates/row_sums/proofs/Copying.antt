@@ -3,13 +3,13 @@ use mathlib.Core.Path.{_≡_, refl, sym, ap, ap₂, _∙_}
 use native.Mathlib.Numerals.{add-one}
 use native.Mathlib.Omega.{arith}
 use Prim.Native.Nat.{_≤_}
-use Rattle.definitions.specs.Basics.{ℕ, suc, _+_, _<_, List, [], _∷_, _++_, length}
+use Rattle.definitions.specs.Basics.{ℕ, suc, _+_, List, [], _∷_, _++_, length}
 use Rattle.definitions.specs.Plans as Said
 use Rattle.row_list.specs.declared.Row.{Row}
 use Rattle.row_list.specs.Below.{below-same}
 use Rattle.row_list.specs.Rows.{rowIn, rowsIn, RowRead, Stored}
 use Rattle.row_list.specs.Laws.{rows-none, rows-more}
-use Rattle.row_sums.specs.Sums.{part, listAt}
+use Rattle.row_sums.specs.Sums.{part}
 use Rattle.row_sums.specs.Steps.{Copied}
 use Rattle.row_sums.proofs.Areas.{replaced, replaced-long, part-new, part-after, part-long}
 

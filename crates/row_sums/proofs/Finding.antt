@@ -1,10 +1,10 @@
 -- The sums of all rows of two lists: where each list is in order and a sum shows its rows, no sum comes twice. Assumes nothing.
-use mathlib.Core.Path.{_≡_, refl, sym, ap, _∙_}
+use mathlib.Core.Path.{_≡_, sym, _∙_}
 use mathlib.Core.Logic.{inl, inr}
 use native.Mathlib.Omega.{arith}
 use Prim.Native.Nat.{_≤_}
-use Rattle.definitions.specs.Basics.{ℕ, zero, suc, List, [], _∷_, _++_, length, take, sort}
-use Rattle.definitions.specs.Plans.{Row, compareRows}
+use Rattle.definitions.specs.Basics.{ℕ, zero, suc, List, [], _∷_, _++_, take, sort}
+use Rattle.definitions.specs.Plans.{compareRows}
 use Rattle.ranking.specs.Members.{_∈_, _⊆_, here, there, here-or-there, none-in-nil, in-append-left, in-append-right, in-append-cases, Distinct}
 use Rattle.ranking.specs.First.{First, Sorted, sorted-distinct, first-iff}
 use Rattle.ranking.specs.Sorting.{first-of}
@@ -13,7 +13,7 @@ use Rattle.theorems.specs.List.{rowOrder}
 use Rattle.partial_rows.specs.Adding.{addRows}
 use Rattle.row_list.specs.Rows.{rowIn, rowsIn}
 use Rattle.row_list.specs.Laws.{rows-none, rows-more}
-use Rattle.row_sums.specs.Sums.{part, listAt, Gives}
+use Rattle.row_sums.specs.Sums.{part, Gives}
 use Rattle.row_sums.specs.Steps.{backwards, Found, Copied}
 
 distinct-last : {A : Type 0} (l : List A) (x : A) → Distinct (l ++ (x ∷ [])) → (x ∈ l → ⊥) × Distinct l
@@ -48,7 +48,7 @@ module _ (v : ℕ) (area : List ℕ) where
       (λ k. absent (back-in n (rowIn v area n) k), back-distinct n rest)
 
 module _ (v m a b : ℕ) (first second : List ℕ) where
-  pub sums-first : Sorted rowOrder (rowsIn v a first) → Sorted rowOrder (rowsIn v b second)
+  sums-first : Sorted rowOrder (rowsIn v a first) → Sorted rowOrder (rowsIn v b second)
       → Injective addRows (λ x. x ∈ rowsIn v a first) (λ y. y ∈ rowsIn v b second)
       → First rowOrder m (Combined addRows (λ x. x ∈ rowsIn v a first) (λ y. y ∈ rowsIn v b second))
       (take m (sort compareRows (cross addRows (backwards v a first) (backwards v b second))))

@@ -4,7 +4,7 @@ use native.Mathlib.Numerals.{add-one}
 use native.Mathlib.Omega.{arith}
 use Prim.Native.Nat.{_≤_}
 use lib.Seq.{take-nil}
-use Rattle.definitions.specs.Basics.{ℕ, zero, suc, _+_, _<_, List, [], _∷_, _++_, map, length, take, insert, sort, flatMap}
+use Rattle.definitions.specs.Basics.{ℕ, _+_, _<_, List, _∷_, _++_, map, length, take, insert, sort, flatMap}
 use Rattle.definitions.specs.Plans as Said
 use Rattle.definitions.specs.Plans.{compareRows}
 use Rattle.ranking.specs.Members.{getD-in}
@@ -24,7 +24,7 @@ small-row v n i area now x h small e r =
     let d = rowIn v area i in
     subst SmallRow (sym (r .row ∙ ap (λ (p : List ℕ). rowIn v p i) e ∙ rows-at v n area i d h)) (small _ (getD-in (rowsIn v n area) i d (omega (arith, rows-long v n area))))
 
-pub none-changed : (work : List ℕ) → Kept work work
+none-changed : (work : List ℕ) → Kept work work
 none-changed work = record { first = refl; second = refl; long = refl }
 
 module _ (v m n : ℕ) (x : Row) (work : List ℕ) where

@@ -51,7 +51,7 @@ pub record Found (v m b i : ℕ) (work after : List ℕ) (n : ℕ) : Type 0 wher
   pub kept : Kept work after
   pub sums : Holds v m n after (cross addRows (backwards v i (part 0 work)) (backwards v b (part 1 work)))
 
--- The first n rows of the third list are those of the first.
+-- The first n rows of the third list stand in the first list too.
 pub record Copied (v n : ℕ) (work after : List ℕ) : Type 0 where
   pub rows : listAt v n 0 after ≡ listAt v n 2 work
   pub kept : part 2 after ≡ part 2 work

@@ -12,6 +12,7 @@ use row_list::insert;
 use row_list::row_at;
 use row_list::set_row;
 
+// Where the second and the third part start, and where the third ends.
 const SECOND: usize = 2_176;
 
 const THIRD: usize = 4_352;

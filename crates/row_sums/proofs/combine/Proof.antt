@@ -1,6 +1,5 @@
 use borrow.Author.Needs.{needs}
 use native.Mathlib.Omega.{arith}
-use mathlib.Core.Path.{_≡_}
 use Prim.Native.Nat.{_-_, _≤_}
 use Rattle.row_sums.specs.Sums.{part}
 use Rattle.row_sums.specs.Steps.{Found}
@@ -36,7 +35,7 @@ insert-sums-requires c κs =
     let l = c .before .before .before .before .before in
     let s = l .before .before in
     let a = s .args in
-    next-row (a .v) (a .m) (a .b) _ (a .a) (l .loop .i) (l .loop .n) _ _ (s .pre) (c .before .before .before .before .loop-test .taken) (l .loop .inv .1) (c .before .row-at .ensures)
+    next-row (a .v) (a .m) (a .b) _ (a .a) (l .loop .i) (l .loop .n) _ _ (s .pre) (omega arith) (l .loop .inv .1) (c .before .row-at .ensures)
 
 add-i : tie.Need-add-i Inv-loop μ-loop
 add-i c = search needs
@@ -61,7 +60,7 @@ returns : tie.Need-returns Inv-loop μ-loop
 returns c =
     let l = c .before .before .before .before .before in
     let a = l .before .before .args in
-    all-found (a .v) (a .m) (a .a) (a .b) (l .loop .i) (l .loop .n) _ _ _ (l .loop .inv .0) (c .before .before .before .before .loop-test .left) (l .loop .inv .1) (c .before .before .copy-back .ensures)
+    all-found (a .v) (a .m) (a .a) (a .b) (l .loop .i) (l .loop .n) _ _ _ (omega arith) (omega arith) (l .loop .inv .1) (c .before .before .copy-back .ensures)
 
 pub combine-spec : {M : Type 1} → statement M
 combine-spec =
