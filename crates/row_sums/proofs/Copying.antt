@@ -11,7 +11,7 @@ use Rattle.row_list.specs.Rows.{rowIn, rowsIn, RowRead, Stored}
 use Rattle.row_list.specs.Laws.{rows-none, rows-more}
 use Rattle.row_sums.specs.Sums.{part}
 use Rattle.row_sums.specs.Steps.{Copied}
-use Rattle.row_sums.proofs.Areas.{replaced, replaced-long, part-new, part-after, part-long}
+use Rattle.row_sums.specs.Areas.{replaced, replaced-long, part-new, part-after, part-long}
 
 -- The rows before one that is written.
 rows-before : (v i : ℕ) (x : Row) (area after : List ℕ) → v ≤ 32 → Stored v i x area after → rowsIn v i after ≡ rowsIn v i area

@@ -16,7 +16,7 @@ use Rattle.row_list.specs.Rows.{rowOf, rowIn, rowsIn, RowRead, Inserted}
 use Rattle.row_list.specs.Laws.{rows-long, rows-at, rows-none}
 use Rattle.row_sums.specs.Sums.{part, SmallRow, Small, Asks}
 use Rattle.row_sums.specs.Steps.{backwards, Kept, AsksRow, GivesRow, Found}
-use Rattle.row_sums.proofs.Areas.{replaced, replaced-long, part-new, part-before, part-long}
+use Rattle.row_sums.specs.Areas.{replaced, replaced-long, part-new, part-before, part-long}
 
 -- Each row of a small list is small, where the list has stayed as it was.
 pub small-row : (v n i : ℕ) (area now : List ℕ) (x : Row) → i < n → Small (rowsIn v n area) → now ≡ area → RowRead v i now x → SmallRow (rowOf v x)
