@@ -7,33 +7,23 @@ use native.Mathlib.Omega.{arith}
 use lib.ListN.{set, drop}
 use borrow.Author.Tests.{eqb-true, not-true}
 use Rattle.definitions.specs.Basics.{ℕ, zero, suc, _+_, _-_, _<_, Ordering, Bool, true, false, not, _&&_, Option, none, some, List, [], _∷_, length, getD, take, eqb, isEmpty, insert, contains}
-use Rattle.definitions.specs.Limits.{limits, within, clinic, bedCount}
-use Rattle.definitions.specs.Syntax.{Patient, Region, patientAt}
+use Rattle.definitions.specs.Syntax.{Region, patientAt}
 use Rattle.definitions.specs.Plans.{Row, costOver, compareRows}
-use Rattle.definitions.specs.Questions.{patientsWithin}
 use Rattle.ranking.specs.Orders.{View, before, equal, after}
 use Rattle.ranking.specs.Growing.{Grown, Ready}
 use Rattle.theorems.specs.Tests.{both}
-use Rattle.theorems.specs.Every.{every-at}
-use Rattle.theorems.specs.Accepted.{at-most}
 use Rattle.theorems.specs.List.{rowOrder}
 use Rattle.patient_set.specs.Sets.{first}
 use Rattle.partial_rows.specs.Sets.{only, Splits}
 use Rattle.partial_rows.specs.Rows.{Branch, decidedTables, withBed}
 use Rattle.partial_rows.specs.Walk.{BranchBelow, walk-leaf, walk-cut, walk-none, ready-bed, walk-bed, walk-skip, walk-all}
-use Rattle.buckets.specs.Terms.{bucketOf, bedsAt, Answered}
+use Rattle.buckets.specs.Terms.{bedsAt}
+use Rattle.buckets.specs.Right.{beds-few}
 use Rattle.row_list.specs.Rows.{rowOf, rowIn, rowsIn, isBefore, Room}
 use Rattle.row_list.specs.Laws.{rows-long, rows-at}
 use Rattle.search.specs.Walks.{remaining, leftIn, headRow, Light, Heads, BranchOf, AsksNext, Below, Decides, pastHead, Asks, Gives}
 use Rattle.search.specs.declared.walk.Head.{Head}
 use Rattle.search.proofs.Steps.{known, split, decided, below-split, row-below, light-below, heads-below, bound-holds}
-
--- A patient has at most 16 beds.
-beds-most : (r : Region) → Answered r → (s : ℕ) → s < length (r .patients) → patientAt r s .bedCount ≤ 16
-unfolding patientsWithin patientAt limits
-beds-most r answered s h =
-    let d : Patient = record { clinic = 0; bedCount = 0; parent = none } in
-    at-most bedCount _ (both (within clinic (getD (r .patients) s d .clinic)) (every-at (λ p. within clinic (p .clinic) && within bedCount (p .bedCount)) (r .patients) s d h (answered .patientsFit)) .1)
 
 -- A row that is not before another.
 not-before : (v w : Row) → isBefore (compareRows v w) ≡ false → rowOrder .Lt v w → ⊥
@@ -109,7 +99,7 @@ module _ {store patients terms : List ℕ} {v n m : ℕ} {area : List ℕ} {head
       fits r heads = omega (arith, sofar .counts, heads .prepared .beds s (known heads (sofar .lowest)))
 
       pub bed-small : bed < 16
-      bed-small = omega (arith, fits (asks .region) (asks .heads), beds-most (asks .region) (asks .heads .prepared .answered) s (known (asks .heads) (sofar .lowest)))
+      bed-small = omega (arith, fits (asks .region) (asks .heads), beds-few (asks .region) (asks .heads .prepared .answered) s (known (asks .heads) (sofar .lowest)))
 
       pub asks-next : AsksNext store patients terms head s bed
       asks-next =

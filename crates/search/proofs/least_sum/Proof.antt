@@ -8,7 +8,7 @@ use Rattle.search.proofs.least_sum.Statement.{statement}
 use Rattle.search.proofs.least_sum.Tie as tie
 
 abbrev Inv-loop : tie.InvT-loop
-Inv-loop patients rest₀ n₀ rest n = Adding patients (members (set .0)) (members (rest .0)) n
+Inv-loop patients rest₀ n₀ rest n = Adding patients (members (rest₀ .0)) (members (rest .0)) n
 
 abbrev μ-loop : tie.MeasureT-loop
 μ-loop patients rest₀ n₀ rest n = length (members (rest .0))

@@ -1,9 +1,9 @@
 use borrow.Author.Needs.{needs}
+use mathlib.Core.Path.{refl}
+use Rattle.row_sums.specs.Sums.{part}
+use Rattle.search.proofs.Listing.{started}
 use Rattle.search.proofs.start_list.Statement.{statement}
 use Rattle.search.proofs.start_list.Tie as tie
-use Rattle.search.proofs.start_list.Reads as reads
-use Rattle.search.proofs.start_list.Lts as lts
-use Rattle.row_list.proofs.set_row.Reads as set-row-reads
 
 sub-set-row : tie.Need-sub-set-row
 sub-set-row c = search needs
@@ -21,7 +21,8 @@ same-length : tie.Need-same-length
 same-length c = search needs
 
 returns : tie.Need-returns
-returns c = search needs
+unfolding part
+returns c = started _ _ _ _ (c .before .before .before .before .before .pre) refl refl (c .before .before .set-row .ensures)
 
 pub start-list-spec : {M : Type 1} → statement M
 start-list-spec =

@@ -1,0 +1,134 @@
+-- The list of nobody, and the list with one more tree. Assumes nothing.
+use mathlib.Core.Path.{_≡_, refl, sym, ap, ap₂, _∙_, subst, subst⁻¹}
+use mathlib.Core.Bool.{or-true}
+use borrow.Author.Tests.{eq-eqb}
+use Prim.Native.Nat.{_≤_}
+use native.Mathlib.Decide.{decLt}
+use native.Mathlib.Nat.{le-trans, mul-le-mul-right}
+use native.Mathlib.Omega.{arith}
+use lib.ListN.{getD-replicate, length-replicate, List·getD-eq-default}
+use Rattle.definitions.specs.Basics.{ℕ, zero, suc, _+_, _*_, _<_, Bool, true, false, _||_, Option, none, some, List, [], _∷_, _++_, map, length, getD, take, replicate, sum, every, keep, eqb, contains, noneOr}
+use Rattle.definitions.specs.Limits.{limits, within, entry}
+use Rattle.definitions.specs.Syntax.{Table, Region, patientAt}
+use Rattle.definitions.specs.Plans.{Plan, Row, bedOf, constraints, costOver}
+use Rattle.definitions.specs.Questions.{entriesWithin}
+use Rattle.ranking.specs.Members.{_∈_}
+use Rattle.ranking.specs.First.{First, first-iff, Sorted}
+use Rattle.ranking.specs.Growing.{Grown, Ready, ready-nil}
+use Rattle.ranking.specs.Combining.{Injective}
+use Rattle.theorems.specs.List.{rowOrder}
+use Rattle.theorems.specs.Kept.{keep-short}
+use Rattle.theorems.specs.Accepted.{cost-most}
+use Rattle.patient_set.specs.Lists.{every-keep}
+use Rattle.patient_set.specs.Sets.{members}
+use Rattle.patient_set.specs.Laws.{size-most}
+use Rattle.partial_rows.specs.Sets.{Patients}
+use Rattle.partial_rows.specs.Rows.{holds, tablesOf, noBeds, emptyRow, RowOf, Position, Branch}
+use Rattle.partial_rows.specs.Adding.{addBeds, addRows}
+use Rattle.partial_rows.specs.Beds.{no-bed, inside, outside}
+use Rattle.partial_rows.specs.Contexts.{row-context}
+use Rattle.partial_rows.specs.Parts.{parts-injective, parts-combined}
+use Rattle.partial_rows.specs.Walk.{position-start, walk-finds}
+use Rattle.buckets.specs.Terms.{Answered, Fitting, Prepared, leastAt, leastIn}
+use Rattle.buckets.specs.Right.{beds-some, beds-few, tables-few}
+use Rattle.row_list.specs.Rows.{rowIn, rowsIn, rowOf, Room, Stored}
+use Rattle.row_list.specs.Laws.{rows-none, rows-more}
+use Rattle.row_list.specs.declared.Row as Code
+use Rattle.row_sums.specs.Sums as Sums
+use Rattle.row_sums.specs.Sums.{part, listAt, Small}
+use Rattle.row_sums.specs.Areas.{replaced, replaced-long, part-long, part-new, part-before}
+use Rattle.search.specs.Lowest.{Upward}
+use Rattle.search.specs.Walks.{remaining, leftIn, headRow, Light, Heads, BranchOf, Asks, Gives}
+use Rattle.search.specs.Trees.{LeastSummed, AsksStart, GivesStart, Treed, AsksTree, GivesTree}
+use Rattle.search.specs.declared.walk.Head.{Head}
+
+pub take-zeros : (v n : ℕ) → v ≤ n → take {A = ℕ} v (replicate n 0) ≡ replicate v 0
+take-zeros zero n h = refl
+take-zeros (suc v) zero h = absurd (omega arith)
+take-zeros (suc v) (suc n) h = ap (λ l. 0 ∷ l) (take-zeros v n (omega arith))
+
+zero-bed : (n s : ℕ) → bedOf (replicate n 0) s ≡ 0
+zero-bed n s = elim (decLt s n) [ yes h ↦ getD-replicate n s 0 0 h | no h ↦ List·getD-eq-default (replicate n 0) 0 (omega (arith, length-replicate {A = ℕ} n 0)) ]
+
+-- ---- the list of nobody
+
+pub started : (v : ℕ) (work new : List ℕ) (x : Code.Row) → AsksStart v work → x .cost ≡ 0 → x .beds ≡ replicate 32 0 → Stored v 0 x (part 0 work) new → GivesStart v work (replaced 0 new work)
+started v work new x asks free empty stored = record {
+  long = replaced-long 0 work new fits long;
+  row = ap (rowsIn v 1) (part-new 0 work new fits long) ∙ rows-more v 0 new ∙ ap₂ (λ (l : List Row) (z : Row). l ++ (z ∷ [])) (rows-none v new) (stored .row ∙ row);
+}
+  where
+    fits : 2_176 ≤ length work
+    fits = omega (arith, asks .long)
+
+    long : length new ≡ 2_176
+    long = stored .long ∙ part-long 0 work fits
+
+    row : rowOf v x ≡ record { cost = 0; beds = replicate v 0 }
+    row = let beds : take v (x .beds) ≡ replicate v 0 = ap (take v) empty ∙ take-zeros v 32 (asks .patients) in λ i. record { cost = free i; beds = beds i }
+
+-- ---- the head of a walk over a whole set
+
+-- Nobody of the set is placed.
+pub record Fresh (set : ℕ) (patients : List ℕ) (head : Head) : Type 0 where
+  pub left : head .left .0 ≡ set
+  pub beds : head .plan .beds ≡ replicate 32 0
+  pub len : head .plan .len ≡ 0
+  pub cost : head .cost ≡ 0
+  pub bound : LeastSummed patients (members set) (head .bound)
+
+pub light-start : {set : ℕ} {patients : List ℕ} {head : Head} → Fresh set patients head → Light head
+light-start {set} {head} fresh =
+    record {
+      beds = ap length (fresh .beds);
+      placed = omega (arith, fresh .len, size-most (head .left .0));
+      cost = omega (arith, fresh .cost);
+      bound = fresh .bound .most;
+    }
+
+module _ {r : Region} {D E : Patients} {store patients terms : List ℕ} {v m n : ℕ} {work : List ℕ} {set : ℕ} (treed : Treed r D E store patients terms v m n work set) (few : v ≤ 32) where
+  zeros-fit : Fitting r (replicate 32 0)
+  zeros-fit s h = omega (arith, zero-bed 32 s, beds-some r (treed .prepared .answered) s h)
+
+  -- The least numbers that the words say are those of the buckets.
+  least-same : (l : List ℕ) → ((s : ℕ) → contains l s ≡ true → s < length (r .patients)) → sum (map (leastAt patients) l) ≡ sum (map (leastIn r) l)
+  least-same [] known = refl
+  least-same (s ∷ l) known =
+      ap₂ _+_ (treed .prepared .least s (known s (ap (λ b. b || contains l s) (eq-eqb s s refl))))
+      (least-same l (λ q e. known q (ap (λ b. eqb q s || b) e ∙ or-true (eqb q s))))
+
+  module _ {head : Head} (fresh : Fresh set patients head) where
+    fresh-row : headRow v head ≡ emptyRow r
+    fresh-row =
+        let beds : take v (head .plan .beds) ≡ noBeds r = ap (take v) (fresh .beds) ∙ take-zeros v 32 few ∙ ap (λ k. replicate k 0) (treed .counted) in
+        λ i. record { cost = fresh .cost i; beds = beds i }
+
+    fresh-left : leftIn head ≡ contains (members set)
+    fresh-left = ap (λ w. contains (members w)) (fresh .left)
+
+    fresh-free : (s : ℕ) → bedOf (head .plan .beds) s ≡ 0
+    fresh-free s = ap (λ b. bedOf b s) (fresh .beds) ∙ zero-bed 32 s
+
+    pub heads-start : Heads r store patients terms v head
+    heads-start =
+        record {
+          prepared = treed .prepared;
+          counted = treed .counted;
+          few = few;
+          fits = rw (fresh .beds) zeros-fit;
+          position = subst⁻¹ (Position r (leftIn head) (head .plan .beds)) fresh-row
+              (position-start r (leftIn head) (head .plan .beds) (subst⁻¹ (λ F. (s : ℕ) → F s ≡ true → s < length (r .patients)) fresh-left (treed .known))
+              (omega (arith, treed .counted, ap length (fresh .beds))) (λ s e. fresh-free s));
+          upward = subst⁻¹ (Upward r) fresh-left (treed .upward);
+          bound = fresh .bound .is ∙ least-same (members set) (treed .known) ∙ ap (λ w. sum (map (leastIn r) (members w))) (sym (fresh .left));
+        }
+
+    -- The walk from there finds the first rows of the set.
+    pub tree-first : {area now : List ℕ} {found : ℕ} → Gives store patients terms v 0 m area head now found → First rowOrder m (RowOf r (contains (members set)) (noBeds r)) (rowsIn v found now)
+    tree-first {area} {now} {found} gives =
+        let empty : Ready rowOrder m (rowsIn v 0 area) (BranchOf r v head) = subst⁻¹ (λ l. Ready rowOrder m l (BranchOf r v head)) (rows-none v area) ready-nil in
+        let grown : Grown rowOrder m [] (BranchOf r v head) (rowsIn v found now) =
+        subst (λ l. Grown rowOrder m l (BranchOf r v head) (rowsIn v found now)) (rows-none v area) (gives .grown r heads-start empty) in
+        let branch : BranchOf r v head ≡ Branch r (contains (members set)) (head .plan .beds) (emptyRow r) = λ i. Branch r (fresh-left i) (head .plan .beds) (fresh-row i) in
+        let first = walk-finds r (contains (members set)) (head .plan .beds) (subst (λ Q. Grown rowOrder m [] Q (rowsIn v found now)) branch grown) in
+        first-iff (λ z. row-context (λ t k h s i. fresh-free s ∙ sym (no-bed r s))) (λ z. row-context (λ t k h s i. no-bed r s ∙ sym (fresh-free s))) first
