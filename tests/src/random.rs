@@ -12,12 +12,13 @@ impl Random {
         });
         let mut random = Random { state: mixed | 1 };
         for _ in 0..8 {
-            random.next();
+            random.number();
         }
         random
     }
 
-    pub fn next(&mut self) -> u64 {
+    /// Any number of 48 bits.
+    pub fn number(&mut self) -> u64 {
         self.state ^= self.state >> 12;
         self.state ^= self.state << 25;
         self.state ^= self.state >> 27;
@@ -26,17 +27,17 @@ impl Random {
 
     /// A number below `bound`, which is at least 1.
     pub fn below(&mut self, bound: usize) -> usize {
-        (self.next() % bound as u64) as usize
+        (self.number() % bound as u64) as usize
     }
 
     /// A number from `low` to `high`, both included.
     pub fn between(&mut self, low: u64, high: u64) -> u64 {
-        low + self.next() % (high - low + 1)
+        low + self.number() % (high - low + 1)
     }
 
     /// True in `percent` of a hundred cases.
     pub fn chance(&mut self, percent: u64) -> bool {
-        self.next() % 100 < percent
+        self.number() % 100 < percent
     }
 
     pub fn pick<T: Copy>(&mut self, things: &[T]) -> T {

@@ -11,13 +11,15 @@ struct Lines {
     true_sum: u64,
 }
 
+type Question = fn(&Lines) -> bool;
+
 /// The region of a file, or the number of the first question answered "no".
 pub fn read(file: &[u8]) -> Result<Region, u64> {
     if file.len() > 65_535 {
         return Err(1);
     }
     let lines = laid_out(file).ok_or(2u64)?;
-    let questions: [(u64, fn(&Lines) -> bool); 8] = [
+    let questions: [(u64, Question); 8] = [
         (3, |lines| lines.v == lines.region.patients.len() as u64 && lines.t == lines.region.tables.len() as u64),
         (4, |lines| lines.end == lines.true_sum),
         (5, |lines| (1..=32).contains(&lines.v) && lines.t <= 64 && (1..=64).contains(&lines.region.m)),

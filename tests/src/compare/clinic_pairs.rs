@@ -69,7 +69,7 @@ fn called(tested: Tested<SheetCall>, region: &Region, clinic: u64, random: &mut 
     debug_assert_eq!(outcomes::check(&file), 0);
     let asked = Lengths::asked(region.m, region.patients.len());
     let lengths = Lengths { beds: asked.beds + random.below(9), costs: asked.costs + random.below(9), ..asked };
-    let mut areas = Areas::patterned(lengths, random.next());
+    let mut areas = Areas::patterned(lengths, random.number());
     let number = (tested.call)(&file, clinic, &mut areas);
     let rows = rows_left(&areas, region.patients_of(clinic).len());
     (file, Sheet { number, rows, areas })

@@ -47,10 +47,10 @@ fn regions(tested: Tested<ListCall>, kind: small::Kind, seed: u64, count: usize)
         let file = spelling::file_of(&region);
         let outcomes = Outcomes::of(&file);
         let asked = Lengths::asked(region.m, region.patients.len());
-        compare(&mut tally, tested, (&file, &outcomes), Areas::patterned(asked, random.next()))?;
+        compare(&mut tally, tested, (&file, &outcomes), Areas::patterned(asked, random.number()))?;
         for _ in 0..2 {
             let lengths = near(asked, &mut random);
-            compare(&mut tally, tested, (&file, &outcomes), Areas::patterned(lengths, random.next()))?;
+            compare(&mut tally, tested, (&file, &outcomes), Areas::patterned(lengths, random.number()))?;
         }
     }
     Ok(tally)
@@ -78,7 +78,7 @@ fn all_lengths(tested: Tested<ListCall>, seed: u64) -> Result<Tally, Difference>
         let file = spelling::file_of(&region);
         let outcomes = Outcomes::of(&file);
         for lengths in lengths_to_try(Lengths::asked(region.m, region.patients.len())) {
-            compare(&mut tally, tested, (&file, &outcomes), Areas::patterned(lengths, random.next()))?;
+            compare(&mut tally, tested, (&file, &outcomes), Areas::patterned(lengths, random.number()))?;
         }
     }
     Ok(tally)
@@ -108,7 +108,7 @@ fn faulty_files(tested: Tested<ListCall>, seed: u64, count: usize) -> Result<Tal
         let file = faulty::file(case, &mut random);
         let outcomes = Outcomes::of(&file);
         let lengths = near(Lengths { beds: 2_048, costs: 512, result: 8 }, &mut random);
-        compare(&mut tally, tested, (&file, &outcomes), Areas::patterned(lengths, random.next()))?;
+        compare(&mut tally, tested, (&file, &outcomes), Areas::patterned(lengths, random.number()))?;
     }
     Ok(tally)
 }

@@ -46,12 +46,12 @@ fn regions(tested: Tested<PriceCall>, seed: u64, count: usize) -> Result<Tally, 
         let outcomes = Outcomes::of(&file);
         for plan in plans_to_try(&region, &mut random) {
             let length = if random.chance(70) { 16 } else { random.below(40) };
-            let result = Area::patterned(length, random.next());
+            let result = Area::patterned(length, random.number());
             compare(&mut tally, tested, (&file, &outcomes), &plan, result)?;
         }
         let plan = vec![0; region.patients.len()];
         for length in 0..=24 {
-            compare(&mut tally, tested, (&file, &outcomes), &plan, Area::patterned(length, random.next()))?;
+            compare(&mut tally, tested, (&file, &outcomes), &plan, Area::patterned(length, random.number()))?;
         }
     }
     Ok(tally)
@@ -82,7 +82,7 @@ fn refused_files(tested: Tested<PriceCall>, seed: u64, count: usize) -> Result<T
         let file = faulty::file(case, &mut random);
         let outcomes = Outcomes::of(&file);
         let length = random.pick(&[0, 7, 8, 15, 16, 17]);
-        let result = Area::patterned(length, random.next());
+        let result = Area::patterned(length, random.number());
         compare(&mut tally, tested, (&file, &outcomes), &[0, 0], result)?;
     }
     Ok(tally)

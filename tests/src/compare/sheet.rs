@@ -62,7 +62,7 @@ fn every_clinic(
     let asked = Lengths::asked(region.m, region.patients.len());
     for clinic in clinics_to_try(region) {
         let lengths = if random.chance(60) { asked } else { near(asked, random) };
-        let areas = Areas::patterned(lengths, random.next());
+        let areas = Areas::patterned(lengths, random.number());
         compare(tally, tested, (&file, &outcomes), clinic, areas)?;
     }
     Ok(())
@@ -101,7 +101,7 @@ fn all_lengths(tested: Tested<SheetCall>, seed: u64) -> Result<Tally, Difference
         let clinic = region.patients[random.below(region.patients.len())].clinic;
         let asked = Lengths::asked(region.m, region.patients.len());
         for lengths in lengths_to_try(asked) {
-            let areas = Areas::patterned(lengths, random.next());
+            let areas = Areas::patterned(lengths, random.number());
             compare(&mut tally, tested, (&file, &outcomes), clinic, areas)?;
         }
     }
@@ -116,7 +116,7 @@ fn faulty_files(tested: Tested<SheetCall>, seed: u64, count: usize) -> Result<Ta
         let outcomes = Outcomes::of(&file);
         let lengths = near(Lengths { beds: 2_048, costs: 512, result: 8 }, &mut random);
         let clinic = random.between(0, 16);
-        compare(&mut tally, tested, (&file, &outcomes), clinic, Areas::patterned(lengths, random.next()))?;
+        compare(&mut tally, tested, (&file, &outcomes), clinic, Areas::patterned(lengths, random.number()))?;
     }
     Ok(tally)
 }

@@ -28,7 +28,7 @@ fn damage_once(file: &mut Vec<u8>, random: &mut Random) {
     let place = random.below(file.len());
     match random.below(9) {
         0 => file[place] = random.pick(FILE_BYTES),
-        1 => file[place] = random.next() as u8,
+        1 => file[place] = random.number() as u8,
         2 => file.insert(place, random.pick(FILE_BYTES)),
         3 => drop(file.remove(place)),
         4 => file.truncate(place),
@@ -71,7 +71,7 @@ pub fn random_bytes(random: &mut Random) -> Vec<u8> {
         bytes.splice(0..0, *b"(region 1 0 1)\n");
     }
     if random.chance(30) {
-        bytes.push(random.next() as u8);
+        bytes.push(random.number() as u8);
     }
     bytes
 }
