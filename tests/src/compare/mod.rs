@@ -2,6 +2,8 @@
 
 pub mod check;
 pub mod clinic_pairs;
+#[cfg(any(feature = "list", feature = "sheet"))]
+pub mod large;
 pub mod list;
 pub mod paper;
 pub mod price;
@@ -41,6 +43,10 @@ pub fn run_all(seed: u64, count: usize) -> Result<(), Difference> {
         print_all(sheet::run(tested, seed, count)?);
         print_all(clinic_pairs::run(tested, seed, count)?);
     }
+    #[cfg(feature = "list")]
+    large::lists(seed, count / 10)?.print();
+    #[cfg(feature = "sheet")]
+    large::sheets(seed, count / 10)?.print();
     Ok(())
 }
 

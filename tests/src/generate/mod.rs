@@ -5,6 +5,7 @@ pub mod damage;
 pub mod faults;
 pub mod faulty;
 pub mod full_size;
+pub mod large;
 pub mod layout_faults;
 pub mod pairs;
 pub mod parents;
