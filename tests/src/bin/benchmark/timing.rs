@@ -35,12 +35,12 @@ pub fn ratio(first: &Times, second: &Times) -> String {
     format!("{:.2} ({:.2})", of(first.median, second.median), of(first.least, second.least))
 }
 
-/// Runs both in turn, as often as the time allows, at least once each. What they give is the number
+/// Runs both in turn, as often as the time allows, at least three times each. What they give is the number
 /// that a call answers.
 pub fn in_turn(mut one: impl FnMut() -> u64, mut other: impl FnMut() -> u64) -> (Times, Times, u32) {
     let once = timed(&mut one) + timed(&mut other);
     let fitting = TOGETHER.as_nanos() / once.as_nanos().max(1);
-    let repetitions = fitting.clamp(1, u128::from(MOST_REPETITIONS)) as u32;
+    let repetitions = fitting.clamp(3, u128::from(MOST_REPETITIONS)) as u32;
     let mut times = (Vec::new(), Vec::new());
     for _ in 0..repetitions {
         times.0.push(timed(&mut one));
