@@ -4,7 +4,6 @@ use crate::areas::{Areas, Lengths};
 use crate::compare::report::{areas_text, Difference, Tally};
 use crate::compare::{SheetCall, Tested};
 use crate::generate::{pairs, spelling};
-use crate::outcomes;
 use crate::random::Random;
 use crate::region::Region;
 
@@ -66,7 +65,6 @@ fn joined(tested: Tested<SheetCall>, seed: u64, count: usize) -> Result<Tally, D
 /// Calls sheet with areas that are long enough, of some length, filled with some pattern.
 fn called(tested: Tested<SheetCall>, region: &Region, clinic: u64, random: &mut Random) -> (Vec<u8>, Sheet) {
     let file = spelling::file_of(region);
-    debug_assert_eq!(outcomes::check(&file), 0);
     let asked = Lengths::asked(region.m, region.patients.len());
     let lengths = Lengths { beds: asked.beds + random.below(9), costs: asked.costs + random.below(9), ..asked };
     let mut areas = Areas::patterned(lengths, random.number());

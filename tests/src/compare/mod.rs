@@ -30,8 +30,8 @@ pub type SheetCall = fn(&[u8], u64, &mut Areas) -> u64;
 /// Runs every comparison, each line printed as soon as it is done, up to the first difference.
 pub fn run_all(seed: u64, count: usize) -> Result<(), Difference> {
     paper::run()?.print();
-    for tally in check::KINDS {
-        tally(seed, count)?.print();
+    for kind in check::KINDS {
+        kind(seed, count)?.print();
     }
     for tested in tested_prices() {
         print_all(price::run(tested, seed, count)?);

@@ -10,7 +10,7 @@ use crate::random::Random;
 use crate::region::Region;
 
 pub fn run(tested: Tested<PriceCall>, seed: u64, count: usize) -> Result<Vec<Tally>, Difference> {
-    Ok(vec![regions(tested, seed, count)?, refused_files(tested, seed, count)?])
+    Ok(vec![regions(tested, seed, count)?, faulty_files(tested, seed, count)?])
 }
 
 /// One call, compared in its number and in every byte of the result area.
@@ -75,7 +75,7 @@ fn plans_to_try(region: &Region, random: &mut Random) -> Vec<Vec<u8>> {
 }
 
 /// Files that are refused, with result areas of any length.
-fn refused_files(tested: Tested<PriceCall>, seed: u64, count: usize) -> Result<Tally, Difference> {
+fn faulty_files(tested: Tested<PriceCall>, seed: u64, count: usize) -> Result<Tally, Difference> {
     let mut tally = Tally::of(&format!("{}, faulty files", tested.name));
     let mut random = Random::of(seed, "price, faulty files");
     for case in 0..count {

@@ -41,7 +41,7 @@ pub fn compare(
     Err(Difference { kind: tally.kind().to_string(), file: file.to_vec(), answers })
 }
 
-/// Every clinic of a region, the one below and above, and numbers that a cut to fewer bits would mistake.
+/// Every clinic of a region, the highest clinic, and numbers that a cut to fewer bits would mistake.
 fn clinics_to_try(region: &Region) -> Vec<u64> {
     let mut clinics: Vec<u64> = region.patients.iter().map(|patient| patient.clinic).collect();
     clinics.sort();
