@@ -2,7 +2,7 @@
 //! stands before the end line, the end line's sum is made right again.
 
 use crate::generate::faults::sound_region;
-use crate::generate::spelling::{file_of, lines_of, with_right_sum};
+use crate::generate::spelling::{file_of, lines_of, with_end};
 use crate::random::Random;
 
 type Lines = Vec<Vec<u8>>;
@@ -19,14 +19,14 @@ pub fn file(random: &mut Random) -> Vec<u8> {
         4 => in_the_lines(&mut lines, random),
         _ => return at_the_end(good, random),
     }
-    let changed = lines.concat();
-    if lines.last().is_some_and(|line| line.starts_with(b"(end ") && line.ends_with(b")\n")) && random.chance(80) {
-        return with_right_sum(&changed);
+    match lines.split_last() {
+        // The lines before are taken as they now are: one of them may have lost its line end.
+        Some((last, before)) if last.starts_with(b"(end ") && random.chance(80) => with_end(&before.concat()),
+        _ => lines.concat(),
     }
-    changed
 }
 
-/// Any line but the end line, whose changes `with_right_sum` would undo.
+/// Any line but the end line, which is written anew.
 fn body_line<'a>(lines: &'a mut Lines, random: &mut Random) -> &'a mut Vec<u8> {
     let place = random.below(lines.len() - 1);
     &mut lines[place]
