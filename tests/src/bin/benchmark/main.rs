@@ -1,0 +1,51 @@
+//! Times of the proved library beside the baseline, both optimised, in one run:
+//! `benchmark [--limit SECONDS] [FILE ..]`. Region files come from `generate::clinics`, which makes
+//! regions of the same kind as the script `make_region`; the script's own files can be given too.
+
+mod check_times;
+#[cfg(feature = "list")]
+mod list_times;
+mod timing;
+
+use std::process::ExitCode;
+use std::time::Duration;
+
+/// How long the baseline may search one region.
+const LIMIT: Duration = Duration::from_secs(10);
+
+fn main() -> ExitCode {
+    match run(std::env::args().skip(1)) {
+        Ok(()) => ExitCode::SUCCESS,
+        Err(fault) => {
+            eprintln!("benchmark [--limit SECONDS] [FILE ..]: {fault}");
+            ExitCode::from(2)
+        }
+    }
+}
+
+fn run(mut arguments: impl Iterator<Item = String>) -> Result<(), String> {
+    let mut limit = LIMIT;
+    let mut given = Vec::new();
+    while let Some(argument) = arguments.next() {
+        if argument == "--limit" {
+            let seconds = arguments.next().and_then(|seconds| seconds.parse().ok());
+            limit = Duration::from_secs(seconds.ok_or("--limit needs a number of seconds")?);
+        } else {
+            let file = std::fs::read(&argument).map_err(|fault| format!("{argument}: {fault}"))?;
+            given.push((argument, file));
+        }
+    }
+    check_times::print(&given);
+    print_lists(&given, limit);
+    Ok(())
+}
+
+#[cfg(feature = "list")]
+fn print_lists(given: &[(String, Vec<u8>)], limit: Duration) {
+    list_times::print(given, limit);
+}
+
+#[cfg(not(feature = "list"))]
+fn print_lists(_: &[(String, Vec<u8>)], limit: Duration) {
+    println!("list is not measured: build with --features list (limit {} s a region)", limit.as_secs());
+}

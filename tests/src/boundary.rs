@@ -1,0 +1,95 @@
+//! The proved library's calls from C, each behind a safe wrapper.
+
+#[cfg(any(feature = "list", feature = "sheet"))]
+use crate::areas::Areas;
+
+extern "C" {
+    fn rigbasen_check(file: *const u8, file_length: usize) -> u64;
+
+    #[cfg(feature = "price")]
+    fn rigbasen_price(
+        file: *const u8,
+        file_length: usize,
+        plan: *const u8,
+        plan_length: usize,
+        result: *mut u8,
+        result_length: usize,
+    ) -> u64;
+
+    #[cfg(feature = "list")]
+    fn rigbasen_list(
+        file: *const u8,
+        file_length: usize,
+        beds: *mut u8,
+        beds_length: usize,
+        costs: *mut u8,
+        costs_length: usize,
+        result: *mut u8,
+        result_length: usize,
+    ) -> u64;
+
+    #[cfg(feature = "sheet")]
+    fn rigbasen_sheet(
+        file: *const u8,
+        file_length: usize,
+        clinic: u64,
+        beds: *mut u8,
+        beds_length: usize,
+        costs: *mut u8,
+        costs_length: usize,
+        result: *mut u8,
+        result_length: usize,
+    ) -> u64;
+}
+
+/// Check's number of a file.
+pub fn check(file: &[u8]) -> u64 {
+    // The pointer and the length are those of one slice.
+    unsafe { rigbasen_check(file.as_ptr(), file.len()) }
+}
+
+/// Price's number; the result area has two numbers, allowed and total.
+#[cfg(feature = "price")]
+pub fn price(file: &[u8], plan: &[u8], result: &mut [u8]) -> u64 {
+    // Each pointer and length are those of one slice, and the slices do not overlap.
+    unsafe { rigbasen_price(file.as_ptr(), file.len(), plan.as_ptr(), plan.len(), result.as_mut_ptr(), result.len()) }
+}
+
+/// List's number; the result area has one number, the row count.
+#[cfg(feature = "list")]
+pub fn list(file: &[u8], areas: &mut Areas) -> u64 {
+    let (beds, costs, result) = (areas.beds.lent(), areas.costs.lent(), areas.result.lent());
+    // Each pointer and length are those of one slice, and the slices do not overlap.
+    unsafe {
+        rigbasen_list(
+            file.as_ptr(),
+            file.len(),
+            beds.as_mut_ptr(),
+            beds.len(),
+            costs.as_mut_ptr(),
+            costs.len(),
+            result.as_mut_ptr(),
+            result.len(),
+        )
+    }
+}
+
+/// Sheet's number; the result area has one number, the row count.
+#[cfg(feature = "sheet")]
+pub fn sheet(file: &[u8], clinic: u64, areas: &mut Areas) -> u64 {
+    let (beds, costs, result) = (areas.beds.lent(), areas.costs.lent(), areas.result.lent());
+    // Each pointer and length are those of one slice, and the slices do not overlap.
+    unsafe {
+        rigbasen_sheet(
+            file.as_ptr(),
+            file.len(),
+            clinic,
+            beds.as_mut_ptr(),
+            beds.len(),
+            costs.as_mut_ptr(),
+            costs.len(),
+            result.as_mut_ptr(),
+            result.len(),
+        )
+    }
+}

@@ -1,0 +1,122 @@
+//! Sheet for every clinic of each region, and for clinics that no region has.
+
+use crate::areas::{Areas, Lengths};
+use crate::compare::list::{lengths_to_try, near};
+use crate::compare::report::{areas_text, Difference, Tally};
+use crate::compare::{SheetCall, Tested};
+use crate::generate::{faulty, pairs, small, spelling};
+use crate::outcomes::Outcomes;
+use crate::random::Random;
+use crate::region::Region;
+
+pub fn run(tested: Tested<SheetCall>, seed: u64, count: usize) -> Result<Vec<Tally>, Difference> {
+    Ok(vec![
+        regions(tested, seed, count)?,
+        joined_regions(tested, seed, count / 2)?,
+        all_lengths(tested, seed)?,
+        faulty_files(tested, seed, count)?,
+    ])
+}
+
+/// One call, compared in its number and in every byte of every area.
+pub fn compare(
+    tally: &mut Tally,
+    tested: Tested<SheetCall>,
+    (file, outcomes): (&[u8], &Outcomes),
+    clinic: u64,
+    areas: Areas,
+) -> Result<(), Difference> {
+    let (mut expected, mut given) = (areas.clone(), areas);
+    let expected_number = outcomes.sheet(clinic, &mut expected);
+    let number = (tested.call)(file, clinic, &mut given);
+    if number == expected_number && given == expected {
+        tally.count(number);
+        return Ok(());
+    }
+    let answers = vec![
+        ("clinic".to_string(), clinic.to_string()),
+        ("independent program".to_string(), format!("{expected_number}{}", areas_text(&expected))),
+        (tested.name.to_string(), format!("{number}{}", areas_text(&given))),
+    ];
+    Err(Difference { kind: tally.kind().to_string(), file: file.to_vec(), answers })
+}
+
+/// Every clinic of a region, the highest clinic, and numbers that a cut to fewer bits would mistake.
+fn clinics_to_try(region: &Region) -> Vec<u64> {
+    let mut clinics: Vec<u64> = region.patients.iter().map(|patient| patient.clinic).collect();
+    clinics.sort();
+    clinics.dedup();
+    let first = clinics[0];
+    clinics.extend([15, 16, 256, 1 << 32, 256 + first, (1 << 32) + first, u64::MAX]);
+    clinics
+}
+
+fn every_clinic(
+    tally: &mut Tally,
+    tested: Tested<SheetCall>,
+    region: &Region,
+    random: &mut Random,
+) -> Result<(), Difference> {
+    let file = spelling::file_of(region);
+    let outcomes = Outcomes::of(&file);
+    let asked = Lengths::asked(region.m, region.patients.len());
+    for clinic in clinics_to_try(region) {
+        let lengths = if random.chance(60) { asked } else { near(asked, random) };
+        let areas = Areas::patterned(lengths, random.number());
+        compare(tally, tested, (&file, &outcomes), clinic, areas)?;
+    }
+    Ok(())
+}
+
+/// Small regions of every kind, most of them with tables that join clinics.
+fn regions(tested: Tested<SheetCall>, seed: u64, count: usize) -> Result<Tally, Difference> {
+    let mut tally = Tally::of(&format!("{}, regions", tested.name));
+    let mut random = Random::of(seed, "sheet, regions");
+    for case in 0..count {
+        let region = small::region(small::KINDS[case % small::KINDS.len()], &mut random);
+        every_clinic(&mut tally, tested, &region, &mut random)?;
+    }
+    Ok(tally)
+}
+
+/// Regions with a clinic that no table joins to others, and with one that a table does.
+fn joined_regions(tested: Tested<SheetCall>, seed: u64, count: usize) -> Result<Tally, Difference> {
+    let mut tally = Tally::of(&format!("{}, clinics apart or joined", tested.name));
+    let mut random = Random::of(seed, "sheet, clinics apart or joined");
+    for case in 0..count {
+        let pair = pairs::pair(case % 2 == 1, &mut random);
+        every_clinic(&mut tally, tested, &pair.one, &mut random)?;
+    }
+    Ok(tally)
+}
+
+/// Every length of each area from 0 to past its limit, for a few regions.
+fn all_lengths(tested: Tested<SheetCall>, seed: u64) -> Result<Tally, Difference> {
+    let mut tally = Tally::of(&format!("{}, all lengths", tested.name));
+    let mut random = Random::of(seed, "sheet, all lengths");
+    for kind in small::KINDS {
+        let region = small::region(kind, &mut random);
+        let file = spelling::file_of(&region);
+        let outcomes = Outcomes::of(&file);
+        let clinic = region.patients[random.below(region.patients.len())].clinic;
+        let asked = Lengths::asked(region.m, region.patients.len());
+        for lengths in lengths_to_try(asked) {
+            let areas = Areas::patterned(lengths, random.number());
+            compare(&mut tally, tested, (&file, &outcomes), clinic, areas)?;
+        }
+    }
+    Ok(tally)
+}
+
+fn faulty_files(tested: Tested<SheetCall>, seed: u64, count: usize) -> Result<Tally, Difference> {
+    let mut tally = Tally::of(&format!("{}, faulty files", tested.name));
+    let mut random = Random::of(seed, "sheet, faulty files");
+    for case in 0..count {
+        let file = faulty::file(case, &mut random);
+        let outcomes = Outcomes::of(&file);
+        let lengths = near(Lengths { beds: 2_048, costs: 512, result: 8 }, &mut random);
+        let clinic = random.between(0, 16);
+        compare(&mut tally, tested, (&file, &outcomes), clinic, Areas::patterned(lengths, random.number()))?;
+    }
+    Ok(tally)
+}

@@ -1,0 +1,55 @@
+//! Files at the limits of size.
+
+use crate::generate::spelling::{file_of, with_end, Draft};
+use crate::random::Random;
+use crate::region::{Patient, Region, Table};
+
+/// 32 patients in a chain, 8 beds each, and 64 tables over two of them: 4,096 entries.
+pub fn region(random: &mut Random) -> Region {
+    let mut region = Region { patients: Vec::new(), tables: Vec::new(), m: 64 };
+    for number in 0..32u64 {
+        region.patients.push(Patient { clinic: number / 2, beds: 8, parent: number.checked_sub(1) });
+    }
+    for number in 0..64u64 {
+        let first = number % 31;
+        let second = random.between(first + 1, 31);
+        let entries = (0..64).map(|_| (!random.chance(5)).then(|| random.between(0, 1_000_000))).collect();
+        region.tables.push(Table { members: vec![first, second], entries });
+    }
+    region
+}
+
+/// A good file of full size.
+pub fn good_file(random: &mut Random) -> Vec<u8> {
+    file_of(&region(random))
+}
+
+/// A laid-out file of exactly this many bytes (at least 60,000): a full-size region whose last
+/// table has entries to fill the file. Up to 65,535 bytes it is refused with 8.
+pub fn laid_out_file(length: usize, random: &mut Random) -> Vec<u8> {
+    const LINE_TAIL: &[u8] = b"))\n";
+    const END_LINE: usize = "(end 12345)\n".len();
+    loop {
+        let mut body = Draft::of(&region(random)).body();
+        body.truncate(body.len() - LINE_TAIL.len());
+        fill(&mut body, length - END_LINE - LINE_TAIL.len(), random);
+        body.extend(LINE_TAIL);
+        let file = with_end(&body);
+        // A sum of fewer digits makes another end line: then draw again.
+        if file.len() == length {
+            return file;
+        }
+    }
+}
+
+/// Adds entries, each after a space, up to a length.
+fn fill(body: &mut Vec<u8>, length: usize, random: &mut Random) {
+    while body.len() < length {
+        let digits = match length - body.len() {
+            8 => 5,
+            missing => missing.min(7) - 1,
+        };
+        let lowest = 10u64.pow(digits as u32 - 1);
+        body.extend(format!(" {}", random.between(lowest, lowest * 10 - 1)).bytes());
+    }
+}

@@ -1,0 +1,94 @@
+//! Pairs of files that share a clinic, for demand 3: the same patients in the same order with the
+//! same beds and the same tables among them, each as often. All else is drawn anew for each file.
+
+use crate::generate::parents::{join_some_roots, set_parents};
+use crate::generate::small::some_of;
+use crate::random::Random;
+use crate::region::{Patient, Region, Table};
+
+/// Two regions, and the clinic that they share.
+pub struct Pair {
+    pub clinic: u64,
+    pub one: Region,
+    pub other: Region,
+}
+
+/// Patients and tables over places: a table's members are places in `beds`.
+struct Part {
+    beds: Vec<u64>,
+    tables: Vec<Table>,
+}
+
+/// A pair; where `joined`, each file has a table that joins the clinic to a patient elsewhere,
+/// so that demand 3 says nothing of it.
+pub fn pair(joined: bool, random: &mut Random) -> Pair {
+    let clinic = random.between(0, 15);
+    let patients = random.between(1, 3);
+    let shared = part(patients, 4, random);
+    let one = around(&shared, clinic, joined, random);
+    let other = around(&shared, clinic, joined, random);
+    Pair { clinic, one, other }
+}
+
+/// Patients with few beds, and tables with many equal prices, some tables twice.
+fn part(patients: u64, most_tables: u64, random: &mut Random) -> Part {
+    let beds: Vec<u64> = (0..patients).map(|_| random.between(1, 3)).collect();
+    let mut tables: Vec<Table> = Vec::new();
+    for _ in 0..random.between(0, most_tables) {
+        if beds.is_empty() {
+            break;
+        }
+        if !tables.is_empty() && random.chance(25) {
+            tables.push(tables[random.below(tables.len())].clone());
+            continue;
+        }
+        let members = some_of((0..patients).collect(), random.pick(&[1, 2, 2, 3]), random);
+        let size = members.iter().map(|place| beds[*place as usize]).product();
+        tables.push(Table { entries: entries(size, random), members });
+    }
+    Part { beds, tables }
+}
+
+fn entries(size: u64, random: &mut Random) -> Vec<Option<u64>> {
+    (0..size).map(|_| (!random.chance(12)).then(|| random.between(0, 4))).collect()
+}
+
+/// A region with the shared clinic, other patients put between its own, and tables in any order.
+fn around(shared: &Part, clinic: u64, joined: bool, random: &mut Random) -> Region {
+    let fewest = u64::from(joined);
+    let strangers = random.between(fewest, 4);
+    let rest = part(strangers, 4, random);
+    let all = shared.beds.len() + rest.beds.len();
+    let numbers = some_of((0..all as u64).collect(), shared.beds.len(), random);
+    let other_numbers: Vec<u64> = (0..all as u64).filter(|number| !numbers.contains(number)).collect();
+    let blank = Patient { clinic, beds: 0, parent: None };
+    let mut region = Region { patients: vec![blank; all], tables: Vec::new(), m: random.between(1, 64) };
+    for (number, beds) in numbers.iter().zip(&shared.beds) {
+        region.patients[*number as usize].beds = *beds;
+    }
+    for (number, beds) in other_numbers.iter().zip(&rest.beds) {
+        let elsewhere = (clinic + random.between(1, 3)) % 16;
+        region.patients[*number as usize] = Patient { clinic: elsewhere, beds: *beds, parent: None };
+    }
+    region.tables.extend(shared.tables.iter().map(|table| renumbered(table, &numbers)));
+    region.tables.extend(rest.tables.iter().map(|table| renumbered(table, &other_numbers)));
+    if joined {
+        join(&mut region, random.pick(&numbers), random.pick(&other_numbers), random);
+    }
+    random.shuffle(&mut region.tables);
+    set_parents(&mut region);
+    join_some_roots(&mut region, 40, random);
+    region
+}
+
+/// A table over places as a table over patient numbers. Rising places have rising numbers.
+fn renumbered(table: &Table, numbers: &[u64]) -> Table {
+    let members = table.members.iter().map(|place| numbers[*place as usize]).collect();
+    Table { members, entries: table.entries.clone() }
+}
+
+fn join(region: &mut Region, inside: u64, outside: u64, random: &mut Random) {
+    let members = vec![inside.min(outside), inside.max(outside)];
+    let size = region.entries_over(&members);
+    region.tables.push(Table { entries: entries(size, random), members });
+}

@@ -1,0 +1,13 @@
+//! The tests that are run, not proved: the proved library beside an independent program written
+//! from document 01, and a baseline to measure it against.
+
+pub mod areas;
+pub mod baseline;
+pub mod boundary;
+pub mod compare;
+pub mod generate;
+pub mod outcomes;
+pub mod plans;
+pub mod random;
+pub mod reader;
+pub mod region;

@@ -1,0 +1,118 @@
+//! What each call from C must answer, by the independent program: the number, and every byte of
+//! every lent area afterwards.
+
+use crate::areas::Areas;
+use crate::plans::{self, Row};
+use crate::reader;
+use crate::region::Region;
+
+/// The independent program's view of one file.
+pub struct Outcomes {
+    read: Result<Region, u64>,
+    list: Vec<Row>,
+}
+
+/// The number of the check call.
+pub fn check(file: &[u8]) -> u64 {
+    reader::read(file).err().unwrap_or(0)
+}
+
+impl Outcomes {
+    /// Reads the file and walks all its plans.
+    pub fn of(file: &[u8]) -> Outcomes {
+        let read = reader::read(file);
+        let list = read.as_ref().map(plans::list).unwrap_or_default();
+        Outcomes { read, list }
+    }
+
+    /// The number of the price call; its result area has two numbers, allowed and total.
+    pub fn price(&self, plan: &[u8], result: &mut [u8]) -> u64 {
+        write_result(result, &[0, 0]);
+        let region = match &self.read {
+            Ok(region) => region,
+            Err(number) => return *number,
+        };
+        if result.len() < 16 {
+            return 12;
+        }
+        let fits = plan.len() == region.patients.len()
+            && plan.iter().zip(&region.patients).all(|(bed, patient)| u64::from(*bed) < patient.beds);
+        if !fits {
+            return 14;
+        }
+        if let Some(total) = plans::total(region, plan) {
+            write_result(result, &[1, total]);
+        }
+        0
+    }
+
+    /// The number of the list call.
+    pub fn list(&self, areas: &mut Areas) -> u64 {
+        self.rows_call(areas, |_| true, |_, list| list.to_vec())
+    }
+
+    /// The number of the sheet call.
+    pub fn sheet(&self, clinic: u64, areas: &mut Areas) -> u64 {
+        let has_patient = |region: &Region| region.patients.iter().any(|patient| patient.clinic == clinic);
+        self.rows_call(areas, has_patient, |region, list| plans::sheet(region, list, clinic))
+    }
+
+    /// Questions 1 to 10, question 11 as given, 12 and 13; then the rows are written.
+    fn rows_call(
+        &self,
+        areas: &mut Areas,
+        question_11: impl Fn(&Region) -> bool,
+        rows: impl Fn(&Region, &[Row]) -> Vec<Row>,
+    ) -> u64 {
+        write_result(areas.result.lent(), &[0]);
+        let region = match &self.read {
+            Ok(region) => region,
+            Err(number) => return *number,
+        };
+        if !question_11(region) {
+            return 11;
+        }
+        let m = region.m as usize;
+        let long_enough = areas.beds.lent().len() >= m * region.patients.len()
+            && areas.costs.lent().len() >= m * 8
+            && areas.result.lent().len() >= 8;
+        if !long_enough {
+            return 12;
+        }
+        if self.list.is_empty() {
+            return 13;
+        }
+        write_rows(areas, &rows(region, &self.list));
+        0
+    }
+
+    /// The region, where the file is accepted.
+    pub fn region(&self) -> Option<&Region> {
+        self.read.as_ref().ok()
+    }
+
+    /// The list's rows; none where the file is refused.
+    pub fn rows(&self) -> &[Row] {
+        &self.list
+    }
+}
+
+/// Row r's beds from r times the row's length on, its cost at place r, and the row count.
+fn write_rows(areas: &mut Areas, rows: &[Row]) {
+    for (place, row) in rows.iter().enumerate() {
+        let start = place * row.beds.len();
+        areas.beds.lent()[start..start + row.beds.len()].copy_from_slice(&row.beds);
+        areas.costs.lent()[place * 8..place * 8 + 8].copy_from_slice(&row.cost.to_le_bytes());
+    }
+    write_result(areas.result.lent(), &[rows.len() as u64]);
+}
+
+/// Writes the numbers, lowest byte first, where the area has room for all of them.
+fn write_result(result: &mut [u8], numbers: &[u64]) {
+    if result.len() < numbers.len() * 8 {
+        return;
+    }
+    for (place, number) in numbers.iter().enumerate() {
+        result[place * 8..place * 8 + 8].copy_from_slice(&number.to_le_bytes());
+    }
+}

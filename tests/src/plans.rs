@@ -1,0 +1,76 @@
+//! Plans, the list and sheets as document 01 defines them, by walking all plans one by one.
+
+use crate::region::{Region, Table};
+
+/// A row: the cost, then the beds. Its derived order is the order of document 01: the lower cost
+/// first, and at equal costs the smaller bed of the lowest-numbered patient whose beds differ.
+#[derive(Clone, Debug, PartialEq, Eq, PartialOrd, Ord)]
+pub struct Row {
+    pub cost: u64,
+    pub beds: Vec<u8>,
+}
+
+/// The entry of a table for a plan.
+fn entry(region: &Region, table: &Table, plan: &[u8]) -> Option<u64> {
+    let place = table.members.iter().fold(0, |place, member| {
+        let member = *member as usize;
+        place * region.patients[member].beds + u64::from(plan[member])
+    });
+    table.entries[place as usize]
+}
+
+/// A plan's total, or `None` where it is forbidden.
+pub fn total(region: &Region, plan: &[u8]) -> Option<u64> {
+    region.tables.iter().map(|table| entry(region, table, plan)).sum()
+}
+
+/// The plan after this one, the last patient's bed moving fastest; false after the last plan.
+fn advance(region: &Region, plan: &mut [u8]) -> bool {
+    for (bed, patient) in plan.iter_mut().zip(&region.patients).rev() {
+        if u64::from(*bed) + 1 < patient.beds {
+            *bed += 1;
+            return true;
+        }
+        *bed = 0;
+    }
+    false
+}
+
+/// Every plan, allowed or not.
+pub fn all_plans(region: &Region) -> Vec<Vec<u8>> {
+    let mut plan = vec![0; region.patients.len()];
+    let mut plans = vec![plan.clone()];
+    while advance(region, &mut plan) {
+        plans.push(plan.clone());
+    }
+    plans
+}
+
+/// The list: the first m allowed plans, or all of them if fewer.
+pub fn list(region: &Region) -> Vec<Row> {
+    let mut rows: Vec<Row> =
+        all_plans(region).into_iter().filter_map(|beds| total(region, &beds).map(|cost| Row { cost, beds })).collect();
+    rows.sort();
+    rows.truncate(region.m as usize);
+    rows
+}
+
+/// The sheet of a clinic: of the list's rows, each whose beds for the clinic's patients, taken
+/// together, have not come before, with the clinic's own cost.
+pub fn sheet(region: &Region, list: &[Row], clinic: u64) -> Vec<Row> {
+    let patients = region.patients_of(clinic);
+    let mut rows: Vec<Row> = Vec::new();
+    for row in list {
+        let beds: Vec<u8> = patients.iter().map(|patient| row.beds[*patient]).collect();
+        if rows.iter().all(|earlier| earlier.beds != beds) {
+            rows.push(Row { cost: own_cost(region, clinic, &row.beds), beds });
+        }
+    }
+    rows
+}
+
+/// The sum over the tables whose members are all patients of the clinic.
+fn own_cost(region: &Region, clinic: u64, plan: &[u8]) -> u64 {
+    let own = |table: &&Table| table.members.iter().all(|member| region.patients[*member as usize].clinic == clinic);
+    region.tables.iter().filter(own).map(|table| entry(region, table, plan).expect("the plan is allowed")).sum()
+}

@@ -1,0 +1,134 @@
+//! An independent reader of region files, written from document 01 alone.
+
+use crate::region::{Patient, Region, Table};
+
+/// What the lines of a laid-out file say, before any question past 2.
+struct Lines {
+    v: u64,
+    t: u64,
+    region: Region,
+    end: u64,
+    true_sum: u64,
+}
+
+type Question = fn(&Lines) -> bool;
+
+/// The region of a file, or the number of the first question answered "no".
+pub fn read(file: &[u8]) -> Result<Region, u64> {
+    if file.len() > 65_535 {
+        return Err(1);
+    }
+    let lines = laid_out(file).ok_or(2u64)?;
+    let questions: [(u64, Question); 8] = [
+        (3, |lines| lines.v == lines.region.patients.len() as u64 && lines.t == lines.region.tables.len() as u64),
+        (4, |lines| lines.end == lines.true_sum),
+        (5, |lines| (1..=32).contains(&lines.v) && lines.t <= 64 && (1..=64).contains(&lines.region.m)),
+        (6, |lines| patients_in_limits(&lines.region)),
+        (7, |lines| lines.region.tables.iter().all(|table| members_in_order(&table.members, lines.v))),
+        (8, |lines| entries_counted(&lines.region)),
+        (9, |lines| lines.region.tables.iter().all(|table| table.entries.iter().flatten().all(|e| *e <= 1_000_000))),
+        (10, |lines| lines.region.tables.iter().all(|table| on_one_path(&lines.region, &table.members))),
+    ];
+    for (number, answer) in questions {
+        if !answer(&lines) {
+            return Err(number);
+        }
+    }
+    Ok(lines.region)
+}
+
+/// Question 6.
+fn patients_in_limits(region: &Region) -> bool {
+    region.patients.iter().enumerate().all(|(number, patient)| {
+        patient.clinic <= 15
+            && (1..=16).contains(&patient.beds)
+            && patient.parent.is_none_or(|parent| parent < number as u64)
+    })
+}
+
+/// Question 7, of one table.
+fn members_in_order(members: &[u64], v: u64) -> bool {
+    (1..=4).contains(&members.len())
+        && members.iter().all(|member| *member < v)
+        && members.windows(2).all(|pair| pair[0] < pair[1])
+}
+
+/// Question 8.
+fn entries_counted(region: &Region) -> bool {
+    let together: usize = region.tables.iter().map(|table| table.entries.len()).sum();
+    region.tables.iter().all(|table| table.entries.len() as u64 == region.entries_over(&table.members))
+        && together <= 4_096
+}
+
+/// Question 10, of one table.
+fn on_one_path(region: &Region, members: &[u64]) -> bool {
+    members.iter().all(|one| {
+        members.iter().all(|other| one == other || region.is_ancestor(*one, *other) || region.is_ancestor(*other, *one))
+    })
+}
+
+/// Question 2: every line in its place and of its form.
+fn laid_out(file: &[u8]) -> Option<Lines> {
+    let lines: Vec<&[u8]> = file.strip_suffix(b"\n")?.split(|byte| *byte == b'\n').collect();
+    let (first, others) = lines.split_first()?;
+    let (last, middle) = others.split_last()?;
+    let header = numbers(inside(first, b"(region ", b")")?)?;
+    let [v, t, m] = header[..] else { return None };
+    let end = number(inside(last, b"(end ", b")")?)?;
+    let patient_lines = middle.iter().take_while(|line| line.starts_with(b"(patient ")).count();
+    let (patients, tables) = middle.split_at(patient_lines);
+    let region = Region {
+        patients: patients.iter().map(|line| patient(line)).collect::<Option<_>>()?,
+        tables: tables.iter().map(|line| table(line)).collect::<Option<_>>()?,
+        m,
+    };
+    let before_end = &file[..file.len() - last.len() - 1];
+    let true_sum = before_end.iter().map(|byte| u64::from(*byte)).sum::<u64>() % 65_521;
+    Some(Lines { v, t, region, end, true_sum })
+}
+
+/// `(patient c d p)`
+fn patient(line: &[u8]) -> Option<Patient> {
+    let parts = parts(inside(line, b"(patient ", b")")?);
+    let [clinic, beds, parent] = parts[..] else { return None };
+    Some(Patient { clinic: number(clinic)?, beds: number(beds)?, parent: number_or_hyphen(parent)? })
+}
+
+/// `(cost (s ..) (e ..))`
+fn table(line: &[u8]) -> Option<Table> {
+    let both = inside(line, b"(cost (", b"))")?;
+    let between = both.windows(3).position(|three| three == b") (")?;
+    let members = numbers(&both[..between])?;
+    let entries = parts(&both[between + 3..]).into_iter().map(number_or_hyphen).collect::<Option<_>>()?;
+    Some(Table { members, entries })
+}
+
+/// What stands between a beginning and an ending of a line.
+fn inside<'a>(line: &'a [u8], beginning: &[u8], ending: &[u8]) -> Option<&'a [u8]> {
+    line.strip_prefix(beginning)?.strip_suffix(ending)
+}
+
+/// Parts between single spaces. A doubled space gives an empty part, which is no number.
+fn parts(text: &[u8]) -> Vec<&[u8]> {
+    text.split(|byte| *byte == b' ').collect()
+}
+
+fn numbers(text: &[u8]) -> Option<Vec<u64>> {
+    parts(text).into_iter().map(number).collect()
+}
+
+fn number_or_hyphen(part: &[u8]) -> Option<Option<u64>> {
+    if part == b"-" {
+        return Some(None);
+    }
+    number(part).map(Some)
+}
+
+/// 1 to 7 digits with no leading zero except `0` itself.
+fn number(part: &[u8]) -> Option<u64> {
+    let leading_zero = part.len() > 1 && part[0] == b'0';
+    if part.is_empty() || part.len() > 7 || leading_zero || !part.iter().all(u8::is_ascii_digit) {
+        return None;
+    }
+    Some(part.iter().fold(0, |value, digit| value * 10 + u64::from(digit - b'0')))
+}
