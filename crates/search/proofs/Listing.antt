@@ -132,3 +132,92 @@ module _ {r : Region} {D E : Patients} {store patients terms : List ℕ} {v m n 
         let branch : BranchOf r v head ≡ Branch r (contains (members set)) (head .plan .beds) (emptyRow r) = λ i. Branch r (fresh-left i) (head .plan .beds) (fresh-row i) in
         let first = walk-finds r (contains (members set)) (head .plan .beds) (subst (λ Q. Grown rowOrder m [] Q (rowsIn v found now)) branch grown) in
         first-iff (λ z. row-context (λ t k h s i. fresh-free s ∙ sym (no-bed r s))) (λ z. row-context (λ t k h s i. no-bed r s ∙ sym (fresh-free s))) first
+
+-- ---- rows are small
+
+module _ (r : Region) (answered : Answered r) (D : Patients) (placed : Plan) where
+  rows-cost : (z : Row) → RowOf r D placed z → z .cost ≤ 64_000_000
+  unfolding entriesWithin tablesOf limits
+  rows-cost z row =
+      let most = cost-most r (addBeds placed (z .beds)) (tablesOf r D) (z .cost)
+      (every-keep (λ u. every (noneOr (within entry)) (u .entries)) (holds D) (constraints r) (answered .entriesFit)) (row .priced) in
+      let few : length (tablesOf r D) ≤ 64 = le-trans (keep-short (holds D) (constraints r)) (tables-few r answered) in
+      omega (arith, most, few)
+
+  rows-bed : (z : Row) → RowOf r D placed z → (s : ℕ) → bedOf (z .beds) s < 16
+  rows-bed z row s = go (D s) refl (decLt s (length (r .patients)))
+    where
+      go : (b : Bool) → D s ≡ b → Dec (s < length (r .patients)) → bedOf (z .beds) s < 16
+      go false e d = omega (arith, outside (row .fits) s e)
+      go true e (yes h) = omega (arith, inside (row .fits) s h e, beds-few r answered s h)
+      go true e (no h) =
+          let past : length (z .beds) ≤ s = omega (arith, row .fits .long) in
+          let none-there : bedOf (z .beds) s ≡ 0 = List·getD-eq-default (z .beds) 0 past in
+          omega arith
+
+  pub rows-small : {m : ℕ} {l : List Row} → First rowOrder m (RowOf r D placed) l → Small l
+  rows-small first z k =
+      let row = first .sound k in
+      (omega (arith, rows-cost z row), λ s. omega (arith, rows-bed z row s))
+
+-- ---- one more tree
+
+module _ {store patients terms : List ℕ} {v m n : ℕ} {work : List ℕ} {set : ℕ} (asks : AsksTree store patients terms v m n work set) {head : Head} (fresh : Fresh set patients head) where
+  pub asks-walk : Asks store patients terms v 0 m (part 1 work) head
+  asks-walk =
+      record {
+        region = asks .region;
+        heads = heads-start (asks .treed) (asks .few) fresh;
+        light = light-start fresh;
+        room = record {
+          patients = asks .few;
+          held = omega arith;
+          wanted = asks .wanted;
+          some = asks .some;
+          long = omega (arith, part-long 1 work (omega (arith, asks .long)));
+        };
+      }
+
+  module _ {new : List ℕ} {found : ℕ} (gives : Gives store patients terms v 0 m (part 1 work) head new found) where
+    fits : 1 * 2_176 + 2_176 ≤ length work
+    fits = omega (arith, asks .long)
+
+    long : length new ≡ 2_176
+    long = gives .long ∙ part-long 1 work fits
+
+    abbrev walked : List ℕ
+    walked = replaced 2_176 new work
+
+    next-list : listAt v found 1 walked ≡ rowsIn v found new
+    next-list = ap (rowsIn v found) (part-new 1 work new fits long)
+
+    list-kept : listAt v n 0 walked ≡ listAt v n 0 work
+    list-kept = ap (rowsIn v n) (part-before 1 work new fits long 0 (omega arith))
+
+    pub asks-combine : Sums.Asks v m n found walked
+    asks-combine =
+        record {
+          patients = asks .few;
+          some = asks .some;
+          wanted = asks .wanted;
+          first = asks .held;
+          second = gives .count;
+          long = omega (arith, asks .long, replaced-long 1 work new fits long);
+          firstSmall = subst⁻¹ Small list-kept (rows-small (asks .region) (asks .treed .prepared .answered) (asks .E) (noBeds (asks .region)) (asks .treed .first));
+          secondSmall = subst⁻¹ Small next-list
+              (rows-small (asks .region) (asks .treed .prepared .answered) (contains (members set)) (noBeds (asks .region)) (tree-first (asks .treed) (asks .few) fresh gives));
+        }
+
+    pub tree-added : {after : List ℕ} {k : ℕ} → Sums.Gives v m n found walked after k → GivesTree store patients terms v m n work set after k
+    tree-added {after} {k} sums =
+        record {
+          count = sums .count;
+          long = sums .long ∙ replaced-long 1 work new fits long;
+          first = λ r D E treed.
+              let one : First rowOrder m (RowOf r E (noBeds r)) (listAt v n 0 walked) = subst⁻¹ (First rowOrder m (RowOf r E (noBeds r))) list-kept (treed .first) in
+              let two : First rowOrder m (RowOf r (contains (members set)) (noBeds r)) (listAt v found 1 walked) =
+              subst⁻¹ (First rowOrder m (RowOf r (contains (members set)) (noBeds r))) next-list (tree-first treed (asks .few) fresh gives) in
+              parts-combined r (treed .split) (treed .apart) (noBeds r) (omega arith) (omega arith) one two
+              (sums .first (one .sorted) (two .sorted)
+              (λ a x b y i j p q. parts-injective r (treed .split) (treed .apart) (noBeds r) a x b y (one .sound i) (one .sound j) (two .sound p) (two .sound q)));
+        }

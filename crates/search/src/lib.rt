@@ -71,6 +71,15 @@ fn add_tree(
         cost: 0,
         bound: least_sum(patients, set),
     };
-    let found = walk(&mut work[SECOND..THIRD], patients, terms, entries, v, 0, m, head);
+    let found = walk(
+        &mut work[SECOND..THIRD],
+        patients,
+        terms,
+        entries,
+        v,
+        0,
+        m,
+        head,
+    );
     combine(work, v, m, n, found)
 }
