@@ -12,6 +12,7 @@ use Rattle.partial_rows.specs.Parts.{Apart}
 use Rattle.held_region.specs.declared.Region as Code
 use Rattle.held_region.specs.Held.{Holds}
 use Rattle.buckets.specs.Terms.{leastAt, Answered, Planned, Prepared}
+use Rattle.forest.specs.Trees.{Rooted}
 use Rattle.row_sums.specs.Sums.{listAt}
 use Rattle.search.specs.Lowest.{Upward}
 
@@ -58,6 +59,25 @@ pub record GivesTree (store patients terms : List ℕ) (v m n : ℕ) (work : Lis
   pub long : length after ≡ length work
   pub first : (r : Region) (D E : Patients) → Treed r D E store patients terms v m n work set → First rowOrder m (RowOf r D (noBeds r)) (listAt v k 0 after)
 
+-- ---- all trees
+
+-- The words and roots of a region.
+pub record Planted (r : Region) (store patients terms roots : List ℕ) (v m : ℕ) : Type 0 where
+  pub prepared : Prepared r store patients terms
+  pub rooted : Rooted r roots
+  pub counted : v ≡ length (r .patients)
+  pub wanted : m ≡ r .plansWanted
+
+pub record AsksForest (store patients terms roots : List ℕ) (v m : ℕ) (work : List ℕ) : Type 0 where
+  pub region : Region
+  pub planted : Planted region store patients terms roots v m
+  pub long : 6_528 ≤ length work
+
+pub record GivesForest (store patients terms roots : List ℕ) (v m : ℕ) (work after : List ℕ) (n : ℕ) : Type 0 where
+  pub count : n ≤ m
+  pub long : length after ≡ length work
+  pub list : (r : Region) → Planted r store patients terms roots v m → listAt v n 0 after ≡ listOf r
+
 -- ---- the whole region
 
 pub record AsksRegion (h : Code.Region) (work : List ℕ) : Type 0 where
@@ -65,5 +85,6 @@ pub record AsksRegion (h : Code.Region) (work : List ℕ) : Type 0 where
   pub long : 6_528 ≤ length work
 
 pub record GivesRegion (h : Code.Region) (work after : List ℕ) (n : ℕ) : Type 0 where
+  pub count : n ≤ h .m
   pub long : length after ≡ length work
   pub list : (r : Region) → Holds h r → Answered r → listAt (h .v) n 0 after ≡ listOf r

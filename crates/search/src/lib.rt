@@ -13,12 +13,8 @@ use row_list::set_row;
 use row_sums::combine;
 use walk::Head;
 use walk::walk;
-ghost use mathlib.Core.Path.{_≡_};
-ghost use Prim.Native.Nat.{_≤_};
-ghost use Rattle.definitions.specs.Basics.{map, sum};
 ghost use Rattle.patient_set.specs.Sets.{members};
-ghost use Rattle.buckets.specs.Terms.{leastAt};
-ghost use Rattle.search.specs.Trees.{LeastSummed, AsksTree, GivesTree, AsksRegion, GivesRegion, AsksStart, GivesStart};
+ghost use Rattle.search.specs.Trees.{LeastSummed, AsksStart, GivesStart, AsksTree, GivesTree, AsksForest, GivesForest, AsksRegion, GivesRegion};
 
 // The parts of the work area for the list so far and for the next tree's list.
 const SECOND: usize = 2_176;
@@ -82,4 +78,42 @@ fn add_tree(
         head,
     );
     combine(work, v, m, n, found)
+}
+
+// The list of all trees, one after the other.
+fn list_trees(
+    work: &mut [u32],
+    patients: &[u32; 96],
+    terms: &[u32; 640],
+    entries: &[u32; 4096],
+    roots: &[u32; 32],
+    v: usize,
+    m: usize,
+) -> usize
+    requires { ⌜ AsksForest (now entries) (now patients) (now terms) (now roots) v m (now work) ⌝ }
+    ensures { λ n. ⌜ GivesForest (now (entries .entry)) (now (patients .entry)) (now (terms .entry)) (now (roots .entry)) v m (now (work .entry)) (now (work .exit)) n ⌝ }
+{
+    start_list(work, v);
+    let mut n: usize = 1;
+    let mut k: usize = 0;
+    while k < v {
+        let set = tree(roots, v, k);
+        if 0 < set.size() {
+            n = add_tree(work, patients, terms, entries, v, m, n, set);
+        }
+        k += 1;
+    }
+    n
+}
+
+// The list of a region, left as the list so far of the work area.
+pub fn list_region(work: &mut [u32], region: Region) -> usize
+    requires { ⌜ AsksRegion region (now work) ⌝ }
+    ensures { λ n. ⌜ GivesRegion region (now (work .entry)) (now (work .exit)) n ⌝ }
+{
+    let buckets = prepare(region);
+    let roots = root_numbers(region);
+    let patients = buckets.patients;
+    let terms = buckets.terms;
+    list_trees(work, &patients, &terms, &region.entries, &roots, region.v, region.m)
 }
