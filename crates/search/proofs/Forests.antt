@@ -24,6 +24,9 @@ use Rattle.partial_rows.specs.Rows.{noBeds, emptyRow, RowOf}
 use Rattle.partial_rows.specs.Parts.{Apart}
 use Rattle.partial_rows.specs.Trees.{rootsBelow, roots-none, roots-all}
 use Rattle.partial_rows.specs.Whole.{tables-held, whole-list, none-left}
+use Rattle.held_region.specs.declared.Region as Code
+use Rattle.held_region.specs.Held.{Holds}
+use Rattle.held_region.specs.Faithful.{patient-lines}
 use Rattle.buckets.specs.Terms.{Answered, Prepared}
 use Rattle.buckets.specs.Right.{patients-few}
 use Rattle.forest.specs.Trees.{Rooted, tree-beyond, tree-upward, tree-apart, trees-next}
@@ -194,3 +197,10 @@ module _ {store patients terms roots : List ℕ} {v m : ℕ} {work : List ℕ} (
           gone first e = refl
           gone second e = absurd (true≢false e)
           gone neither e = refl
+
+-- A held region's words and roots.
+pub planted : (h : Code.Region) (r : Region) {patients terms roots : List ℕ} → Holds h r → Answered r
+    → ((r : Region) → Holds h r → Answered r → Prepared r (h .entries) patients terms) → ((r : Region) → Holds h r → Answered r → Rooted r roots)
+    → Planted r (h .entries) patients terms roots (h .v) (h .m)
+planted h r holds answered prepared rooted =
+    record { prepared = prepared r holds answered; rooted = rooted r holds answered; counted = sym (patient-lines h r holds (answered .counted)); wanted = holds .plansWanted }

@@ -115,5 +115,13 @@ pub fn list_region(work: &mut [u32], region: Region) -> usize
     let roots = root_numbers(region);
     let patients = buckets.patients;
     let terms = buckets.terms;
-    list_trees(work, &patients, &terms, &region.entries, &roots, region.v, region.m)
+    list_trees(
+        work,
+        &patients,
+        &terms,
+        &region.entries,
+        &roots,
+        region.v,
+        region.m,
+    )
 }
