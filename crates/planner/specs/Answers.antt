@@ -1,8 +1,12 @@
--- The number of every case of every enum answer.
-use Rattle.definitions.specs.Basics.{ℕ}
+-- The number and values of every case of every enum answer.
+use Rattle.definitions.specs.Basics.{ℕ, true, false}
+use Rattle.definitions.specs.Outcomes.{PriceOutcome}
 use Rattle.held_region.specs.declared.Refusal.{Refusal}
 use Rattle.held_region.specs.declared.Judged.{Judged}
 use Rattle.held_region.specs.Refusals.{questionOf, numberOf}
+use Rattle.planner.specs.declared.PriceValues.{PriceValues}
+use Rattle.planner.specs.declared.Priced.{Priced}
+use Rattle.planner.specs.declared.Priced.the-variants.{Refused, Misfit, Forbidden, Allowed}
 
 -- A refusal, by the question answered no.
 abbrev pub refusalNumber : Refusal → ℕ
@@ -11,3 +15,16 @@ refusalNumber refusal = questionOf refusal
 -- Check's answer: 0, or the refusal's number.
 abbrev pub checkedNumber : Judged → ℕ
 checkedNumber answer = numberOf answer
+
+-- Price's answer: the number, whether the plan is allowed, and its total.
+abbrev pub notAllowed : ℕ → PriceOutcome
+notAllowed number = record { number = number; allowed = false; total = 0 }
+
+abbrev pub pricedOutcome : Priced → PriceOutcome
+pricedOutcome (Refused refusal) = notAllowed (refusalNumber refusal)
+pricedOutcome Misfit = notAllowed 14
+pricedOutcome Forbidden = notAllowed 0
+pricedOutcome (Allowed t) = record { number = 0; allowed = true; total = t }
+
+abbrev pub valuesOf : PriceValues → PriceOutcome
+valuesOf values = record { number = values .number; allowed = values .allowed; total = values .total }

@@ -1,9 +1,13 @@
 // The entries.
+pub mod loaded;
+
 ghost use mathlib.Core.Path.{_≡_};
 ghost use Rattle.definitions.specs.Questions.{checkOf};
-ghost use Rattle.planner.specs.Answers.{checkedNumber, refusalNumber};
+ghost use Rattle.definitions.specs.Outcomes.{priceOutcome};
+ghost use Rattle.planner.specs.Answers.{checkedNumber, refusalNumber, notAllowed, pricedOutcome, valuesOf};
 use held_region::Judged;
 use held_region::Refusal;
+use loaded::price_region;
 use reader::load;
 
 // The number of the question that was answered no.
@@ -39,4 +43,56 @@ pub fn check(file: &[u8]) -> Judged
 {
     let loaded = load(file);
     loaded.answer
+}
+
+// Price's answer. Misfit: question 14 is answered no.
+pub enum Priced {
+    Refused(Refusal),
+    Misfit,
+    Forbidden,
+    Allowed(u64),
+}
+
+// The same as price gives it back: the number, whether the plan is allowed, and its total.
+pub struct PriceValues {
+    pub number: u64,
+    pub allowed: bool,
+    pub total: u64,
+}
+
+fn not_allowed(number: u64) -> PriceValues
+    ensures { λ r. ⌜ valuesOf r ≡ notAllowed number ⌝ }
+{
+    PriceValues {
+        number: number,
+        allowed: false,
+        total: 0,
+    }
+}
+
+pub fn price_values(answer: Priced) -> PriceValues
+    ensures { λ r. ⌜ valuesOf r ≡ pricedOutcome answer ⌝ }
+{
+    match answer {
+        Priced::Refused(refusal) => not_allowed(refusal_number(refusal)),
+        Priced::Misfit => not_allowed(14),
+        Priced::Forbidden => not_allowed(0),
+        Priced::Allowed(total) => PriceValues {
+            number: 0,
+            allowed: true,
+            total: total,
+        },
+    }
+}
+
+// Questions 1 to 10 and 14, then the plan's total.
+pub fn price(file: &[u8], plan: &[u8]) -> Priced
+    ensures { λ r. ⌜ pricedOutcome r ≡ priceOutcome (now (file .entry)) (now (plan .entry)) ⌝ }
+{
+    let read = load(file);
+    let answer = read.answer;
+    match answer {
+        Judged::Refused(refusal) => Priced::Refused(refusal),
+        Judged::Fine => price_region(read.region, plan),
+    }
 }

@@ -1,0 +1,48 @@
+use borrow.Author.Needs.{needs}
+use mathlib.Core.Path.{ap, sym, _∙_}
+use denote.Ref.{now}
+use Rattle.definitions.specs.Basics.{true}
+use Rattle.definitions.specs.Questions.{regionOf}
+use Rattle.definitions.specs.Outcomes.{priceOutcome}
+use Rattle.planner.specs.Answers.{checkedNumber, notAllowed}
+use Rattle.planner.specs.Later.{refusal-number}
+use Rattle.planner.specs.Loaded.{answered, accepted-fine, planned-fine, price-accepted, price-refused}
+use Rattle.planner.proofs.price.Statement.{statement}
+use Rattle.planner.proofs.price.Tie as tie
+
+load-requires : tie.Need-load-requires
+load-requires c κs = search needs
+
+enum-known-answer : tie.Need-enum-known-answer
+enum-known-answer c = search needs
+
+enum-told : tie.Need-enum-told
+enum-told c = search needs
+
+price-region-requires : tie.Need-price-region-requires
+price-region-requires c κs =
+    let read = c .before .before in
+    planned-fine (now (read .before .before .before .args .file)) (read .load .result) (read .load .ensures) (c .enum-told .given .1)
+
+returns : tie.Need-returns
+unfolding priceOutcome
+returns c =
+    let read = c .before .before .before in
+    let a = read .before .before .before .args in
+    let number = ap checkedNumber (sym (c .before .answer .given .1)) ∙ read .load .ensures .number in
+    ap notAllowed number ∙ sym (price-refused (now (a .file)) (now (a .plan)) true _ (sym number ∙ refusal-number (c .before .answer .given .0 .0)))
+
+returns-2 : tie.Need-returns-2
+unfolding priceOutcome
+returns-2 c =
+    let fine = c .before .enum-told .given .1 in
+    let read = c .before .before .before in
+    let a = read .before .before .before .args in
+    let checked = accepted-fine (now (a .file)) (read .load .result) (read .load .ensures) fine in
+    c .price-region .ensures (regionOf (now (a .file))) (read .load .ensures .holds fine) (answered (now (a .file)) checked)
+    ∙ sym (price-accepted (now (a .file)) (now (a .plan)) true checked)
+
+pub price-spec : {M : Type 1} → statement M
+price-spec =
+    tie.close
+    (tie.spec load-requires enum-known-answer enum-told price-region-requires returns returns-2)
