@@ -1,9 +1,12 @@
 -- The number and values of every case of every enum answer.
-use Rattle.definitions.specs.Basics.{ℕ, true, false}
-use Rattle.definitions.specs.Outcomes.{PriceOutcome}
+use Rattle.definitions.specs.Basics.{ℕ, true, false, List}
+use Rattle.definitions.specs.Outcomes.{ListOutcome, PriceOutcome}
 use Rattle.held_region.specs.declared.Refusal.{Refusal}
 use Rattle.held_region.specs.declared.Judged.{Judged}
 use Rattle.held_region.specs.Refusals.{questionOf, numberOf}
+use Rattle.planner.specs.declared.Listed.{Listed}
+use Rattle.planner.specs.declared.Listed.the-variants as Lists
+use Rattle.planner.specs.declared.Listed.the-variants.{Short, Nothing, Rows}
 use Rattle.planner.specs.declared.PriceValues.{PriceValues}
 use Rattle.planner.specs.declared.Priced.{Priced}
 use Rattle.planner.specs.declared.Priced.the-variants.{Refused, Misfit, Forbidden, Allowed}
@@ -15,6 +18,22 @@ refusalNumber refusal = questionOf refusal
 -- Check's answer: 0, or the refusal's number.
 abbrev pub checkedNumber : Judged → ℕ
 checkedNumber answer = numberOf answer
+
+-- List's answer: the number and the row count, beside the lent areas as they are afterwards.
+abbrev pub listedNumber : Listed → ℕ
+listedNumber (Lists.Refused refusal) = refusalNumber refusal
+listedNumber Short = 12
+listedNumber Nothing = 13
+listedNumber (Rows n) = 0
+
+abbrev pub listedRows : Listed → ℕ
+listedRows (Lists.Refused refusal) = 0
+listedRows Short = 0
+listedRows Nothing = 0
+listedRows (Rows n) = n
+
+abbrev pub listedOutcome : Listed → List ℕ → List ℕ → List ℕ → ListOutcome
+listedOutcome answer beds costs work = record { number = listedNumber answer; rows = listedRows answer; beds = beds; costs = costs; work = work }
 
 -- Price's answer: the number, whether the plan is allowed, and its total.
 abbrev pub notAllowed : ℕ → PriceOutcome

@@ -3,10 +3,11 @@ pub mod loaded;
 
 ghost use mathlib.Core.Path.{_≡_};
 ghost use Rattle.definitions.specs.Questions.{checkOf};
-ghost use Rattle.definitions.specs.Outcomes.{priceOutcome};
-ghost use Rattle.planner.specs.Answers.{checkedNumber, refusalNumber, notAllowed, pricedOutcome, valuesOf};
+ghost use Rattle.definitions.specs.Outcomes.{listOutcome, priceOutcome};
+ghost use Rattle.planner.specs.Answers.{checkedNumber, refusalNumber, listedOutcome, notAllowed, pricedOutcome, valuesOf};
 use held_region::Judged;
 use held_region::Refusal;
+use loaded::list_loaded;
 use loaded::price_region;
 use reader::load;
 
@@ -43,6 +44,26 @@ pub fn check(file: &[u8]) -> Judged
 {
     let loaded = load(file);
     loaded.answer
+}
+
+// List's answer, with the row count. Short: question 12 is answered no. Nothing: question 13 is.
+pub enum Listed {
+    Refused(Refusal),
+    Short,
+    Nothing,
+    Rows(usize),
+}
+
+// Questions 1 to 10, 12 and 13, then the list.
+pub fn list(file: &[u8], beds: &mut [u8], costs: &mut [u32], work: &mut [u32]) -> Listed
+    ensures { λ r. ⌜ listedOutcome r (now (beds .exit)) (now (costs .exit)) (now (work .exit)) ≡ listOutcome (now (file .entry)) (now (beds .entry)) (now (costs .entry)) (now (work .entry)) ⌝ }
+{
+    let read = load(file);
+    let answer = read.answer;
+    match answer {
+        Judged::Refused(refusal) => Listed::Refused(refusal),
+        Judged::Fine => list_loaded(read.region, beds, costs, work),
+    }
 }
 
 // Price's answer. Misfit: question 14 is answered no.

@@ -1,7 +1,10 @@
 // The entries over the region of an accepted file.
 ghost use mathlib.Core.Path.{_≡_};
 ghost use Rattle.buckets.specs.Terms.{Planned};
+ghost use Prim.Native.Nat.{_≤_};
 ghost use Rattle.planner.specs.Loaded.{RegionPriced};
+ghost use Rattle.planner.specs.Lists.{longEnough, RegionListed};
+use crate::Listed;
 use crate::Priced;
 use buckets::prepare;
 use held_region::Region;
@@ -9,6 +12,9 @@ use pricing::Cost;
 use pricing::plan_fits;
 use pricing::plan_of;
 use pricing::total;
+use row_writer::clear;
+use row_writer::write_rows;
+use search::list_region;
 
 // Question 14, then the plan's total.
 pub fn price_region(region: Region, plan: &[u8]) -> Priced
@@ -27,4 +33,30 @@ pub fn price_region(region: Region, plan: &[u8]) -> Priced
         Cost::Forbidden => Priced::Forbidden,
         Cost::Of(n) => Priced::Allowed(n),
     }
+}
+
+// 12. Have the areas room for m rows of v beds, and the work area its 16,384 numbers?
+fn long_enough(v: usize, m: usize, beds: usize, costs: usize, work: usize) -> bool
+    requires { ⌜ (v ≤ 32) × (m ≤ 64) ⌝ }
+    ensures { λ a. ⌜ a ≡ longEnough v m beds costs work ⌝ }
+{
+    m * v <= beds && (m <= costs && 16_384 <= work)
+}
+
+// Questions 12 and 13, then the list, written out. The work area is cleared behind it.
+pub fn list_loaded(region: Region, beds: &mut [u8], costs: &mut [u32], work: &mut [u32]) -> Listed
+    requires { ⌜ Planned region ⌝ }
+    ensures { λ r. ⌜ RegionListed region (now (beds .entry)) (now (costs .entry)) (now (work .entry)) r (now (beds .exit)) (now (costs .exit)) (now (work .exit)) ⌝ }
+{
+    if !long_enough(region.v, region.m, beds.len(), costs.len(), work.len()) {
+        return Listed::Short;
+    }
+    let n = list_region(work, region);
+    if n == 0 {
+        clear(work);
+        return Listed::Nothing;
+    }
+    write_rows(work, region.v, n, beds, costs);
+    clear(work);
+    Listed::Rows(n)
 }

@@ -1,0 +1,59 @@
+use borrow.Author.Needs.{needs}
+use denote.Ref.{now}
+use borrow.Author.Tests.{not-true, not-false}
+use Rattle.planner.proofs.Lists.{counts-few, listed-short, asks-list, writable, listed-nothing, listed-rows}
+use Rattle.planner.proofs.loaded.list_loaded.Statement.{statement}
+use Rattle.planner.proofs.loaded.list_loaded.Tie as tie
+
+long-enough-requires : tie.Need-long-enough-requires
+long-enough-requires c κs = counts-few _ _ (c .before .before .before .pre .holds) (c .before .before .before .pre .answered)
+
+returns : tie.Need-returns
+returns c = listed-short _ (c .before .before .before .before .before .pre) (now (c .before .before .before .before .before .args .beds)) (now (c .before .before .before .before .before .args .costs)) (now (c .before .before .before .before .before .args .work)) (c .before .long-enough .ensures) (not-true _ (c .if1 .taken))
+
+list-region-requires : tie.Need-list-region-requires
+list-region-requires c κs = asks-list _ (c .before .before .before .before .before .before .pre) (now (c .before .before .before .before .before .before .args .beds)) (now (c .before .before .before .before .before .before .args .costs)) (now (c .before .before .before .before .before .before .args .work)) (c .before .before .long-enough .ensures) (not-false _ (c .before .if1 .left))
+
+clear-requires : tie.Need-clear-requires
+clear-requires c κs = search needs
+
+same-length : tie.Need-same-length
+same-length c = search needs
+
+returns-2 : tie.Need-returns-2
+returns-2 c = listed-nothing _ (c .before .before .before .before .before .before .before .before .before .before .before .before .before .before .pre) (now (c .before .before .before .before .before .before .before .before .before .before .before .before .before .before .args .beds)) (now (c .before .before .before .before .before .before .before .before .before .before .before .before .before .before .args .costs)) (now (c .before .before .before .before .before .before .before .before .before .before .before .before .before .before .args .work)) (c .before .before .before .before .before .before .before .before .before .before .long-enough .ensures) (not-false _ (c .before .before .before .before .before .before .before .before .before .if1 .left)) (c .before .before .before .before .before .before .before .list-region .ensures) (c .before .before .before .before .if2 .taken) (c .before .before .clear .ensures)
+
+write-rows-requires : tie.Need-write-rows-requires
+write-rows-requires c κs = writable _ (c .before .before .before .before .before .before .before .before .before .before .before .before .before .pre) (now (c .before .before .before .before .before .before .before .before .before .before .before .before .before .args .beds)) (now (c .before .before .before .before .before .before .before .before .before .before .before .before .before .args .costs)) (now (c .before .before .before .before .before .before .before .before .before .before .before .before .before .args .work)) (c .before .before .before .before .before .before .before .before .before .long-enough .ensures) (not-false _ (c .before .before .before .before .before .before .before .before .if1 .left)) (c .before .before .before .before .before .before .list-region .ensures)
+
+clear-requires-2 : tie.Need-clear-requires-2
+clear-requires-2 c κs = search needs
+
+same-length-2 : tie.Need-same-length-2
+same-length-2 c = search needs
+
+same-length-3 : tie.Need-same-length-3
+same-length-3 c = search needs
+
+same-length-4 : tie.Need-same-length-4
+same-length-4 c = search needs
+
+returns-3 : tie.Need-returns-3
+returns-3 c = listed-rows _ (c .before .before .before .before .before .before .before .before .before .before .before .before .before .before .before .before .before .before .before .before .before .before .pre) (now (c .before .before .before .before .before .before .before .before .before .before .before .before .before .before .before .before .before .before .before .before .before .before .args .beds)) (now (c .before .before .before .before .before .before .before .before .before .before .before .before .before .before .before .before .before .before .before .before .before .before .args .costs)) (now (c .before .before .before .before .before .before .before .before .before .before .before .before .before .before .before .before .before .before .before .before .before .before .args .work)) (c .before .before .before .before .before .before .before .before .before .before .before .before .before .before .before .before .before .before .long-enough .ensures) (not-false _ (c .before .before .before .before .before .before .before .before .before .before .before .before .before .before .before .before .before .if1 .left)) (c .before .before .before .before .before .before .before .before .before .before .before .before .before .before .before .list-region .ensures) (c .before .before .before .before .before .before .before .before .before .before .before .before .if2 .left) (c .before .before .before .before .before .before .before .before .write-rows .ensures) (c .before .before .clear2 .ensures)
+
+pub list-loaded-spec : {M : Type 1} → statement M
+list-loaded-spec =
+    tie.close
+    (tie.spec
+    long-enough-requires
+    returns
+    list-region-requires
+    clear-requires
+    same-length
+    returns-2
+    write-rows-requires
+    clear-requires-2
+    same-length-2
+    same-length-3
+    same-length-4
+    returns-3)
