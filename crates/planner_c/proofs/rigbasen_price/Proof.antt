@@ -1,0 +1,47 @@
+use borrow.Author.Needs.{needs}
+use mathlib.Core.Path.{_∙_}
+use denote.Ref.{now}
+use Rattle.planner.specs.Answers.{valuesOf}
+use Rattle.planner_c.proofs.Calls.{price-without-room, price-stored}
+use Rattle.planner_c.proofs.rigbasen_price.Statement.{statement}
+use Rattle.planner_c.proofs.rigbasen_price.Tie as tie
+
+number-without-room-requires : tie.Need-number-without-room-requires
+number-without-room-requires c κs = search needs
+
+returns : tie.Need-returns
+returns c =
+    let a = c .before .before .before .before .before .args in
+    price-without-room (now (a .file)) (now (a .plan)) (now (a .result)) _ (c .before .if1 .taken) (c .number-without-room .ensures (now (a .plan)))
+
+price-requires : tie.Need-price-requires
+price-requires c κs = search needs
+
+price-values-requires : tie.Need-price-values-requires
+price-values-requires c κs = search needs
+
+store-price-requires : tie.Need-store-price-requires
+store-price-requires c κs = search needs
+
+same-length : tie.Need-same-length
+same-length c = search needs
+
+returns-2 : tie.Need-returns-2
+returns-2 c =
+    let stored = c .before .before in
+    let valued = stored .before .before in
+    let a = valued .before .before .before .before .before .before .args in
+    price-stored (now (a .file)) (now (a .plan)) (now (a .result)) (valuesOf (valued .price-values .result)) _ (valued .before .before .if1 .left)
+    (valued .price-values .ensures ∙ valued .before .price .ensures) (stored .store-price .ensures)
+
+pub rigbasen-price-spec : {M : Type 1} → statement M
+rigbasen-price-spec =
+    tie.close
+    (tie.spec
+    number-without-room-requires
+    returns
+    price-requires
+    price-values-requires
+    store-price-requires
+    same-length
+    returns-2)
