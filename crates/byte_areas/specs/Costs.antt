@@ -5,9 +5,9 @@ use Prim.Native.Nat.{_≤_}
 use native.Mathlib.Omega.{arith}
 use lib.ListN.{set, length-set}
 use lib.Seq.{append-snoc, take-suc-set}
-use Rattle.definitions.specs.Basics.{ℕ, suc, _+_, _*_, _≡_, refl, List, [], _∷_, _++_, map, length, take, replicate, sets}
+use Rattle.definitions.specs.Basics.{ℕ, suc, _+_, _*_, _≡_, refl, List, [], _∷_, _++_, map, length, take, sets}
 use Rattle.definitions.specs.Plans.{Row}
-use Rattle.definitions.specs.Outcomes.{Found, written, costsAfter}
+use Rattle.definitions.specs.Outcomes.{written}
 use Rattle.definitions.specs.Boundary.{bytesOf}
 
 -- From row r on, each row puts its cost at its own place.
@@ -33,20 +33,13 @@ written-map : {A B : Type 0} (r width : ℕ) (values : B → List ℕ) (f : A �
 written-map r width values f [] area = refl
 written-map r width values f (x ∷ xs) area = written-map (suc r) width values f xs (sets area (r * width) (values (f x)))
 
--- Rows whose costs stand in an area of 64 places, a place each.
-module _ (rows : List Row) (held : List ℕ) (e : held ≡ written 0 1 (λ row. row .cost ∷ []) rows (replicate 64 0)) (few : length rows ≤ 64) where
-  pub held-costs : take (length rows) held ≡ map (λ row. row .cost) rows
-  held-costs =
-      let all : length rows ≡ 0 + length rows = omega arith in
-      ap (take (length rows)) e
-      ∙ ap (λ k. take k (written 0 1 (λ row. row .cost ∷ []) rows (replicate 64 0))) all
-      ∙ costs-from 0 rows (replicate 64 0) (omega arith)
-
-  pub stored-costs : (costs : List ℕ) → written 0 8 (bytesOf 8) (take (length rows) held) costs ≡ written 0 8 (λ row. bytesOf 8 (row .cost)) rows costs
-  stored-costs costs =
-      ap (λ l. written 0 8 (bytesOf 8) l costs) held-costs ∙ written-map 0 8 (bytesOf 8) (λ row. row .cost) rows costs
+-- Rows whose costs are held, a place each.
+pub held-costs : (rows : List Row) (area : List ℕ) → length rows ≤ length area → take (length rows) (written 0 1 (λ row. row .cost ∷ []) rows area) ≡ map (λ row. row .cost) rows
+held-costs rows area few =
+    let all : length rows ≡ 0 + length rows = omega arith in
+    ap (λ k. take k (written 0 1 (λ row. row .cost ∷ []) rows area)) all ∙ costs-from 0 rows area (omega arith)
 
 -- So the cost area of a call from C is right if the held costs are.
-pub stored-found : (f : Found) (held : List ℕ) → held ≡ costsAfter 1 (λ cost. cost ∷ []) f (replicate 64 0) → length (f .rows) ≤ 64
-    → (costs : List ℕ) → written 0 8 (bytesOf 8) (take (length (f .rows)) held) costs ≡ costsAfter 8 (bytesOf 8) f costs
-stored-found f held e few costs = stored-costs (f .rows) held e few costs
+pub stored-costs : (rows : List Row) (held : List ℕ) → take (length rows) held ≡ map (λ row. row .cost) rows
+    → (costs : List ℕ) → written 0 8 (bytesOf 8) (take (length rows) held) costs ≡ written 0 8 (λ row. bytesOf 8 (row .cost)) rows costs
+stored-costs rows held e costs = ap (λ l. written 0 8 (bytesOf 8) l costs) e ∙ written-map 0 8 (bytesOf 8) (λ row. row .cost) rows costs

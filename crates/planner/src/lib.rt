@@ -4,7 +4,7 @@ pub mod loaded;
 ghost use mathlib.Core.Path.{_≡_};
 ghost use Rattle.definitions.specs.Questions.{checkOf};
 ghost use Rattle.definitions.specs.Outcomes.{listOutcome, priceOutcome};
-ghost use Rattle.planner.specs.Answers.{checkedNumber, refusalNumber, listedOutcome, notAllowed, pricedOutcome, valuesOf};
+ghost use Rattle.planner.specs.Answers.{checkedNumber, refusalNumber, listedNumber, listedRows, listedOutcome, notAllowed, pricedOutcome, valuesOf};
 use held_region::Judged;
 use held_region::Refusal;
 use loaded::list_loaded;
@@ -63,6 +63,28 @@ pub fn list(file: &[u8], beds: &mut [u8], costs: &mut [u32], work: &mut [u32]) -
     match answer {
         Judged::Refused(refusal) => Listed::Refused(refusal),
         Judged::Fine => list_loaded(read.region, beds, costs, work),
+    }
+}
+
+pub fn listed_number(answer: Listed) -> u64
+    ensures { λ r. ⌜ r ≡ listedNumber answer ⌝ }
+{
+    match answer {
+        Listed::Refused(refusal) => refusal_number(refusal),
+        Listed::Short => 12,
+        Listed::Nothing => 13,
+        Listed::Rows(_) => 0,
+    }
+}
+
+pub fn listed_rows(answer: Listed) -> usize
+    ensures { λ r. ⌜ r ≡ listedRows answer ⌝ }
+{
+    match answer {
+        Listed::Refused(_) => 0,
+        Listed::Short => 0,
+        Listed::Nothing => 0,
+        Listed::Rows(n) => n,
     }
 }
 

@@ -3,11 +3,17 @@ ghost use mathlib.Core.Path.{_≡_};
 ghost use Rattle.definitions.specs.Basics.{false};
 ghost use Rattle.definitions.specs.Plans.{Plan};
 ghost use Rattle.definitions.specs.Outcomes.{priceFound};
-ghost use Rattle.definitions.specs.Boundary.{checkCall, priceCall};
+ghost use Rattle.definitions.specs.Boundary.{checkCall, listCall, priceCall};
+ghost use Rattle.planner_c.specs.Room.{costRoom};
 ghost use Rattle.planner.specs.Answers.{notAllowed};
+use byte_areas::store_costs;
+use byte_areas::store_count;
 use byte_areas::store_price;
 use planner::check;
 use planner::checked_number;
+use planner::list;
+use planner::listed_number;
+use planner::listed_rows;
 use planner::price;
 use planner::price_values;
 
@@ -17,6 +23,36 @@ pub extern "C" fn rigbasen_check(file: &[u8]) -> u64
 {
     let answer = check(file);
     checked_number(answer)
+}
+
+// How many costs the entry may leave, and the entry asks question 12 of them: those that fit the lent area, none where the result area is too short.
+fn cost_room(costs: usize, result: usize) -> usize
+    ensures { λ n. ⌜ n ≡ costRoom costs result ⌝ }
+{
+    if result < 8 {
+        return 0;
+    }
+    if costs < 512 { costs / 8 } else { 64 }
+}
+
+// The result area holds one number: the row count.
+#[no_mangle]
+pub extern "C" fn rigbasen_list(
+    file: &[u8],
+    beds: &mut [u8],
+    costs: &mut [u8],
+    result: &mut [u8],
+) -> u64
+    ensures { λ n. ⌜ record { number = n; beds = now (beds .exit); costs = now (costs .exit); result = now (result .exit) } ≡ listCall (now (file .entry)) (now (beds .entry)) (now (costs .entry)) (now (result .entry)) ⌝ }
+{
+    let room = cost_room(costs.len(), result.len());
+    let mut held = [0u32; 64];
+    let mut work = [0u32; 16_384];
+    let answer = list(file, beds, &mut held[0..room], &mut work);
+    let rows = listed_rows(answer);
+    store_costs(costs, &held, rows);
+    store_count(result, rows as u64);
+    listed_number(answer)
 }
 
 // Price's number where the result area is too short: 12, unless one of the questions before it is answered no.
