@@ -1,12 +1,9 @@
--- A number with its word, and the end of a line. Assumes nothing.
+-- A number with its word. Assumes nothing.
 use mathlib.Core.Path.{_≡_, ap}
-use mathlib.Core.Bool.{true, false}
 use mathlib.Core.List.{List}
-use Prim.Native.Nat.{ℕ, _≤_, _<_}
+use Prim.Native.Nat.{ℕ}
 use native.Mathlib.Omega.{arith}
-use lib.ListN.{length, drop, drop-of-length-le}
-use lib.Seq.{drop-cons}
-use Rattle.definitions.specs.Basics.{bind, isEmpty}
+use Rattle.definitions.specs.Basics.{bind}
 use Rattle.definitions.specs.Layout.{exactly, number}
 use Rattle.line_reader.specs.declared.Passed.{Passed}
 use Rattle.line_reader.specs.declared.Passed.the-variants.{At, Nothing as NotPassed}
@@ -33,10 +30,3 @@ module _ (w : List ℕ) {s : List ℕ} {at : ℕ} {n : Number} (h : ReadAt numbe
         let l = a .ahead in
         let m = b .ahead in
         record { says = rw (there h (ap numberRead e), there k (ap passed f)); ahead = (omega arith, omega arith) }
-
-module _ (s : List ℕ) (n : ℕ) where
-  pub more-left : n < length s → isEmpty (drop n s) ≡ false
-  more-left h = ap isEmpty (drop-cons s n 0 h)
-
-  pub nothing-left : length s ≤ n → isEmpty (drop n s) ≡ true
-  nothing-left h = ap isEmpty (drop-of-length-le s h)

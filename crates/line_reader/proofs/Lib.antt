@@ -5,3 +5,4 @@ pub mod Steps
 pub mod LineEnds
 pub mod Sums
 pub mod Forms
+pub mod WholeLines

@@ -1,8 +1,6 @@
-use mathlib.Core.Path.{ap}
-use Rattle.definitions.specs.Basics.{bind}
+use mathlib.Core.Path.{sym, ap}
 use Rattle.line_reader.specs.Answers.{there, missing, passed, numberRead}
-use Rattle.line_reader.specs.Forms.{end-then}
-use Rattle.line_reader.proofs.Forms.{more-left, nothing-left}
+use Rattle.line_reader.proofs.WholeLines.{more-left, nothing-left, end-no-head, end-no-sum, end-longer, end-whole}
 use borrow.Author.Needs.{needs}
 use Rattle.line_reader.proofs.lines.end_line.Statement.{statement}
 use Rattle.line_reader.proofs.lines.end_line.Tie as tie
@@ -20,8 +18,7 @@ enum-told : tie.Need-enum-told
 enum-told c = search needs
 
 returns : tie.Need-returns
-unfolding bind
-returns c = rw (end-then, missing (c .before .before .word-at .ensures) (ap passed (c .enum-told .given .1)))
+returns c = sym (end-no-head _ (missing (c .before .before .word-at .ensures) (ap passed (c .enum-told .given .1))))
 
 slice-aggregate-number-then : tie.Need-slice-aggregate-number-then
 slice-aggregate-number-then c = search needs
@@ -36,29 +33,27 @@ enum-told-2 : tie.Need-enum-told-2
 enum-told-2 c = search needs
 
 returns-2 : tie.Need-returns-2
-unfolding bind
 returns-2 c =
     let a = c .before .before .before .before .before in
-    let a-is = there (a .before .before .word-at .ensures) (ap passed (a .a .given .1)) in
-    rw (end-then, a-is, missing (c .before .before .number-then .ensures) (ap numberRead (c .enum-told2 .given .1)))
+    sym (end-no-sum _ (there (a .before .before .word-at .ensures) (ap passed (a .a .given .1))) (missing (c .before .before .number-then .ensures) (ap numberRead (c .enum-told2 .given .1))))
 
 returns-3 : tie.Need-returns-3
-unfolding bind
 returns-3 c =
     let sum = c .before .before in
     let a = sum .before .before .before .before .before in
-    let a-is = there (a .before .before .word-at .ensures) (ap passed (a .a .given .1)) in
-    let sum-is = there (sum .before .before .number-then .ensures) (ap numberRead (sum .sum .given .1)) in
-    rw (end-then, a-is, sum-is, more-left _ _ (c .if1 .taken))
+    sym (end-longer _
+    (there (a .before .before .word-at .ensures) (ap passed (a .a .given .1)))
+    (there (sum .before .before .number-then .ensures) (ap numberRead (sum .sum .given .1)))
+    (more-left _ _ (c .if1 .taken)))
 
 returns-4 : tie.Need-returns-4
-unfolding bind
 returns-4 c =
     let sum = c .before .before in
     let a = sum .before .before .before .before .before in
-    let a-is = there (a .before .before .word-at .ensures) (ap passed (a .a .given .1)) in
-    let sum-is = there (sum .before .before .number-then .ensures) (ap numberRead (sum .sum .given .1)) in
-    rw (end-then, a-is, sum-is, nothing-left _ _ (c .if1 .left))
+    sym (end-whole _
+    (there (a .before .before .word-at .ensures) (ap passed (a .a .given .1)))
+    (there (sum .before .before .number-then .ensures) (ap numberRead (sum .sum .given .1)))
+    (nothing-left _ _ (c .if1 .left)))
 
 pub end-line-spec : {M : Type 1} → statement M
 end-line-spec =

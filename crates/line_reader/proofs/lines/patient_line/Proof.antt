@@ -1,8 +1,6 @@
-use mathlib.Core.Path.{ap}
-use Rattle.definitions.specs.Basics.{bind}
+use mathlib.Core.Path.{sym, ap}
 use Rattle.line_reader.specs.Answers.{there, missing, passed, numberRead, entryRead}
-use Rattle.line_reader.specs.Forms.{patient-then}
-use Rattle.line_reader.proofs.Forms.{more-left, nothing-left}
+use Rattle.line_reader.proofs.WholeLines.{more-left, nothing-left, patient-no-head, patient-no-clinic, patient-no-beds, patient-no-parent, patient-no-end, patient-longer, patient-whole}
 use borrow.Author.Needs.{needs}
 use Rattle.line_reader.proofs.lines.patient_line.Statement.{statement}
 use Rattle.line_reader.proofs.lines.patient_line.Tie as tie
@@ -20,8 +18,7 @@ enum-told : tie.Need-enum-told
 enum-told c = search needs
 
 returns : tie.Need-returns
-unfolding bind
-returns c = rw (patient-then, missing (c .before .before .word-at .ensures) (ap passed (c .enum-told .given .1)))
+returns c = sym (patient-no-head _ (missing (c .before .before .word-at .ensures) (ap passed (c .enum-told .given .1))))
 
 slice-aggregate-number-then : tie.Need-slice-aggregate-number-then
 slice-aggregate-number-then c = search needs
@@ -36,11 +33,9 @@ enum-told-2 : tie.Need-enum-told-2
 enum-told-2 c = search needs
 
 returns-2 : tie.Need-returns-2
-unfolding bind
 returns-2 c =
     let a = c .before .before .before .before .before in
-    let a-is = there (a .before .before .word-at .ensures) (ap passed (a .a .given .1)) in
-    rw (patient-then, a-is, missing (c .before .before .number-then .ensures) (ap numberRead (c .enum-told2 .given .1)))
+    sym (patient-no-clinic _ (there (a .before .before .word-at .ensures) (ap passed (a .a .given .1))) (missing (c .before .before .number-then .ensures) (ap numberRead (c .enum-told2 .given .1))))
 
 slice-aggregate-number-then-2 : tie.Need-slice-aggregate-number-then-2
 slice-aggregate-number-then-2 c = search needs
@@ -55,13 +50,13 @@ enum-told-3 : tie.Need-enum-told-3
 enum-told-3 c = search needs
 
 returns-3 : tie.Need-returns-3
-unfolding bind
 returns-3 c =
     let clinic = c .before .before .before .before .before in
     let a = clinic .before .before .before .before .before in
-    let a-is = there (a .before .before .word-at .ensures) (ap passed (a .a .given .1)) in
-    let clinic-is = there (clinic .before .before .number-then .ensures) (ap numberRead (clinic .clinic .given .1)) in
-    rw (patient-then, a-is, clinic-is, missing (c .before .before .number-then2 .ensures) (ap numberRead (c .enum-told3 .given .1)))
+    sym (patient-no-beds _
+    (there (a .before .before .word-at .ensures) (ap passed (a .a .given .1)))
+    (there (clinic .before .before .number-then .ensures) (ap numberRead (clinic .clinic .given .1)))
+    (missing (c .before .before .number-then2 .ensures) (ap numberRead (c .enum-told3 .given .1))))
 
 hyphen-or-number-at-requires : tie.Need-hyphen-or-number-at-requires
 hyphen-or-number-at-requires c κs = search needs
@@ -73,15 +68,15 @@ enum-told-4 : tie.Need-enum-told-4
 enum-told-4 c = search needs
 
 returns-4 : tie.Need-returns-4
-unfolding bind
 returns-4 c =
     let beds = c .before .before .before .before in
     let clinic = beds .before .before .before .before .before in
     let a = clinic .before .before .before .before .before in
-    let a-is = there (a .before .before .word-at .ensures) (ap passed (a .a .given .1)) in
-    let clinic-is = there (clinic .before .before .number-then .ensures) (ap numberRead (clinic .clinic .given .1)) in
-    let beds-is = there (beds .before .before .number-then2 .ensures) (ap numberRead (beds .beds .given .1)) in
-    rw (patient-then, a-is, clinic-is, beds-is, missing (c .before .before .hyphen-or-number-at .ensures) (ap entryRead (c .enum-told4 .given .1)))
+    sym (patient-no-parent _
+    (there (a .before .before .word-at .ensures) (ap passed (a .a .given .1)))
+    (there (clinic .before .before .number-then .ensures) (ap numberRead (clinic .clinic .given .1)))
+    (there (beds .before .before .number-then2 .ensures) (ap numberRead (beds .beds .given .1)))
+    (missing (c .before .before .hyphen-or-number-at .ensures) (ap entryRead (c .enum-told4 .given .1))))
 
 slice-aggregate-word-at-2 : tie.Need-slice-aggregate-word-at-2
 slice-aggregate-word-at-2 c = search needs
@@ -96,47 +91,47 @@ enum-told-5 : tie.Need-enum-told-5
 enum-told-5 c = search needs
 
 returns-5 : tie.Need-returns-5
-unfolding bind
 returns-5 c =
     let parent = c .before .before .before .before .before in
     let beds = parent .before .before .before .before in
     let clinic = beds .before .before .before .before .before in
     let a = clinic .before .before .before .before .before in
-    let a-is = there (a .before .before .word-at .ensures) (ap passed (a .a .given .1)) in
-    let clinic-is = there (clinic .before .before .number-then .ensures) (ap numberRead (clinic .clinic .given .1)) in
-    let beds-is = there (beds .before .before .number-then2 .ensures) (ap numberRead (beds .beds .given .1)) in
-    let parent-is = there (parent .before .before .hyphen-or-number-at .ensures) (ap entryRead (parent .parent .given .1)) in
-    rw (patient-then, a-is, clinic-is, beds-is, parent-is, missing (c .before .before .word-at2 .ensures) (ap passed (c .enum-told5 .given .1)))
+    sym (patient-no-end _
+    (there (a .before .before .word-at .ensures) (ap passed (a .a .given .1)))
+    (there (clinic .before .before .number-then .ensures) (ap numberRead (clinic .clinic .given .1)))
+    (there (beds .before .before .number-then2 .ensures) (ap numberRead (beds .beds .given .1)))
+    (there (parent .before .before .hyphen-or-number-at .ensures) (ap entryRead (parent .parent .given .1)))
+    (missing (c .before .before .word-at2 .ensures) (ap passed (c .enum-told5 .given .1))))
 
 returns-6 : tie.Need-returns-6
-unfolding bind
 returns-6 c =
     let end = c .before .before in
     let parent = end .before .before .before .before .before in
     let beds = parent .before .before .before .before in
     let clinic = beds .before .before .before .before .before in
     let a = clinic .before .before .before .before .before in
-    let a-is = there (a .before .before .word-at .ensures) (ap passed (a .a .given .1)) in
-    let clinic-is = there (clinic .before .before .number-then .ensures) (ap numberRead (clinic .clinic .given .1)) in
-    let beds-is = there (beds .before .before .number-then2 .ensures) (ap numberRead (beds .beds .given .1)) in
-    let parent-is = there (parent .before .before .hyphen-or-number-at .ensures) (ap entryRead (parent .parent .given .1)) in
-    let end-is = there (end .before .before .word-at2 .ensures) (ap passed (end .end .given .1)) in
-    rw (patient-then, a-is, clinic-is, beds-is, parent-is, end-is, more-left _ _ (c .if1 .taken))
+    sym (patient-longer _
+    (there (a .before .before .word-at .ensures) (ap passed (a .a .given .1)))
+    (there (clinic .before .before .number-then .ensures) (ap numberRead (clinic .clinic .given .1)))
+    (there (beds .before .before .number-then2 .ensures) (ap numberRead (beds .beds .given .1)))
+    (there (parent .before .before .hyphen-or-number-at .ensures) (ap entryRead (parent .parent .given .1)))
+    (there (end .before .before .word-at2 .ensures) (ap passed (end .end .given .1)))
+    (more-left _ _ (c .if1 .taken)))
 
 returns-7 : tie.Need-returns-7
-unfolding bind
 returns-7 c =
     let end = c .before .before in
     let parent = end .before .before .before .before .before in
     let beds = parent .before .before .before .before in
     let clinic = beds .before .before .before .before .before in
     let a = clinic .before .before .before .before .before in
-    let a-is = there (a .before .before .word-at .ensures) (ap passed (a .a .given .1)) in
-    let clinic-is = there (clinic .before .before .number-then .ensures) (ap numberRead (clinic .clinic .given .1)) in
-    let beds-is = there (beds .before .before .number-then2 .ensures) (ap numberRead (beds .beds .given .1)) in
-    let parent-is = there (parent .before .before .hyphen-or-number-at .ensures) (ap entryRead (parent .parent .given .1)) in
-    let end-is = there (end .before .before .word-at2 .ensures) (ap passed (end .end .given .1)) in
-    rw (patient-then, a-is, clinic-is, beds-is, parent-is, end-is, nothing-left _ _ (c .if1 .left))
+    sym (patient-whole _
+    (there (a .before .before .word-at .ensures) (ap passed (a .a .given .1)))
+    (there (clinic .before .before .number-then .ensures) (ap numberRead (clinic .clinic .given .1)))
+    (there (beds .before .before .number-then2 .ensures) (ap numberRead (beds .beds .given .1)))
+    (there (parent .before .before .hyphen-or-number-at .ensures) (ap entryRead (parent .parent .given .1)))
+    (there (end .before .before .word-at2 .ensures) (ap passed (end .end .given .1)))
+    (nothing-left _ _ (c .if1 .left)))
 
 pub patient-line-spec : {M : Type 1} → statement M
 patient-line-spec =

@@ -1,8 +1,6 @@
-use mathlib.Core.Path.{ap}
-use Rattle.definitions.specs.Basics.{bind}
+use mathlib.Core.Path.{sym, ap}
 use Rattle.line_reader.specs.Answers.{there, missing, passed, numberRead}
-use Rattle.line_reader.specs.Forms.{region-then}
-use Rattle.line_reader.proofs.Forms.{more-left, nothing-left}
+use Rattle.line_reader.proofs.WholeLines.{more-left, nothing-left, region-no-head, region-no-patients, region-no-tables, region-no-plans, region-longer, region-whole}
 use borrow.Author.Needs.{needs}
 use Rattle.line_reader.proofs.lines.region_line.Statement.{statement}
 use Rattle.line_reader.proofs.lines.region_line.Tie as tie
@@ -20,8 +18,7 @@ enum-told : tie.Need-enum-told
 enum-told c = search needs
 
 returns : tie.Need-returns
-unfolding bind
-returns c = rw (region-then, missing (c .before .before .word-at .ensures) (ap passed (c .enum-told .given .1)))
+returns c = sym (region-no-head _ (missing (c .before .before .word-at .ensures) (ap passed (c .enum-told .given .1))))
 
 slice-aggregate-number-then : tie.Need-slice-aggregate-number-then
 slice-aggregate-number-then c = search needs
@@ -36,11 +33,9 @@ enum-told-2 : tie.Need-enum-told-2
 enum-told-2 c = search needs
 
 returns-2 : tie.Need-returns-2
-unfolding bind
 returns-2 c =
     let a = c .before .before .before .before .before in
-    let a-is = there (a .before .before .word-at .ensures) (ap passed (a .a .given .1)) in
-    rw (region-then, a-is, missing (c .before .before .number-then .ensures) (ap numberRead (c .enum-told2 .given .1)))
+    sym (region-no-patients _ (there (a .before .before .word-at .ensures) (ap passed (a .a .given .1))) (missing (c .before .before .number-then .ensures) (ap numberRead (c .enum-told2 .given .1))))
 
 slice-aggregate-number-then-2 : tie.Need-slice-aggregate-number-then-2
 slice-aggregate-number-then-2 c = search needs
@@ -55,13 +50,13 @@ enum-told-3 : tie.Need-enum-told-3
 enum-told-3 c = search needs
 
 returns-3 : tie.Need-returns-3
-unfolding bind
 returns-3 c =
     let patients = c .before .before .before .before .before in
     let a = patients .before .before .before .before .before in
-    let a-is = there (a .before .before .word-at .ensures) (ap passed (a .a .given .1)) in
-    let patients-is = there (patients .before .before .number-then .ensures) (ap numberRead (patients .patients .given .1)) in
-    rw (region-then, a-is, patients-is, missing (c .before .before .number-then2 .ensures) (ap numberRead (c .enum-told3 .given .1)))
+    sym (region-no-tables _
+    (there (a .before .before .word-at .ensures) (ap passed (a .a .given .1)))
+    (there (patients .before .before .number-then .ensures) (ap numberRead (patients .patients .given .1)))
+    (missing (c .before .before .number-then2 .ensures) (ap numberRead (c .enum-told3 .given .1))))
 
 slice-aggregate-number-then-3 : tie.Need-slice-aggregate-number-then-3
 slice-aggregate-number-then-3 c = search needs
@@ -76,41 +71,41 @@ enum-told-4 : tie.Need-enum-told-4
 enum-told-4 c = search needs
 
 returns-4 : tie.Need-returns-4
-unfolding bind
 returns-4 c =
     let tables = c .before .before .before .before .before in
     let patients = tables .before .before .before .before .before in
     let a = patients .before .before .before .before .before in
-    let a-is = there (a .before .before .word-at .ensures) (ap passed (a .a .given .1)) in
-    let patients-is = there (patients .before .before .number-then .ensures) (ap numberRead (patients .patients .given .1)) in
-    let tables-is = there (tables .before .before .number-then2 .ensures) (ap numberRead (tables .tables .given .1)) in
-    rw (region-then, a-is, patients-is, tables-is, missing (c .before .before .number-then3 .ensures) (ap numberRead (c .enum-told4 .given .1)))
+    sym (region-no-plans _
+    (there (a .before .before .word-at .ensures) (ap passed (a .a .given .1)))
+    (there (patients .before .before .number-then .ensures) (ap numberRead (patients .patients .given .1)))
+    (there (tables .before .before .number-then2 .ensures) (ap numberRead (tables .tables .given .1)))
+    (missing (c .before .before .number-then3 .ensures) (ap numberRead (c .enum-told4 .given .1))))
 
 returns-5 : tie.Need-returns-5
-unfolding bind
 returns-5 c =
     let plans = c .before .before in
     let tables = plans .before .before .before .before .before in
     let patients = tables .before .before .before .before .before in
     let a = patients .before .before .before .before .before in
-    let a-is = there (a .before .before .word-at .ensures) (ap passed (a .a .given .1)) in
-    let patients-is = there (patients .before .before .number-then .ensures) (ap numberRead (patients .patients .given .1)) in
-    let tables-is = there (tables .before .before .number-then2 .ensures) (ap numberRead (tables .tables .given .1)) in
-    let plans-is = there (plans .before .before .number-then3 .ensures) (ap numberRead (plans .plans .given .1)) in
-    rw (region-then, a-is, patients-is, tables-is, plans-is, more-left _ _ (c .if1 .taken))
+    sym (region-longer _
+    (there (a .before .before .word-at .ensures) (ap passed (a .a .given .1)))
+    (there (patients .before .before .number-then .ensures) (ap numberRead (patients .patients .given .1)))
+    (there (tables .before .before .number-then2 .ensures) (ap numberRead (tables .tables .given .1)))
+    (there (plans .before .before .number-then3 .ensures) (ap numberRead (plans .plans .given .1)))
+    (more-left _ _ (c .if1 .taken)))
 
 returns-6 : tie.Need-returns-6
-unfolding bind
 returns-6 c =
     let plans = c .before .before in
     let tables = plans .before .before .before .before .before in
     let patients = tables .before .before .before .before .before in
     let a = patients .before .before .before .before .before in
-    let a-is = there (a .before .before .word-at .ensures) (ap passed (a .a .given .1)) in
-    let patients-is = there (patients .before .before .number-then .ensures) (ap numberRead (patients .patients .given .1)) in
-    let tables-is = there (tables .before .before .number-then2 .ensures) (ap numberRead (tables .tables .given .1)) in
-    let plans-is = there (plans .before .before .number-then3 .ensures) (ap numberRead (plans .plans .given .1)) in
-    rw (region-then, a-is, patients-is, tables-is, plans-is, nothing-left _ _ (c .if1 .left))
+    sym (region-whole _
+    (there (a .before .before .word-at .ensures) (ap passed (a .a .given .1)))
+    (there (patients .before .before .number-then .ensures) (ap numberRead (patients .patients .given .1)))
+    (there (tables .before .before .number-then2 .ensures) (ap numberRead (tables .tables .given .1)))
+    (there (plans .before .before .number-then3 .ensures) (ap numberRead (plans .plans .given .1)))
+    (nothing-left _ _ (c .if1 .left)))
 
 pub region-line-spec : {M : Type 1} → statement M
 region-line-spec =

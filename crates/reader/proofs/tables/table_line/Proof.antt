@@ -1,7 +1,7 @@
 use mathlib.Core.Path.{ap}
 use borrow.Author.Tests.{not-true, not-false}
 use Rattle.line_reader.specs.Answers.{there, missing, passed}
-use Rattle.line_reader.proofs.Forms.{more-left, nothing-left}
+use Rattle.line_reader.proofs.WholeLines.{more-left, nothing-left}
 use Rattle.reader.proofs.HeldTables.{entries-there, no-members, no-space, no-entries, no-end, more-behind, line-other, line-broken, line-table}
 use borrow.Author.Needs.{needs}
 use Rattle.reader.proofs.tables.table_line.Statement.{statement}
