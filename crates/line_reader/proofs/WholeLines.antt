@@ -7,7 +7,8 @@ use lib.ListN.{length, drop, drop-of-length-le}
 use lib.Seq.{drop-cons}
 use Rattle.definitions.specs.Basics.{Option, none, some, bind, isEmpty, text}
 use Rattle.definitions.specs.Layout.{whole, word, hyphenOrNumber, regionLine, patientLine, endLine}
-use Rattle.line_reader.specs.Forms.{numberThen, region-then, patient-then, end-then}
+use Rattle.scanner.specs.Forms.{numberThen}
+use Rattle.line_reader.specs.Forms.{region-then, patient-then, end-then}
 
 module _ (s : List ℕ) (n : ℕ) where
   pub more-left : n < length s → isEmpty (drop n s) ≡ false

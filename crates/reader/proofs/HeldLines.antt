@@ -12,13 +12,14 @@ use Rattle.definitions.specs.Layout.{many, whole, lines, patientLine}
 use Rattle.held_region.specs.declared.Patient.{Patient}
 use Rattle.held_region.specs.declared.Parent.{Parent}
 use Rattle.held_region.specs.Held.{parentOf, patientOf, noPatient}
-use Rattle.line_reader.specs.declared.Optional.{Optional}
-use Rattle.line_reader.specs.declared.Optional.the-variants.{Hyphen, Number}
-use Rattle.line_reader.specs.declared.lines.PatientLine.{PatientLine}
-use Rattle.line_reader.specs.declared.lines.PatientLine.the-variants.{Is as IsPatient, Other as NoPatient}
-use Rattle.line_reader.specs.Answers.{LineEnd, optional, patientRead}
+use Rattle.scanner.specs.declared.Optional.{Optional}
+use Rattle.scanner.specs.declared.Optional.the-variants.{Hyphen, Number}
+use Rattle.line_reader.specs.declared.PatientLine.{PatientLine}
+use Rattle.line_reader.specs.declared.PatientLine.the-variants.{Is as IsPatient, Other as NoPatient}
+use Rattle.scanner.specs.Answers.{optional}
+use Rattle.line_reader.specs.Answers.{LineEnd, patientRead}
 use Rattle.reader.specs.Taken.{Taken, taken-none, taken-more, taken-other, taken-all}
-use Rattle.reader.specs.FirstHeld.{held-none, held-more}
+use Rattle.table_reader.specs.FirstHeld.{held-none, held-more}
 use Rattle.reader.specs.Reading.{held, noneSaid, HoldsPatient, HeldPatients, PatientsSoFar, PatientLines}
 
 pub patients-none : (s : List ℕ) (at : ℕ) → PatientsSoFar s at (replicate 32 noPatient) 0 at

@@ -1,6 +1,5 @@
 -- The parts of a file that is being laid out, put together.
 use mathlib.Core.Path.{_≡_, refl, sym, ap, _∙_}
-use mathlib.Core.Bool.{true≢false}
 use mathlib.Core.List.{append-assoc}
 use mathlib.Core.Option.{Option·none-ne-some}
 use native.Mathlib.Omega.{arith}
@@ -15,8 +14,8 @@ use Rattle.reader.specs.declared.patients.Patients.{Patients}
 use Rattle.reader.specs.declared.tables.Tables.{Tables}
 use Rattle.reader.specs.declared.layout.Laid.{Laid}
 use Rattle.reader.specs.Reading.{PatientLines}
-use Rattle.reader.specs.TableReading.{TableLines}
-use Rattle.reader.specs.LaidOut.{LaidThere, LaidOut, treeOf, no-lines, no-head, no-last, no-end, more-lines, laid-out, EndsWith, many-end, body-before}
+use Rattle.reader.specs.TableLines.{TableLines}
+use Rattle.reader.specs.LaidOut.{LaidThere, treeOf, no-lines, no-head, no-last, no-end, more-lines, laid-out, EndsWith, many-end, body-before}
 
 -- No line is left where no byte is.
 lines-none : (s : List ℕ) (i : ℕ) → length s ≤ i → lines (drop i s) ≡ []
@@ -35,13 +34,6 @@ some-byte : {A : Type 0} (f : List ℕ → Option A) {a : A} → f [] ≡ none �
 some-byte f {a} none-there zero [] r = absurd (Option·none-ne-some a (sym none-there ∙ r))
 some-byte f {a} none-there (suc e) [] r = absurd (Option·none-ne-some a (sym none-there ∙ r))
 some-byte f none-there e (x ∷ s) r = omega arith
-
--- A file is laid out, or it is not.
-pub not-laid : {s : List ℕ} {r : Laid} {before after : List ℕ} → r .found ≡ false → layout s ≡ none → LaidOut s r before after
-not-laid f e = record { there = λ t. absurd (true≢false (sym t ∙ f)); missing = λ _. e }
-
-pub is-laid : {s : List ℕ} {r : Laid} {before after : List ℕ} → r .found ≡ true → LaidThere s r before after → LaidOut s r before after
-is-laid t l = record { there = λ _. l; missing = λ f. absurd (true≢false (sym t ∙ f)) }
 
 module _ {s : List ℕ} {e : ℕ} (first : LineEnd s 0 e) where
   cut-head : 0 < length s → lines s ≡ take e s ∷ lines (drop e s)

@@ -3,16 +3,17 @@ use mathlib.Core.Path.{_≡_, refl, sym, ap, _∙_}
 use mathlib.Core.List.{append-assoc, append-cancel-right}
 use mathlib.Core.Option.{Option·none-ne-some, Option·some-injective}
 use lib.ListN.{take, drop, take-append-drop}
-use Rattle.definitions.specs.Basics.{ℕ, true, false, Option, none, some, bind, List, [], _∷_, _++_, length, flatten, dropLast}
+use Rattle.definitions.specs.Basics.{ℕ, Option, none, some, bind, List, [], _∷_, _++_, length, flatten, dropLast}
 use Rattle.definitions.specs.Syntax as Said
 use Rattle.definitions.specs.Layout.{many, one, whole, lines, regionLine, patientLine, tableLine, endLine, regionLines, layout}
 use Rattle.theorems.specs.Lines.{flatten-lines}
 use Rattle.theorems.specs.Spelling.{drop-last}
 use Rattle.held_region.specs.Held.{HoldsTable, noTable, blankStore, storeOf}
+use Rattle.table_reader.specs.TableReading.{Found}
 use Rattle.reader.specs.declared.layout.Laid.{Laid}
-use Rattle.reader.specs.FirstHeld.{FirstHeld}
+use Rattle.table_reader.specs.FirstHeld.{FirstHeld}
 use Rattle.reader.specs.Reading.{HeldPatients}
-use Rattle.reader.specs.TableReading.{noTableSaid}
+use Rattle.reader.specs.TableLines.{noTableSaid}
 
 -- What is held of a laid-out file: everything it says but for what has no place, and what the sum is taken over.
 pub record LaidThere (s : List ℕ) (r : Laid) (before after : List ℕ) : Type 0 where
@@ -29,9 +30,8 @@ pub record LaidThere (s : List ℕ) (r : Laid) (before after : List ℕ) : Type 
   pub stored : before ≡ blankStore → after ≡ storeOf (tree .tables)
   pub body : flatten (dropLast (lines s)) ≡ take (r .end) s
 
-pub record LaidOut (s : List ℕ) (r : Laid) (before after : List ℕ) : Type 0 where
-  pub there : r .found ≡ true → LaidThere s r before after
-  pub missing : r .found ≡ false → layout s ≡ none
+abbrev pub LaidOut : List ℕ → Laid → List ℕ → List ℕ → Type 0
+LaidOut s r before after = Found (r .found) (LaidThere s r before after) (layout s ≡ none)
 
 -- The tree of what the lines say.
 abbrev pub treeOf : ℕ × ℕ × ℕ → List Said.Patient → List Said.Table → ℕ → Said.Region

@@ -4,15 +4,15 @@ use lib.ListN.{drop}
 use Rattle.definitions.specs.Basics.{ℕ, _<_, _≡_, Option, none, some, List, length}
 use Rattle.definitions.specs.Syntax as Said
 use Rattle.definitions.specs.Layout.{many, whole, lines, patientLine}
-use Rattle.line_reader.specs.declared.Optional.{Optional}
-use Rattle.line_reader.specs.declared.Optional.the-variants.{Hyphen, Number}
+use Rattle.scanner.specs.declared.Optional.{Optional}
+use Rattle.scanner.specs.declared.Optional.the-variants.{Hyphen, Number}
 use Rattle.held_region.specs.declared.Parent.{Parent}
 use Rattle.held_region.specs.declared.Parent.the-variants.{Root, Of}
 use Rattle.held_region.specs.declared.Patient.{Patient}
 use Rattle.held_region.specs.Held.{patientOf, noPatient}
 use Rattle.reader.specs.declared.patients.Patients.{Patients}
 use Rattle.reader.specs.Taken.{Taken}
-use Rattle.reader.specs.FirstHeld.{FirstHeld}
+use Rattle.table_reader.specs.FirstHeld.{FirstHeld}
 
 -- The parent field as it is held.
 abbrev pub held : Optional → Parent

@@ -6,11 +6,11 @@ use super::patients::read_patients;
 use super::tables::NO_TABLES;
 use super::tables::Tables;
 use super::tables::read_tables;
-use line_reader::lines::EndLine;
-use line_reader::lines::RegionLine;
-use line_reader::lines::end_line;
-use line_reader::lines::line_end;
-use line_reader::lines::region_line;
+use line_reader::EndLine;
+use line_reader::RegionLine;
+use line_reader::end_line;
+use line_reader::line_end;
+use line_reader::region_line;
 
 // Whether the file is laid out; V, T and m; patients and tables; n, and the place where the end line begins.
 pub struct Laid {

@@ -10,10 +10,10 @@ use held_region::Judged;
 use held_region::Refusal;
 use held_region::Region;
 use held_region::blank;
-use held_region::judge;
 use layout::Laid;
 use layout::lay_out;
-use line_reader::lines::checksum_before;
+use line_reader::checksum_before;
+use questions::judge;
 
 // Check's answer; where the file is accepted, what it says.
 pub struct Loaded {

@@ -1,12 +1,13 @@
 // The patient lines of a file.
 ghost use Rattle.reader.specs.Reading.{held, PatientLines};
 ghost use mathlib.Core.Path.{_≡_};
+use held_region::NO_PATIENT;
 use held_region::Parent;
 use held_region::Patient;
-use line_reader::Optional;
-use line_reader::lines::PatientLine;
-use line_reader::lines::line_end;
-use line_reader::lines::patient_line;
+use line_reader::PatientLine;
+use line_reader::line_end;
+use line_reader::patient_line;
+use scanner::Optional;
 
 // The first 32 patients of the lines from a place on, how many there are, and the place after them.
 pub struct Patients {
@@ -14,12 +15,6 @@ pub struct Patients {
     pub count: usize,
     pub next: usize,
 }
-
-const NO_PATIENT: Patient = Patient {
-    clinic: 0,
-    beds: 0,
-    parent: Parent::Root,
-};
 
 pub const NO_PATIENTS: Patients = Patients {
     first: [NO_PATIENT; 32],

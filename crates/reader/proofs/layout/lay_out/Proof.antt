@@ -1,8 +1,9 @@
 use borrow.Author.Needs.{needs}
-use mathlib.Core.Path.{refl, sym, ap, _∙_}
+use mathlib.Core.Path.{sym, ap, _∙_}
 use lib.Seq.{length-take-le}
 use Rattle.line_reader.specs.Answers.{regionRead, endRead}
-use Rattle.reader.proofs.Layouts.{not-laid, is-laid, layout-no-head, layout-no-end, layout-more, layout-there}
+use Rattle.table_reader.proofs.HeldTables.{found, not-found}
+use Rattle.reader.proofs.Layouts.{layout-no-head, layout-no-end, layout-more, layout-there}
 use Rattle.reader.proofs.layout.lay_out.Statement.{statement}
 use Rattle.reader.proofs.layout.lay_out.Tie as tie
 
@@ -22,7 +23,7 @@ enum-told : tie.Need-enum-told
 enum-told c = search needs
 
 returns : tie.Need-returns
-returns c = not-laid refl (layout-no-head (c .before .before .before .before .line-end .ensures) (sym (c .before .before .region-line .ensures) ∙ ap regionRead (c .enum-told .given .1)))
+returns c = not-found (layout-no-head (c .before .before .before .before .line-end .ensures) (sym (c .before .before .region-line .ensures) ∙ ap regionRead (c .enum-told .given .1)))
 
 read-patients-requires : tie.Need-read-patients-requires
 read-patients-requires c κs = search needs
@@ -59,7 +60,7 @@ returns-2 c =
     let head = patients .before .before in
     let line = head .before .before in
     let said = sym (line .region-line .ensures) ∙ ap regionRead (head .v .given .1) in
-    not-laid refl (layout-no-end (line .before .before .line-end .ensures) said (patients .read-patients .ensures) (tables .read-tables .ensures) (last .line-end2 .ensures)
+    not-found (layout-no-end (line .before .before .line-end .ensures) said (patients .read-patients .ensures) (tables .read-tables .ensures) (last .line-end2 .ensures)
     (sym (c .before .before .end-line .ensures) ∙ ap endRead (c .enum-told2 .given .1)))
 
 returns-3 : tie.Need-returns-3
@@ -71,7 +72,7 @@ returns-3 c =
     let line = head .before .before in
     let said = sym (line .region-line .ensures) ∙ ap regionRead (head .v .given .1) in
     let stated = sym (c .before .before .before .before .end-line .ensures) ∙ ap endRead (c .before .before .sum .given .1) in
-    not-laid refl (layout-more (line .before .before .line-end .ensures) said (patients .read-patients .ensures) (tables .read-tables .ensures) (last .line-end2 .ensures) stated (search needs))
+    not-found (layout-more (line .before .before .line-end .ensures) said (patients .read-patients .ensures) (tables .read-tables .ensures) (last .line-end2 .ensures) stated (search needs))
 
 returns-4 : tie.Need-returns-4
 returns-4 c =
@@ -82,7 +83,7 @@ returns-4 c =
     let line = head .before .before in
     let said = sym (line .region-line .ensures) ∙ ap regionRead (head .v .given .1) in
     let stated = sym (c .before .before .before .before .end-line .ensures) ∙ ap endRead (c .before .before .sum .given .1) in
-    is-laid refl (layout-there (line .before .before .line-end .ensures) said (patients .read-patients .ensures) (tables .read-tables .ensures) (last .line-end2 .ensures) stated (search needs))
+    found (layout-there (line .before .before .line-end .ensures) said (patients .read-patients .ensures) (tables .read-tables .ensures) (last .line-end2 .ensures) stated (search needs))
 
 pub lay-out-spec : {M : Type 1} → statement M
 lay-out-spec =

@@ -5,8 +5,8 @@ use mathlib.Core.Path.{_∙_}
 use mathlib.Core.Logic.{inl, inr}
 use Prim.Native.Nat.{_-_}
 use lib.ListN.{length}
-use Rattle.reader.specs.FirstHeld.{set-full}
-use Rattle.reader.specs.TableReading.{TablesSoFar}
+use Rattle.table_reader.specs.FirstHeld.{set-full}
+use Rattle.reader.specs.TableLines.{TablesSoFar}
 use Rattle.reader.proofs.HeldTables.{tables-none, used-few, tables-more, tables-other, tables-all}
 use Rattle.reader.proofs.tables.read_tables.Statement.{statement}
 use Rattle.reader.proofs.tables.read_tables.Tie as tie
