@@ -1,10 +1,9 @@
 // Questions 5 to 10, asked of a held region in their order.
-pub mod entries;
 pub mod fields;
 
-use entries::entries_fit;
-use entries::entry_counts_right;
-use entries::entry_total;
+use entry_questions::entries_fit;
+use entry_questions::entry_counts_right;
+use entry_questions::entry_total;
 use fields::counts_fit;
 use fields::members_right;
 use fields::patients_right;

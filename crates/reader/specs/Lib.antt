@@ -1,5 +1,1 @@
-pub mod Taken
-pub mod Reading
-pub mod TableLines
-pub mod LaidOut
 pub mod Loading

@@ -1,8 +1,4 @@
 // From the bytes of a file to the held region: questions 1 to 4, then those that the held region answers.
-pub mod layout;
-pub mod patients;
-pub mod tables;
-
 ghost use mathlib.Core.Path.{_≡_};
 ghost use Rattle.reader.specs.Loading.{LoadedFrom, refusedWith, regionHeld};
 use held_region::FORBIDDEN;
