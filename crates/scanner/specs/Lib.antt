@@ -8,3 +8,4 @@ pub mod Separators
 pub mod Items
 pub mod Bounds
 pub mod Forms
+pub mod Parts

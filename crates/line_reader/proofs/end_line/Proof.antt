@@ -1,6 +1,7 @@
 use mathlib.Core.Path.{sym, ap}
-use Rattle.scanner.specs.Answers.{there, missing, passed, numberRead}
-use Rattle.line_reader.proofs.WholeLines.{more-left, nothing-left, end-no-head, end-no-sum, end-longer, end-whole}
+use Rattle.scanner.specs.Answers.{passed, numberRead}
+use Rattle.scanner.specs.Parts.{part-there, part-missing, line-longer, line-whole}
+use Rattle.line_reader.specs.Forms.{end-form}
 use borrow.Author.Needs.{needs}
 use Rattle.line_reader.proofs.end_line.Statement.{statement}
 use Rattle.line_reader.proofs.end_line.Tie as tie
@@ -18,7 +19,7 @@ enum-told : tie.Need-enum-told
 enum-told c = search needs
 
 returns : tie.Need-returns
-returns c = sym (end-no-head _ (missing (c .before .before .word-at .ensures) (ap passed (c .enum-told .given .1))))
+returns c = sym (part-missing (end-form _) (c .before .before .word-at .ensures) (ap passed (c .enum-told .given .1)))
 
 slice-aggregate-number-then : tie.Need-slice-aggregate-number-then
 slice-aggregate-number-then c = search needs
@@ -35,25 +36,27 @@ enum-told-2 c = search needs
 returns-2 : tie.Need-returns-2
 returns-2 c =
     let a = c .before .before .before .before .before in
-    sym (end-no-sum _ (there (a .before .before .word-at .ensures) (ap passed (a .a .given .1))) (missing (c .before .before .number-then .ensures) (ap numberRead (c .enum-told2 .given .1))))
+    sym (part-missing (part-there (end-form _)
+    (a .before .before .word-at .ensures) (ap passed (a .a .given .1)))
+    (c .before .before .number-then .ensures) (ap numberRead (c .enum-told2 .given .1)))
 
 returns-3 : tie.Need-returns-3
 returns-3 c =
     let sum = c .before .before in
     let a = sum .before .before .before .before .before in
-    sym (end-longer _
-    (there (a .before .before .word-at .ensures) (ap passed (a .a .given .1)))
-    (there (sum .before .before .number-then .ensures) (ap numberRead (sum .sum .given .1)))
-    (more-left _ _ (c .if1 .taken)))
+    sym (line-longer (part-there (part-there (end-form _)
+    (a .before .before .word-at .ensures) (ap passed (a .a .given .1)))
+    (sum .before .before .number-then .ensures) (ap numberRead (sum .sum .given .1)))
+    (c .if1 .taken))
 
 returns-4 : tie.Need-returns-4
 returns-4 c =
     let sum = c .before .before in
     let a = sum .before .before .before .before .before in
-    sym (end-whole _
-    (there (a .before .before .word-at .ensures) (ap passed (a .a .given .1)))
-    (there (sum .before .before .number-then .ensures) (ap numberRead (sum .sum .given .1)))
-    (nothing-left _ _ (c .if1 .left)))
+    sym (line-whole (part-there (part-there (end-form _)
+    (a .before .before .word-at .ensures) (ap passed (a .a .given .1)))
+    (sum .before .before .number-then .ensures) (ap numberRead (sum .sum .given .1)))
+    (c .if1 .left))
 
 pub end-line-spec : {M : Type 1} → statement M
 end-line-spec =

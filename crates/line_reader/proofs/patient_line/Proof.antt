@@ -1,6 +1,7 @@
 use mathlib.Core.Path.{sym, ap}
-use Rattle.scanner.specs.Answers.{there, missing, passed, numberRead, entryRead}
-use Rattle.line_reader.proofs.WholeLines.{more-left, nothing-left, patient-no-head, patient-no-clinic, patient-no-beds, patient-no-parent, patient-no-end, patient-longer, patient-whole}
+use Rattle.scanner.specs.Answers.{passed, numberRead, entryRead}
+use Rattle.scanner.specs.Parts.{part-there, part-missing, line-longer, line-whole}
+use Rattle.line_reader.specs.Forms.{patient-form}
 use borrow.Author.Needs.{needs}
 use Rattle.line_reader.proofs.patient_line.Statement.{statement}
 use Rattle.line_reader.proofs.patient_line.Tie as tie
@@ -18,7 +19,7 @@ enum-told : tie.Need-enum-told
 enum-told c = search needs
 
 returns : tie.Need-returns
-returns c = sym (patient-no-head _ (missing (c .before .before .word-at .ensures) (ap passed (c .enum-told .given .1))))
+returns c = sym (part-missing (patient-form _) (c .before .before .word-at .ensures) (ap passed (c .enum-told .given .1)))
 
 slice-aggregate-number-then : tie.Need-slice-aggregate-number-then
 slice-aggregate-number-then c = search needs
@@ -35,7 +36,9 @@ enum-told-2 c = search needs
 returns-2 : tie.Need-returns-2
 returns-2 c =
     let a = c .before .before .before .before .before in
-    sym (patient-no-clinic _ (there (a .before .before .word-at .ensures) (ap passed (a .a .given .1))) (missing (c .before .before .number-then .ensures) (ap numberRead (c .enum-told2 .given .1))))
+    sym (part-missing (part-there (patient-form _)
+    (a .before .before .word-at .ensures) (ap passed (a .a .given .1)))
+    (c .before .before .number-then .ensures) (ap numberRead (c .enum-told2 .given .1)))
 
 slice-aggregate-number-then-2 : tie.Need-slice-aggregate-number-then-2
 slice-aggregate-number-then-2 c = search needs
@@ -53,10 +56,10 @@ returns-3 : tie.Need-returns-3
 returns-3 c =
     let clinic = c .before .before .before .before .before in
     let a = clinic .before .before .before .before .before in
-    sym (patient-no-beds _
-    (there (a .before .before .word-at .ensures) (ap passed (a .a .given .1)))
-    (there (clinic .before .before .number-then .ensures) (ap numberRead (clinic .clinic .given .1)))
-    (missing (c .before .before .number-then2 .ensures) (ap numberRead (c .enum-told3 .given .1))))
+    sym (part-missing (part-there (part-there (patient-form _)
+    (a .before .before .word-at .ensures) (ap passed (a .a .given .1)))
+    (clinic .before .before .number-then .ensures) (ap numberRead (clinic .clinic .given .1)))
+    (c .before .before .number-then2 .ensures) (ap numberRead (c .enum-told3 .given .1)))
 
 hyphen-or-number-at-requires : tie.Need-hyphen-or-number-at-requires
 hyphen-or-number-at-requires c κs = search needs
@@ -72,11 +75,11 @@ returns-4 c =
     let beds = c .before .before .before .before in
     let clinic = beds .before .before .before .before .before in
     let a = clinic .before .before .before .before .before in
-    sym (patient-no-parent _
-    (there (a .before .before .word-at .ensures) (ap passed (a .a .given .1)))
-    (there (clinic .before .before .number-then .ensures) (ap numberRead (clinic .clinic .given .1)))
-    (there (beds .before .before .number-then2 .ensures) (ap numberRead (beds .beds .given .1)))
-    (missing (c .before .before .hyphen-or-number-at .ensures) (ap entryRead (c .enum-told4 .given .1))))
+    sym (part-missing (part-there (part-there (part-there (patient-form _)
+    (a .before .before .word-at .ensures) (ap passed (a .a .given .1)))
+    (clinic .before .before .number-then .ensures) (ap numberRead (clinic .clinic .given .1)))
+    (beds .before .before .number-then2 .ensures) (ap numberRead (beds .beds .given .1)))
+    (c .before .before .hyphen-or-number-at .ensures) (ap entryRead (c .enum-told4 .given .1)))
 
 slice-aggregate-word-at-2 : tie.Need-slice-aggregate-word-at-2
 slice-aggregate-word-at-2 c = search needs
@@ -96,12 +99,12 @@ returns-5 c =
     let beds = parent .before .before .before .before in
     let clinic = beds .before .before .before .before .before in
     let a = clinic .before .before .before .before .before in
-    sym (patient-no-end _
-    (there (a .before .before .word-at .ensures) (ap passed (a .a .given .1)))
-    (there (clinic .before .before .number-then .ensures) (ap numberRead (clinic .clinic .given .1)))
-    (there (beds .before .before .number-then2 .ensures) (ap numberRead (beds .beds .given .1)))
-    (there (parent .before .before .hyphen-or-number-at .ensures) (ap entryRead (parent .parent .given .1)))
-    (missing (c .before .before .word-at2 .ensures) (ap passed (c .enum-told5 .given .1))))
+    sym (part-missing (part-there (part-there (part-there (part-there (patient-form _)
+    (a .before .before .word-at .ensures) (ap passed (a .a .given .1)))
+    (clinic .before .before .number-then .ensures) (ap numberRead (clinic .clinic .given .1)))
+    (beds .before .before .number-then2 .ensures) (ap numberRead (beds .beds .given .1)))
+    (parent .before .before .hyphen-or-number-at .ensures) (ap entryRead (parent .parent .given .1)))
+    (c .before .before .word-at2 .ensures) (ap passed (c .enum-told5 .given .1)))
 
 returns-6 : tie.Need-returns-6
 returns-6 c =
@@ -110,13 +113,13 @@ returns-6 c =
     let beds = parent .before .before .before .before in
     let clinic = beds .before .before .before .before .before in
     let a = clinic .before .before .before .before .before in
-    sym (patient-longer _
-    (there (a .before .before .word-at .ensures) (ap passed (a .a .given .1)))
-    (there (clinic .before .before .number-then .ensures) (ap numberRead (clinic .clinic .given .1)))
-    (there (beds .before .before .number-then2 .ensures) (ap numberRead (beds .beds .given .1)))
-    (there (parent .before .before .hyphen-or-number-at .ensures) (ap entryRead (parent .parent .given .1)))
-    (there (end .before .before .word-at2 .ensures) (ap passed (end .end .given .1)))
-    (more-left _ _ (c .if1 .taken)))
+    sym (line-longer (part-there (part-there (part-there (part-there (part-there (patient-form _)
+    (a .before .before .word-at .ensures) (ap passed (a .a .given .1)))
+    (clinic .before .before .number-then .ensures) (ap numberRead (clinic .clinic .given .1)))
+    (beds .before .before .number-then2 .ensures) (ap numberRead (beds .beds .given .1)))
+    (parent .before .before .hyphen-or-number-at .ensures) (ap entryRead (parent .parent .given .1)))
+    (end .before .before .word-at2 .ensures) (ap passed (end .end .given .1)))
+    (c .if1 .taken))
 
 returns-7 : tie.Need-returns-7
 returns-7 c =
@@ -125,13 +128,13 @@ returns-7 c =
     let beds = parent .before .before .before .before in
     let clinic = beds .before .before .before .before .before in
     let a = clinic .before .before .before .before .before in
-    sym (patient-whole _
-    (there (a .before .before .word-at .ensures) (ap passed (a .a .given .1)))
-    (there (clinic .before .before .number-then .ensures) (ap numberRead (clinic .clinic .given .1)))
-    (there (beds .before .before .number-then2 .ensures) (ap numberRead (beds .beds .given .1)))
-    (there (parent .before .before .hyphen-or-number-at .ensures) (ap entryRead (parent .parent .given .1)))
-    (there (end .before .before .word-at2 .ensures) (ap passed (end .end .given .1)))
-    (nothing-left _ _ (c .if1 .left)))
+    sym (line-whole (part-there (part-there (part-there (part-there (part-there (patient-form _)
+    (a .before .before .word-at .ensures) (ap passed (a .a .given .1)))
+    (clinic .before .before .number-then .ensures) (ap numberRead (clinic .clinic .given .1)))
+    (beds .before .before .number-then2 .ensures) (ap numberRead (beds .beds .given .1)))
+    (parent .before .before .hyphen-or-number-at .ensures) (ap entryRead (parent .parent .given .1)))
+    (end .before .before .word-at2 .ensures) (ap passed (end .end .given .1)))
+    (c .if1 .left))
 
 pub patient-line-spec : {M : Type 1} → statement M
 patient-line-spec =

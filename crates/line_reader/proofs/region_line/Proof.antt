@@ -1,6 +1,7 @@
 use mathlib.Core.Path.{sym, ap}
-use Rattle.scanner.specs.Answers.{there, missing, passed, numberRead}
-use Rattle.line_reader.proofs.WholeLines.{more-left, nothing-left, region-no-head, region-no-patients, region-no-tables, region-no-plans, region-longer, region-whole}
+use Rattle.scanner.specs.Answers.{passed, numberRead}
+use Rattle.scanner.specs.Parts.{part-there, part-missing, line-longer, line-whole}
+use Rattle.line_reader.specs.Forms.{region-form}
 use borrow.Author.Needs.{needs}
 use Rattle.line_reader.proofs.region_line.Statement.{statement}
 use Rattle.line_reader.proofs.region_line.Tie as tie
@@ -18,7 +19,7 @@ enum-told : tie.Need-enum-told
 enum-told c = search needs
 
 returns : tie.Need-returns
-returns c = sym (region-no-head _ (missing (c .before .before .word-at .ensures) (ap passed (c .enum-told .given .1))))
+returns c = sym (part-missing (region-form _) (c .before .before .word-at .ensures) (ap passed (c .enum-told .given .1)))
 
 slice-aggregate-number-then : tie.Need-slice-aggregate-number-then
 slice-aggregate-number-then c = search needs
@@ -35,7 +36,9 @@ enum-told-2 c = search needs
 returns-2 : tie.Need-returns-2
 returns-2 c =
     let a = c .before .before .before .before .before in
-    sym (region-no-patients _ (there (a .before .before .word-at .ensures) (ap passed (a .a .given .1))) (missing (c .before .before .number-then .ensures) (ap numberRead (c .enum-told2 .given .1))))
+    sym (part-missing (part-there (region-form _)
+    (a .before .before .word-at .ensures) (ap passed (a .a .given .1)))
+    (c .before .before .number-then .ensures) (ap numberRead (c .enum-told2 .given .1)))
 
 slice-aggregate-number-then-2 : tie.Need-slice-aggregate-number-then-2
 slice-aggregate-number-then-2 c = search needs
@@ -53,10 +56,10 @@ returns-3 : tie.Need-returns-3
 returns-3 c =
     let patients = c .before .before .before .before .before in
     let a = patients .before .before .before .before .before in
-    sym (region-no-tables _
-    (there (a .before .before .word-at .ensures) (ap passed (a .a .given .1)))
-    (there (patients .before .before .number-then .ensures) (ap numberRead (patients .patients .given .1)))
-    (missing (c .before .before .number-then2 .ensures) (ap numberRead (c .enum-told3 .given .1))))
+    sym (part-missing (part-there (part-there (region-form _)
+    (a .before .before .word-at .ensures) (ap passed (a .a .given .1)))
+    (patients .before .before .number-then .ensures) (ap numberRead (patients .patients .given .1)))
+    (c .before .before .number-then2 .ensures) (ap numberRead (c .enum-told3 .given .1)))
 
 slice-aggregate-number-then-3 : tie.Need-slice-aggregate-number-then-3
 slice-aggregate-number-then-3 c = search needs
@@ -75,11 +78,11 @@ returns-4 c =
     let tables = c .before .before .before .before .before in
     let patients = tables .before .before .before .before .before in
     let a = patients .before .before .before .before .before in
-    sym (region-no-plans _
-    (there (a .before .before .word-at .ensures) (ap passed (a .a .given .1)))
-    (there (patients .before .before .number-then .ensures) (ap numberRead (patients .patients .given .1)))
-    (there (tables .before .before .number-then2 .ensures) (ap numberRead (tables .tables .given .1)))
-    (missing (c .before .before .number-then3 .ensures) (ap numberRead (c .enum-told4 .given .1))))
+    sym (part-missing (part-there (part-there (part-there (region-form _)
+    (a .before .before .word-at .ensures) (ap passed (a .a .given .1)))
+    (patients .before .before .number-then .ensures) (ap numberRead (patients .patients .given .1)))
+    (tables .before .before .number-then2 .ensures) (ap numberRead (tables .tables .given .1)))
+    (c .before .before .number-then3 .ensures) (ap numberRead (c .enum-told4 .given .1)))
 
 returns-5 : tie.Need-returns-5
 returns-5 c =
@@ -87,12 +90,12 @@ returns-5 c =
     let tables = plans .before .before .before .before .before in
     let patients = tables .before .before .before .before .before in
     let a = patients .before .before .before .before .before in
-    sym (region-longer _
-    (there (a .before .before .word-at .ensures) (ap passed (a .a .given .1)))
-    (there (patients .before .before .number-then .ensures) (ap numberRead (patients .patients .given .1)))
-    (there (tables .before .before .number-then2 .ensures) (ap numberRead (tables .tables .given .1)))
-    (there (plans .before .before .number-then3 .ensures) (ap numberRead (plans .plans .given .1)))
-    (more-left _ _ (c .if1 .taken)))
+    sym (line-longer (part-there (part-there (part-there (part-there (region-form _)
+    (a .before .before .word-at .ensures) (ap passed (a .a .given .1)))
+    (patients .before .before .number-then .ensures) (ap numberRead (patients .patients .given .1)))
+    (tables .before .before .number-then2 .ensures) (ap numberRead (tables .tables .given .1)))
+    (plans .before .before .number-then3 .ensures) (ap numberRead (plans .plans .given .1)))
+    (c .if1 .taken))
 
 returns-6 : tie.Need-returns-6
 returns-6 c =
@@ -100,12 +103,12 @@ returns-6 c =
     let tables = plans .before .before .before .before .before in
     let patients = tables .before .before .before .before .before in
     let a = patients .before .before .before .before .before in
-    sym (region-whole _
-    (there (a .before .before .word-at .ensures) (ap passed (a .a .given .1)))
-    (there (patients .before .before .number-then .ensures) (ap numberRead (patients .patients .given .1)))
-    (there (tables .before .before .number-then2 .ensures) (ap numberRead (tables .tables .given .1)))
-    (there (plans .before .before .number-then3 .ensures) (ap numberRead (plans .plans .given .1)))
-    (nothing-left _ _ (c .if1 .left)))
+    sym (line-whole (part-there (part-there (part-there (part-there (region-form _)
+    (a .before .before .word-at .ensures) (ap passed (a .a .given .1)))
+    (patients .before .before .number-then .ensures) (ap numberRead (patients .patients .given .1)))
+    (tables .before .before .number-then2 .ensures) (ap numberRead (tables .tables .given .1)))
+    (plans .before .before .number-then3 .ensures) (ap numberRead (plans .plans .given .1)))
+    (c .if1 .left))
 
 pub region-line-spec : {M : Type 1} → statement M
 region-line-spec =

@@ -1,7 +1,7 @@
 use mathlib.Core.Path.{ap}
 use borrow.Author.Tests.{not-true, not-false}
 use Rattle.scanner.specs.Answers.{there, missing, passed}
-use Rattle.line_reader.proofs.WholeLines.{more-left, nothing-left}
+use Rattle.scanner.specs.Parts.{more-left, nothing-left}
 use Rattle.table_reader.proofs.HeldTables.{entries-there, no-members, no-space, no-entries, no-end, more-behind, line-other, line-broken, line-table}
 use borrow.Author.Needs.{needs}
 use Rattle.table_reader.proofs.table_line.Statement.{statement}
