@@ -3,7 +3,7 @@ use held_region::FORBIDDEN;
 use held_region::Patient;
 use held_region::Region;
 use held_region::Table;
-use held_region::entries::entry_total;
+use entry_questions::entry_total;
 ghost use mathlib.Core.Path.{_≡_};
 ghost use Prim.Native.Nat.{_≤_, _<_};
 ghost use Rattle.definitions.specs.Syntax as Said;

@@ -1,9 +1,9 @@
 -- The first no of a held region is the first no of the file that it was read from. Assumes nothing.
-use mathlib.Core.Path.{_≡_, refl, ap, ap₂, _∙_}
+use mathlib.Core.Path.{_≡_, refl, sym, ap, ap₂, _∙_}
 use mathlib.Core.Bool.{and-eq-true-iff}
 use native.Mathlib.Omega.{arith}
-use borrow.Author.Tests.{ltb-true}
-use Rattle.definitions.specs.Basics.{ℕ, Bool, true, false, _&&_, [], _∷_, ltb, every}
+use borrow.Author.Tests.{ltb-true, not-true, not-false}
+use Rattle.definitions.specs.Basics.{ℕ, Bool, true, false, not, _&&_, [], _∷_, ltb, every}
 use Rattle.definitions.specs.Syntax as Said
 use Rattle.definitions.specs.Questions.{Asked, firstNo, entryCountsRight, entriesWithin}
 use Rattle.held_region.specs.declared.Region.{Region}
@@ -65,3 +65,10 @@ all-yes ((q, false) ∷ rest) numbered none-no = absurd (omega (arith, ltb-true 
 pub asked-yes : (r : Said.Region) → firstNo (askedOf r) ≡ 0 → AllYes (askedOf r)
 unfolding askedOf
 asked-yes r none-no = all-yes (askedOf r) refl none-no
+
+-- What a test tells of the question that was asked.
+pub answered-no : {answer question : Bool} → answer ≡ question → not answer ≡ true → question ≡ false
+answered-no {answer} e t = sym e ∙ not-true answer t
+
+pub answered-yes : {answer question : Bool} → answer ≡ question → not answer ≡ false → question ≡ true
+answered-yes {answer} e t = sym e ∙ not-false answer t

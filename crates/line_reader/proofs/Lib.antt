@@ -1,7 +1,2 @@
-pub mod Classes
-pub mod Words
-pub mod Numbers
-pub mod Steps
 pub mod LineEnds
 pub mod Sums
-pub mod Forms

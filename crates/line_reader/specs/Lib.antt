@@ -1,11 +1,4 @@
--- What the answers of the readers mean, and the laws that they rest on.
-pub mod Spans
-pub mod Classes
+-- What the lines of a file say, and the laws that their parsers rest on.
 pub mod Answers
-pub mod Words
-pub mod Numbers
-pub mod Separators
-pub mod Items
-pub mod Bounds
 pub mod Lines
 pub mod Forms

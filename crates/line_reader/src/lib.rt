@@ -1,168 +1,137 @@
-// The pieces of a region file's lines, read from any place of a slice. `lines` has the lines themselves.
-pub mod lines;
-
+// Where a line ends, the checksum of what stands before it, and what a line says.
+use scanner::Entry;
+use scanner::Number;
+use scanner::Optional;
+use scanner::Passed;
+use scanner::hyphen_or_number_at;
+use scanner::number_then;
+use scanner::word_at;
 ghost use mathlib.Core.Path.{_≡_};
-ghost use lib.ListN.{drop};
-ghost use Rattle.definitions.specs.Layout.{exactly, number, hyphenOrNumber};
-ghost use Rattle.line_reader.specs.Classes.{classOf, firstClass};
-ghost use Rattle.line_reader.specs.Answers.{ReadAt, passed, numberRead, entryRead, stepRead};
-ghost use Rattle.line_reader.specs.Separators.{separator};
-ghost use Rattle.line_reader.specs.Forms.{numberThen};
+ghost use lib.ListN.{take};
+ghost use Rattle.definitions.specs.Layout.{whole, regionLine, patientLine, endLine};
+ghost use Rattle.definitions.specs.Questions.{checksum};
+ghost use Rattle.line_reader.specs.Answers.{LineEnd, regionRead, patientRead, endRead};
 
-// The reader's class of a byte; a digit comes with its value.
-pub enum Class {
-    Digit(u32),
-    Open,
-    Close,
-    Space,
-    Hyphen,
-    Letter,
-    LineEnd,
+// The place after the line that begins at a place.
+pub fn line_end(s: &[u8], at: usize) -> usize
+    ensures { λ r. ⌜ LineEnd (now (s .entry)) at r ⌝ }
+{
+    let mut i = at;
+    while i < s.len() {
+        if s[i] == b'\n' {
+            return i + 1;
+        }
+        i += 1;
+    }
+    s.len()
+}
+
+const MODULUS: u64 = 65_521;
+
+// Where the running sum is reduced, so that one more byte fits.
+const FULL: u64 = 1 << 63;
+
+// The sum of all bytes, modulo 65,521.
+pub fn checksum_of(s: &[u8]) -> u32
+    ensures { λ r. ⌜ r ≡ checksum (now (s .entry)) ⌝ }
+{
+    let mut sum: u64 = 0;
+    let mut i = 0;
+    while i < s.len() {
+        if FULL <= sum {
+            sum %= MODULUS;
+        }
+        sum += s[i] as u64;
+        i += 1;
+    }
+    (sum % MODULUS) as u32
+}
+
+// The checksum of what stands before a place.
+pub fn checksum_before(s: &[u8], end: usize) -> u32
+    ensures { λ r. ⌜ r ≡ checksum (take end (now (s .entry))) ⌝ }
+{
+    if end < s.len() {
+        checksum_of(&s[..end])
+    } else {
+        checksum_of(s)
+    }
+}
+
+// The region line's counts of patients and tables, and the number of plans wanted.
+pub enum RegionLine {
+    Is(u32, u32, u32),
     Other,
 }
 
-pub fn class_of(b: u8) -> Class
-    ensures { λ r. ⌜ r ≡ classOf b ⌝ }
+pub fn region_line(line: &[u8]) -> RegionLine
+    ensures { λ r. ⌜ regionRead r ≡ whole regionLine (now (line .entry)) ⌝ }
 {
-    match b {
-        b'0'..=b'9' => Class::Digit((b - b'0') as u32),
-        b'(' => Class::Open,
-        b')' => Class::Close,
-        b' ' => Class::Space,
-        b'-' => Class::Hyphen,
-        b'a'..=b'z' => Class::Letter,
-        b'\n' => Class::LineEnd,
-        _ => Class::Other,
-    }
-}
-
-// The class of the byte at a place; behind the end there is none, and the class is Other.
-pub fn class_at(s: &[u8], at: usize) -> Class
-    ensures { λ r. ⌜ r ≡ firstClass (drop at (now (s .entry))) ⌝ }
-{
-    if at < s.len() {
-        class_of(s[at])
-    } else {
-        Class::Other
-    }
-}
-
-// The place after what was passed.
-pub enum Passed {
-    At(usize),
-    Nothing,
-}
-
-// Exactly this word.
-pub fn word_at(s: &[u8], at: usize, word: &[u8]) -> Passed
-    ensures { λ r. ⌜ ReadAt (exactly (now (word .entry))) (now (s .entry)) at (passed r) ⌝ }
-{
-    let mut i = at;
-    let mut k = 0;
-    while k < word.len() {
-        if i < s.len() {
-            if word[k] == s[i] {
-                i += 1;
-                k += 1;
-            } else {
-                return Passed::Nothing;
-            }
-        } else {
-            return Passed::Nothing;
-        }
-    }
-    Passed::At(i)
-}
-
-// The most digits that a number has.
-const DIGITS: usize = 7;
-
-// A number and the place after it.
-pub enum Number {
-    Value(u32, usize),
-    Nothing,
-}
-
-// A number of at most DIGITS digits with no leading zero. A digit too many ends the reading.
-pub fn number_at(s: &[u8], at: usize) -> Number
-    ensures { λ r. ⌜ ReadAt number (now (s .entry)) at (numberRead r) ⌝ }
-{
-    let mut value: u32 = 0;
-    let mut i = at;
-    loop {
-        match class_at(s, i) {
-            Class::Digit(d) => {
-                if i - at == DIGITS {
-                    return Number::Nothing;
-                }
-                if value == 0 {
-                    if i != at {
-                        return Number::Nothing;
-                    }
-                }
-                value = value * 10 + d;
-                i += 1;
-            }
-            _ => {
-                if i == at {
-                    return Number::Nothing;
-                }
-                return Number::Value(value, i);
-            }
-        }
-    }
-}
-
-// A number with exactly this word after it, and the place after that.
-pub fn number_then(s: &[u8], at: usize, word: &[u8]) -> Number
-    ensures { λ r. ⌜ ReadAt (numberThen (now (word .entry))) (now (s .entry)) at (numberRead r) ⌝ }
-{
-    let Number::Value(value, end) = number_at(s, at) else {
-        return Number::Nothing;
+    let Passed::At(a) = word_at(line, 0, b"(region ") else {
+        return RegionLine::Other;
     };
-    let Passed::At(next) = word_at(s, end, word) else {
-        return Number::Nothing;
+    let Number::Value(patients, b) = number_then(line, a, b" ") else {
+        return RegionLine::Other;
     };
-    Number::Value(value, next)
-}
-
-// A hyphen, which says that there is none, or a number.
-pub enum Optional {
-    Hyphen,
-    Number(u32),
-}
-
-// A hyphen or a number, and the place after it.
-pub enum Entry {
-    Is(Optional, usize),
-    Nothing,
-}
-
-pub fn hyphen_or_number_at(s: &[u8], at: usize) -> Entry
-    ensures { λ r. ⌜ ReadAt hyphenOrNumber (now (s .entry)) at (entryRead r) ⌝ }
-{
-    match class_at(s, at) {
-        Class::Hyphen => Entry::Is(Optional::Hyphen, at + 1),
-        _ => match number_at(s, at) {
-            Number::Value(value, next) => Entry::Is(Optional::Number(value), next),
-            Number::Nothing => Entry::Nothing,
-        },
+    let Number::Value(tables, c) = number_then(line, b, b" ") else {
+        return RegionLine::Other;
+    };
+    let Number::Value(plans, end) = number_then(line, c, b")\n") else {
+        return RegionLine::Other;
+    };
+    if end < line.len() {
+        return RegionLine::Other;
     }
+    RegionLine::Is(patients, tables, plans)
 }
 
-// What stands after an item: a space before the next one, or the bracket that closes the list.
-pub enum ItemStep {
-    Next(usize),
-    Closed(usize),
-    Nothing,
+// A patient's clinic, count of beds and parent, which is none at a root.
+pub enum PatientLine {
+    Is(u32, u32, Optional),
+    Other,
 }
 
-pub fn item_step(s: &[u8], at: usize) -> ItemStep
-    ensures { λ r. ⌜ ReadAt separator (now (s .entry)) at (stepRead r) ⌝ }
+pub fn patient_line(line: &[u8]) -> PatientLine
+    ensures { λ r. ⌜ patientRead r ≡ whole patientLine (now (line .entry)) ⌝ }
 {
-    match class_at(s, at) {
-        Class::Space => ItemStep::Next(at + 1),
-        Class::Close => ItemStep::Closed(at + 1),
-        _ => ItemStep::Nothing,
+    let Passed::At(a) = word_at(line, 0, b"(patient ") else {
+        return PatientLine::Other;
+    };
+    let Number::Value(clinic, b) = number_then(line, a, b" ") else {
+        return PatientLine::Other;
+    };
+    let Number::Value(beds, c) = number_then(line, b, b" ") else {
+        return PatientLine::Other;
+    };
+    let Entry::Is(parent, d) = hyphen_or_number_at(line, c) else {
+        return PatientLine::Other;
+    };
+    let Passed::At(end) = word_at(line, d, b")\n") else {
+        return PatientLine::Other;
+    };
+    if end < line.len() {
+        return PatientLine::Other;
     }
+    PatientLine::Is(clinic, beds, parent)
+}
+
+// The end line's sum.
+pub enum EndLine {
+    Is(u32),
+    Other,
+}
+
+pub fn end_line(line: &[u8]) -> EndLine
+    ensures { λ r. ⌜ endRead r ≡ whole endLine (now (line .entry)) ⌝ }
+{
+    let Passed::At(a) = word_at(line, 0, b"(end ") else {
+        return EndLine::Other;
+    };
+    let Number::Value(sum, end) = number_then(line, a, b")\n") else {
+        return EndLine::Other;
+    };
+    if end < line.len() {
+        return EndLine::Other;
+    }
+    EndLine::Is(sum)
 }

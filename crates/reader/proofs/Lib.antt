@@ -1,4 +1,1 @@
-pub mod HeldLines
-pub mod Layouts
 pub mod Loads
-pub mod HeldTables

@@ -25,9 +25,9 @@ use Rattle.held_region.specs.declared.Refusal.the-variants.{TooLong, Layout, Co
 use Rattle.held_region.specs.declared.Judged.{Judged}
 use Rattle.held_region.specs.declared.Judged.the-variants.{Fine, Refused}
 use Rattle.held_region.specs.Refusals.{questionOf, numberOf, askedOf, unmarked, ReadFrom}
-use Rattle.reader.specs.declared.layout.Laid.{Laid}
+use Rattle.layout.specs.declared.Laid.{Laid}
 use Rattle.reader.specs.declared.Loaded.{Loaded}
-use Rattle.reader.specs.LaidOut.{LaidThere, LaidOut}
+use Rattle.layout.specs.LaidOut.{LaidThere, LaidOut}
 use Rattle.reader.specs.Loading.{LoadedFrom, refusedWith, regionHeld}
 
 -- ---- the first four questions

@@ -8,7 +8,7 @@ use Rattle.held_region.specs.declared.Judged.the-variants.{Fine, Refused}
 use Rattle.held_region.specs.Held.{Holds, blankRegion}
 use Rattle.held_region.specs.Refusals.{numberOf}
 use Rattle.reader.specs.declared.Loaded.{Loaded}
-use Rattle.reader.specs.declared.layout.Laid.{Laid}
+use Rattle.layout.specs.declared.Laid.{Laid}
 
 -- Check's number for the file; and where that is 0, a region that holds what the file says.
 pub record LoadedFrom (s : List ℕ) (r : Loaded) : Type 0 where

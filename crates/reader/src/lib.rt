@@ -1,8 +1,4 @@
 // From the bytes of a file to the held region: questions 1 to 4, then those that the held region answers.
-pub mod layout;
-pub mod patients;
-pub mod tables;
-
 ghost use mathlib.Core.Path.{_≡_};
 ghost use Rattle.reader.specs.Loading.{LoadedFrom, refusedWith, regionHeld};
 use held_region::FORBIDDEN;
@@ -10,10 +6,10 @@ use held_region::Judged;
 use held_region::Refusal;
 use held_region::Region;
 use held_region::blank;
-use held_region::judge;
 use layout::Laid;
 use layout::lay_out;
-use line_reader::lines::checksum_before;
+use line_reader::checksum_before;
+use questions::judge;
 
 // Check's answer; where the file is accepted, what it says.
 pub struct Loaded {

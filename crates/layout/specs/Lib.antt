@@ -1,0 +1,4 @@
+pub mod Taken
+pub mod Reading
+pub mod TableLines
+pub mod LaidOut

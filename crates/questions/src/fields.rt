@@ -1,0 +1,121 @@
+// Questions 5 to 7, asked of a held region.
+use held_region::Parent;
+use held_region::Patient;
+use held_region::Region;
+use held_region::Table;
+use held_region::limits::Field;
+use held_region::limits::within;
+ghost use mathlib.Core.Path.{_≡_};
+ghost use Prim.Native.Nat.{_≤_};
+ghost use Rattle.definitions.specs.Basics.{_&&_};
+ghost use Rattle.definitions.specs.Questions.{countsWithin, patientsWithin, parentsSmaller, membersRight};
+ghost use Rattle.held_region.specs.Held.{parentOf, patientOf};
+ghost use Rattle.held_region.specs.Members.{membersFit, risesFrom};
+ghost use Rattle.held_region.specs.Outline.{outline, membersOf, Fits, patientFits, parentFits};
+
+// 5. Are V, T and m within their limits?
+pub fn counts_fit(region: Region) -> bool
+    ensures { λ a. ⌜ a ≡ countsWithin (outline region) ⌝ }
+{
+    within(Field::PatientCount, region.v)
+        && (within(Field::TableCount, region.t) && within(Field::PlansWanted, region.m))
+}
+
+fn patient_fits(patient: Patient) -> bool
+    ensures { λ a. ⌜ a ≡ patientFits (patientOf patient) ⌝ }
+{
+    within(Field::Clinic, patient.clinic as usize) && within(Field::BedCount, patient.beds as usize)
+}
+
+// 6, of clinics and bed counts: is each within its limits?
+pub fn patients_fit(region: Region) -> bool
+    requires { ⌜ Fits region ⌝ }
+    ensures { λ a. ⌜ a ≡ patientsWithin (outline region) ⌝ }
+{
+    let mut s = 0;
+    while s < region.v {
+        let patient = region.patients[s];
+        if !patient_fits(patient) {
+            return false;
+        }
+        s += 1;
+    }
+    true
+}
+
+fn parent_smaller(parent: Parent, s: usize) -> bool
+    ensures { λ a. ⌜ a ≡ parentFits (parentOf parent) s ⌝ }
+{
+    match parent {
+        Parent::Root => true,
+        Parent::Of(p) => (p as usize) < s,
+    }
+}
+
+// 6, of parents: has each a smaller number than the patient's own?
+pub fn parents_smaller(region: Region) -> bool
+    requires { ⌜ Fits region ⌝ }
+    ensures { λ a. ⌜ a ≡ parentsSmaller (outline region) ⌝ }
+{
+    let mut s = 0;
+    while s < region.v {
+        let patient = region.patients[s];
+        let parent = patient.parent;
+        if !parent_smaller(parent, s) {
+            return false;
+        }
+        s += 1;
+    }
+    true
+}
+
+// 6. Are the patients right, and their parents?
+pub fn patients_right(region: Region) -> bool
+    requires { ⌜ Fits region ⌝ }
+    ensures { λ a. ⌜ a ≡ (patientsWithin (outline region) && parentsSmaller (outline region)) ⌝ }
+{
+    patients_fit(region) && parents_smaller(region)
+}
+
+// Are a table's members below v, each above the one before it?
+fn members_rise(table: Table, v: usize) -> bool
+    requires { ⌜ table .members ≤ 4 ⌝ }
+    ensures { λ a. ⌜ a ≡ risesFrom v 0 (membersOf table) ⌝ }
+{
+    let mut least = 0;
+    let mut i = 0;
+    while i < table.members {
+        let s = table.first[i] as usize;
+        if v <= s {
+            return false;
+        }
+        if s < least {
+            return false;
+        }
+        least = s + 1;
+        i += 1;
+    }
+    true
+}
+
+fn members_fit(table: Table, v: usize) -> bool
+    ensures { λ a. ⌜ a ≡ membersFit v (membersOf table) ⌝ }
+{
+    within(Field::MemberCount, table.members) && members_rise(table, v)
+}
+
+// 7. Has each table a right number of members, all below V, in strictly rising order?
+pub fn members_right(region: Region) -> bool
+    requires { ⌜ Fits region ⌝ }
+    ensures { λ a. ⌜ a ≡ membersRight (outline region) ⌝ }
+{
+    let mut i = 0;
+    while i < region.t {
+        let table = region.tables[i];
+        if !members_fit(table, region.v) {
+            return false;
+        }
+        i += 1;
+    }
+    true
+}

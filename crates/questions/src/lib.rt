@@ -1,0 +1,54 @@
+// Questions 5 to 10, asked of a held region in their order.
+pub mod fields;
+
+use entry_questions::entries_fit;
+use entry_questions::entry_counts_right;
+use entry_questions::entry_total;
+use fields::counts_fit;
+use fields::members_right;
+use fields::patients_right;
+use held_region::Judged;
+use held_region::Refusal;
+use held_region::Region;
+use region_sets::members_related;
+ghost use mathlib.Core.Path.{_≡_};
+ghost use Rattle.definitions.specs.Basics.{true};
+ghost use Rattle.definitions.specs.Syntax as Said;
+ghost use Rattle.definitions.specs.Questions.{firstNo, parentsSmaller};
+ghost use Rattle.held_region.specs.Outline.{outline};
+ghost use Rattle.held_region.specs.Sound.{Sound};
+ghost use Rattle.held_region.specs.Refusals.{numberOf, askedOf, lastAskedOfHeld, ReadFrom};
+
+// Questions 8 to 10, which rely on the ones before them.
+fn judge_entries(region: Region) -> Judged
+    requires { ⌜ (Sound region) × (parentsSmaller (outline region) ≡ true) ⌝ }
+    ensures { λ a. ⌜ numberOf a ≡ firstNo (lastAskedOfHeld region) ⌝ }
+{
+    if !entry_counts_right(region) {
+        return Judged::Refused(Refusal::EntryCounts);
+    }
+    let total = entry_total(region);
+    if !entries_fit(&region.entries, total) {
+        return Judged::Refused(Refusal::Entries);
+    }
+    if !members_related(region) {
+        return Judged::Refused(Refusal::Ancestors);
+    }
+    Judged::Fine
+}
+
+// Questions 5 to 10 in their order: the first no is the answer.
+pub fn judge(region: Region) -> Judged
+    ensures { λ a. ⌜ ((r : Said.Region) → ReadFrom region r → numberOf a ≡ firstNo (askedOf r)) ⌝ }
+{
+    if !counts_fit(region) {
+        return Judged::Refused(Refusal::Limits);
+    }
+    if !patients_right(region) {
+        return Judged::Refused(Refusal::Patients);
+    }
+    if !members_right(region) {
+        return Judged::Refused(Refusal::Members);
+    }
+    judge_entries(region)
+}

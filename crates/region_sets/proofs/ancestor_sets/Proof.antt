@@ -1,0 +1,63 @@
+use borrow.Author.Needs.{needs}
+use mathlib.Core.Path.{_≡_, refl}
+use Prim.Native.Nat.{_-_}
+use native.Mathlib.Omega.{arith}
+use lib.ListN.{length, length-set}
+use Rattle.held_region.specs.Related.{AncestorsHeld, parent-smaller, ancestors-more}
+use Rattle.region_sets.proofs.ancestor_sets.Statement.{statement}
+use Rattle.region_sets.proofs.ancestor_sets.Tie as tie
+
+abbrev Inv-loop : tie.InvT-loop
+Inv-loop region sets₀ child₀ sets child = (length sets ≡ 32) × AncestorsHeld region child sets
+
+abbrev μ-loop : tie.MeasureT-loop
+μ-loop region sets₀ child₀ sets child = region .v - child
+
+loop-holds : tie.Need-loop-holds Inv-loop μ-loop
+loop-holds c = (refl, λ s l q. absurd (omega arith))
+
+mul-patient : tie.Need-mul-patient Inv-loop μ-loop
+mul-patient c = search needs
+
+element-copy-out-patient : tie.Need-element-copy-out-patient Inv-loop μ-loop
+element-copy-out-patient c = search needs
+
+above-requires : tie.Need-above-requires Inv-loop μ-loop
+above-requires c κs = λ p e. omega (arith, parent-smaller (c .before .before .before .args .t1) (c .before .before .before .pre .1) _ (c .before .loop-test .taken) p e)
+
+mul-sets : tie.Need-mul-sets Inv-loop μ-loop
+mul-sets c = search needs
+
+array-set-from-sets : tie.Need-array-set-from-sets Inv-loop μ-loop
+array-set-from-sets c = search needs
+
+add-child : tie.Need-add-child Inv-loop μ-loop
+add-child c = search needs
+
+loop-less : tie.Need-loop-less Inv-loop μ-loop
+loop-less c = search needs
+
+loop-again : tie.Need-loop-again Inv-loop μ-loop
+loop-again c =
+    let inv = c .before .before .before .loop .inv in
+    (simp length-set (inv .0), ancestors-more (c .before .before .before .before .args .t1) (c .before .before .before .before .pre .1) _ (c .before .before .loop-test .taken) _ _ (omega arith) (inv .1) (c .above .ensures))
+
+returns : tie.Need-returns Inv-loop μ-loop
+returns c = λ j l. c .before .loop .inv .1 j (omega arith)
+
+pub ancestor-sets-spec : {M : Type 1} → statement M
+ancestor-sets-spec =
+    tie.close
+    (tie.spec
+    Inv-loop
+    μ-loop
+    loop-holds
+    mul-patient
+    element-copy-out-patient
+    above-requires
+    mul-sets
+    array-set-from-sets
+    add-child
+    loop-less
+    loop-again
+    returns)

@@ -1,0 +1,5 @@
+pub mod Classes
+pub mod Words
+pub mod Numbers
+pub mod Steps
+pub mod Forms

@@ -1,0 +1,167 @@
+// The pieces of a region file's lines, read from any place of a slice.
+
+ghost use mathlib.Core.Path.{_≡_};
+ghost use lib.ListN.{drop};
+ghost use Rattle.definitions.specs.Layout.{exactly, number, hyphenOrNumber};
+ghost use Rattle.scanner.specs.Classes.{classOf, firstClass};
+ghost use Rattle.scanner.specs.Answers.{ReadAt, passed, numberRead, entryRead, stepRead};
+ghost use Rattle.scanner.specs.Separators.{separator};
+ghost use Rattle.scanner.specs.Forms.{numberThen};
+
+// The reader's class of a byte; a digit comes with its value.
+pub enum Class {
+    Digit(u32),
+    Open,
+    Close,
+    Space,
+    Hyphen,
+    Letter,
+    LineEnd,
+    Other,
+}
+
+pub fn class_of(b: u8) -> Class
+    ensures { λ r. ⌜ r ≡ classOf b ⌝ }
+{
+    match b {
+        b'0'..=b'9' => Class::Digit((b - b'0') as u32),
+        b'(' => Class::Open,
+        b')' => Class::Close,
+        b' ' => Class::Space,
+        b'-' => Class::Hyphen,
+        b'a'..=b'z' => Class::Letter,
+        b'\n' => Class::LineEnd,
+        _ => Class::Other,
+    }
+}
+
+// The class of the byte at a place; behind the end there is none, and the class is Other.
+pub fn class_at(s: &[u8], at: usize) -> Class
+    ensures { λ r. ⌜ r ≡ firstClass (drop at (now (s .entry))) ⌝ }
+{
+    if at < s.len() {
+        class_of(s[at])
+    } else {
+        Class::Other
+    }
+}
+
+// The place after what was passed.
+pub enum Passed {
+    At(usize),
+    Nothing,
+}
+
+// Exactly this word.
+pub fn word_at(s: &[u8], at: usize, word: &[u8]) -> Passed
+    ensures { λ r. ⌜ ReadAt (exactly (now (word .entry))) (now (s .entry)) at (passed r) ⌝ }
+{
+    let mut i = at;
+    let mut k = 0;
+    while k < word.len() {
+        if i < s.len() {
+            if word[k] == s[i] {
+                i += 1;
+                k += 1;
+            } else {
+                return Passed::Nothing;
+            }
+        } else {
+            return Passed::Nothing;
+        }
+    }
+    Passed::At(i)
+}
+
+// The most digits that a number has.
+const DIGITS: usize = 7;
+
+// A number and the place after it.
+pub enum Number {
+    Value(u32, usize),
+    Nothing,
+}
+
+// A number of at most DIGITS digits with no leading zero. A digit too many ends the reading.
+pub fn number_at(s: &[u8], at: usize) -> Number
+    ensures { λ r. ⌜ ReadAt number (now (s .entry)) at (numberRead r) ⌝ }
+{
+    let mut value: u32 = 0;
+    let mut i = at;
+    loop {
+        match class_at(s, i) {
+            Class::Digit(d) => {
+                if i - at == DIGITS {
+                    return Number::Nothing;
+                }
+                if value == 0 {
+                    if i != at {
+                        return Number::Nothing;
+                    }
+                }
+                value = value * 10 + d;
+                i += 1;
+            }
+            _ => {
+                if i == at {
+                    return Number::Nothing;
+                }
+                return Number::Value(value, i);
+            }
+        }
+    }
+}
+
+// A number with exactly this word after it, and the place after that.
+pub fn number_then(s: &[u8], at: usize, word: &[u8]) -> Number
+    ensures { λ r. ⌜ ReadAt (numberThen (now (word .entry))) (now (s .entry)) at (numberRead r) ⌝ }
+{
+    let Number::Value(value, end) = number_at(s, at) else {
+        return Number::Nothing;
+    };
+    let Passed::At(next) = word_at(s, end, word) else {
+        return Number::Nothing;
+    };
+    Number::Value(value, next)
+}
+
+// A hyphen, which says that there is none, or a number.
+pub enum Optional {
+    Hyphen,
+    Number(u32),
+}
+
+// A hyphen or a number, and the place after it.
+pub enum Entry {
+    Is(Optional, usize),
+    Nothing,
+}
+
+pub fn hyphen_or_number_at(s: &[u8], at: usize) -> Entry
+    ensures { λ r. ⌜ ReadAt hyphenOrNumber (now (s .entry)) at (entryRead r) ⌝ }
+{
+    match class_at(s, at) {
+        Class::Hyphen => Entry::Is(Optional::Hyphen, at + 1),
+        _ => match number_at(s, at) {
+            Number::Value(value, next) => Entry::Is(Optional::Number(value), next),
+            Number::Nothing => Entry::Nothing,
+        },
+    }
+}
+
+// What stands after an item: a space before the next one, or the bracket that closes the list.
+pub enum ItemStep {
+    Next(usize),
+    Closed(usize),
+    Nothing,
+}
+
+pub fn item_step(s: &[u8], at: usize) -> ItemStep
+    ensures { λ r. ⌜ ReadAt separator (now (s .entry)) at (stepRead r) ⌝ }
+{
+    match class_at(s, at) {
+        Class::Space => ItemStep::Next(at + 1),
+        Class::Close => ItemStep::Closed(at + 1),
+        _ => ItemStep::Nothing,
+    }
+}

@@ -1,0 +1,4 @@
+pub mod TakenItems
+pub mod Stores
+pub mod FirstHeld
+pub mod TableReading
