@@ -1,3 +1,4 @@
 pub mod Answers
 pub mod Later
 pub mod Loaded
+pub mod Prices

@@ -1,7 +1,7 @@
 // The entries over the region of an accepted file.
 ghost use mathlib.Core.Path.{_≡_};
 ghost use Rattle.buckets.specs.Terms.{Planned};
-ghost use Rattle.planner.specs.Loaded.{RegionPriced};
+ghost use Rattle.planner.specs.Prices.{RegionPriced};
 use crate::Priced;
 use buckets::prepare;
 use held_region::Region;

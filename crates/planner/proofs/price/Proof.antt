@@ -6,7 +6,8 @@ use Rattle.definitions.specs.Questions.{regionOf}
 use Rattle.definitions.specs.Outcomes.{priceOutcome}
 use Rattle.planner.specs.Answers.{checkedNumber, notAllowed}
 use Rattle.planner.specs.Later.{refusal-number}
-use Rattle.planner.specs.Loaded.{answered, accepted-fine, planned-fine, price-accepted, price-refused}
+use Rattle.planner.specs.Loaded.{answered, accepted-fine, planned-fine}
+use Rattle.planner.specs.Prices.{price-accepted, price-refused}
 use Rattle.planner.proofs.price.Statement.{statement}
 use Rattle.planner.proofs.price.Tie as tie
 
