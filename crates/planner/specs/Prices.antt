@@ -44,7 +44,7 @@ module _ (file : List ℕ) (plan : Plan) (longEnough : Bool) where
   unfolding priceFound askedByPrice
   price-accepted e = ap (λ n. priced n (total (regionOf file) plan)) (after-check file _ e)
 
-  pub price-refused : (q : ℕ) → checkOf file ≡ suc q → priceFound file plan longEnough ≡ notAllowed (checkOf file)
+  pub price-not-accepted : (q : ℕ) → checkOf file ≡ suc q → priceFound file plan longEnough ≡ notAllowed (checkOf file)
   unfolding priceFound askedByPrice
-  price-refused q e =
+  price-not-accepted q e =
       ap (λ n. priced n (total (regionOf file) plan)) (refused-before file _ q e ∙ e) ∙ ap notAllowed (sym e)
