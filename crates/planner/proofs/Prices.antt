@@ -18,7 +18,7 @@ use Rattle.pricing.specs.Pricing.{costIn, AsksAll, GivesAll, PlanAsked}
 use Rattle.planner.specs.declared.Priced.{Priced}
 use Rattle.planner.specs.declared.Priced.the-variants.{Misfit}
 use Rattle.planner.specs.Answers.{pricedOutcome}
-use Rattle.planner.specs.Loaded.{RegionPriced, fitting}
+use Rattle.planner.specs.Prices.{RegionPriced, fitting}
 
 pub few-patients : (h : Region) → Planned h → h .v ≤ 32
 few-patients h pre = fits-told h (pre .region) (pre .holds) (pre .answered .counted) (pre .answered .countsFit) .patients

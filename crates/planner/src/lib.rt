@@ -103,6 +103,7 @@ pub struct PriceValues {
     pub total: u64,
 }
 
+// A refused plan and a forbidden one have no total.
 fn not_allowed(number: u64) -> PriceValues
     ensures { λ r. ⌜ valuesOf r ≡ notAllowed number ⌝ }
 {

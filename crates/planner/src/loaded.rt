@@ -2,7 +2,7 @@
 ghost use mathlib.Core.Path.{_≡_};
 ghost use Rattle.buckets.specs.Terms.{Planned};
 ghost use Prim.Native.Nat.{_≤_};
-ghost use Rattle.planner.specs.Loaded.{RegionPriced};
+ghost use Rattle.planner.specs.Prices.{RegionPriced};
 ghost use Rattle.planner.specs.Lists.{longEnough, RegionListed};
 use crate::Listed;
 use crate::Priced;

@@ -9,7 +9,7 @@ use Rattle.definitions.specs.Questions.{checkOf}
 use Rattle.definitions.specs.Outcomes.{PriceOutcome, written, priceFound, priceOutcome}
 use Rattle.definitions.specs.Boundary.{bytesOf, resultAfter, PriceCall, priceCallOf, priceCall}
 use Rattle.planner.specs.Answers.{notAllowed}
-use Rattle.planner.specs.Loaded.{price-accepted, price-refused}
+use Rattle.planner.specs.Prices.{price-accepted, price-not-accepted}
 
 -- Without room for the result, question 12 is answered no just after check's.
 module _ (file : List ℕ) (plan : Plan) where
@@ -19,7 +19,7 @@ module _ (file : List ℕ) (plan : Plan) where
   pub refused-first : (n : ℕ) → n ≡ checkOf file → (n ≡ 0 → ⊥) → notAllowed n ≡ priceFound file plan false
   refused-first n e h =
       let some : n ≡ suc (n - 1) = omega arith in
-      ap notAllowed e ∙ sym (price-refused file plan false (n - 1) (sym e ∙ some))
+      ap notAllowed e ∙ sym (price-not-accepted file plan false (n - 1) (sym e ∙ some))
 
 module _ (file : List ℕ) (plan : Plan) (result : List ℕ) where
   pub price-without-room : (n : ℕ) → length result < 16 → notAllowed n ≡ priceFound file plan false → record { number = n; result = result } ≡ priceCall file plan result

@@ -6,7 +6,8 @@ use Rattle.definitions.specs.Questions.{regionOf}
 use Rattle.definitions.specs.Outcomes.{priceOutcome}
 use Rattle.planner.specs.Answers.{checkedNumber, notAllowed}
 use Rattle.planner.specs.Later.{refusal-number}
-use Rattle.planner.specs.Loaded.{answered, accepted-fine, planned-fine, price-accepted, price-refused}
+use Rattle.planner.specs.Loaded.{answered, accepted-fine, planned-fine}
+use Rattle.planner.specs.Prices.{price-accepted, price-not-accepted}
 use Rattle.planner.proofs.price.Statement.{statement}
 use Rattle.planner.proofs.price.Tie as tie
 
@@ -30,7 +31,7 @@ returns c =
     let read = c .before .before .before in
     let a = read .before .before .before .args in
     let number = ap checkedNumber (sym (c .before .answer .given .1)) ∙ read .load .ensures .number in
-    ap notAllowed number ∙ sym (price-refused (now (a .file)) (now (a .plan)) true _ (sym number ∙ refusal-number (c .before .answer .given .0 .0)))
+    ap notAllowed number ∙ sym (price-not-accepted (now (a .file)) (now (a .plan)) true _ (sym number ∙ refusal-number (c .before .answer .given .0 .0)))
 
 returns-2 : tie.Need-returns-2
 unfolding priceOutcome

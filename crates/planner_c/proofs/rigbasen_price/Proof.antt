@@ -1,5 +1,6 @@
 use borrow.Author.Needs.{needs}
 use mathlib.Core.Path.{_∙_}
+use native.Mathlib.Omega.{arith}
 use denote.Ref.{now}
 use Rattle.planner.specs.Answers.{valuesOf}
 use Rattle.planner_c.proofs.Calls.{price-without-room, price-stored}
@@ -12,7 +13,7 @@ number-without-room-requires c κs = search needs
 returns : tie.Need-returns
 returns c =
     let a = c .before .before .before .before .before .args in
-    price-without-room (now (a .file)) (now (a .plan)) (now (a .result)) _ (c .before .if1 .taken) (c .number-without-room .ensures (now (a .plan)))
+    price-without-room (now (a .file)) (now (a .plan)) (now (a .result)) _ (omega (arith, c .before .if1 .taken)) (c .number-without-room .ensures (now (a .plan)))
 
 price-requires : tie.Need-price-requires
 price-requires c κs = search needs
@@ -31,7 +32,7 @@ returns-2 c =
     let stored = c .before .before in
     let valued = stored .before .before in
     let a = valued .before .before .before .before .before .before .args in
-    price-stored (now (a .file)) (now (a .plan)) (now (a .result)) (valuesOf (valued .price-values .result)) _ (valued .before .before .if1 .left)
+    price-stored (now (a .file)) (now (a .plan)) (now (a .result)) (valuesOf (valued .price-values .result)) _ (omega (arith, valued .before .before .if1 .left))
     (valued .price-values .ensures ∙ valued .before .price .ensures) (stored .store-price .ensures)
 
 pub rigbasen-price-spec : {M : Type 1} → statement M

@@ -1,0 +1,50 @@
+-- What price gives, of a held region and of a file.
+use mathlib.Core.Path.{sym, ap, _∙_}
+use native.Mathlib.Omega.{arith}
+use lib.Seq.{getD-take}
+use borrow.Author.Tests.{eqb-true, ltb-true}
+use Rattle.definitions.specs.Basics.{ℕ, suc, _<_, _≡_, Bool, true, List, [], _∷_, length, take, eqb}
+use Rattle.definitions.specs.Syntax as Said
+use Rattle.definitions.specs.Plans.{Plan, bedOf, total}
+use Rattle.definitions.specs.Questions.{firstNo, regionOf, checkOf, countsTrue, planFits, askedByPrice}
+use Rattle.definitions.specs.Outcomes.{PriceOutcome, priced, priceFound}
+use Rattle.theorems.specs.Tests.{both}
+use Rattle.held_region.specs.declared.Region.{Region}
+use Rattle.held_region.specs.Held.{Holds}
+use Rattle.held_region.specs.Places.{every-place}
+use Rattle.buckets.specs.Terms.{Answered, Fitting}
+use Rattle.planner.specs.declared.Priced.{Priced}
+use Rattle.planner.specs.Answers.{notAllowed, pricedOutcome}
+use Rattle.planner.specs.Later.{after-check, refused-before}
+
+-- What price gives once questions 1 to 10 are answered yes.
+abbrev pub regionPrice : Said.Region → Plan → PriceOutcome
+regionPrice r plan = priced (firstNo ((14, planFits r plan) ∷ [])) (total r plan)
+
+-- The same of the file that a held region holds.
+abbrev pub RegionPriced : Region → Plan → Priced → Type 0
+RegionPriced h plan answer = (r : Said.Region) → Holds h r → Answered r → pricedOutcome answer ≡ regionPrice r plan
+
+-- A plan that fits, as the first beds of a longer list.
+pub fitting : (r : Said.Region) (plan beds : List ℕ) → countsTrue r ≡ true → planFits r plan ≡ true → take (length plan) beds ≡ plan → Fitting r beds
+unfolding countsTrue planFits
+fitting r plan beds counted fits same s h =
+    let (long, each) = both (eqb (length plan) (r .patientCount)) fits in
+    let lines = eqb-true (length (r .patients)) (r .patientCount) (both (eqb (length (r .patients)) (r .patientCount)) counted .0) in
+    let all = eqb-true (length plan) (r .patientCount) long in
+    let inside : s < length plan = omega arith in
+    let bed : bedOf plan s ≡ bedOf beds s = ap (λ l. bedOf l s) (sym same) ∙ getD-take (length plan) beds s 0 inside in
+    let below = ltb-true (bedOf plan s) _ (every-place _ (length (r .patients)) s each h) in
+    omega (arith, bed, below)
+
+-- What price gives once check's questions are answered; the answer to question 12 is handed in.
+module _ (file : List ℕ) (plan : Plan) (longEnough : Bool) where
+  pub price-accepted : checkOf file ≡ 0
+      → priceFound file plan longEnough ≡ priced (firstNo ((12, longEnough) ∷ (14, planFits (regionOf file) plan) ∷ [])) (total (regionOf file) plan)
+  unfolding priceFound askedByPrice
+  price-accepted e = ap (λ n. priced n (total (regionOf file) plan)) (after-check file _ e)
+
+  pub price-not-accepted : (q : ℕ) → checkOf file ≡ suc q → priceFound file plan longEnough ≡ notAllowed (checkOf file)
+  unfolding priceFound askedByPrice
+  price-not-accepted q e =
+      ap (λ n. priced n (total (regionOf file) plan)) (refused-before file _ q e ∙ e) ∙ ap notAllowed (sym e)
