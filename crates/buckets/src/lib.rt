@@ -1,9 +1,9 @@
 // The tables by their highest members, in a form in which a walk finds an entry at once.
+use entry_questions::entry_total;
 use held_region::FORBIDDEN;
 use held_region::Patient;
 use held_region::Region;
 use held_region::Table;
-use entry_questions::entry_total;
 ghost use mathlib.Core.Path.{_≡_};
 ghost use Prim.Native.Nat.{_≤_, _<_};
 ghost use Rattle.definitions.specs.Syntax as Said;

@@ -1,19 +1,19 @@
+use borrow.Author.Tests.{lt-ltb, le-ltb}
+use Rattle.planner_c.specs.Room.{costRoom}
 use Rattle.planner_c.proofs.cost_room.Statement.{statement}
 use Rattle.planner_c.proofs.cost_room.Tie as tie
-use Rattle.planner_c.proofs.cost_room.Reads as reads
-use Rattle.planner_c.proofs.cost_room.Lts as lts
 
--- src/lib.rt:33:9
 returns : tie.Need-returns
-returns c = ?
+unfolding costRoom
+returns c = simp (lt-ltb _ _ (c .if1 .taken))
 
--- src/lib.rt:29:1
 returns-2 : tie.Need-returns-2
-returns-2 c = ?
+unfolding costRoom
+returns-2 c = simp (le-ltb _ _ (c .before .if1 .left), lt-ltb _ _ (c .if2 .taken))
 
--- src/lib.rt:29:1
 returns-3 : tie.Need-returns-3
-returns-3 c = ?
+unfolding costRoom
+returns-3 c = simp (le-ltb _ _ (c .before .if1 .left), le-ltb _ _ (c .if2 .left))
 
 pub cost-room-spec : {M : Type 1} → statement M
 cost-room-spec = tie.close (tie.spec returns returns-2 returns-3)

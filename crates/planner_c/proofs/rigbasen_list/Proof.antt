@@ -1,70 +1,67 @@
 use borrow.Author.Needs.{needs}
+use mathlib.Core.Path.{refl, sym, ap, _∙_}
+use Prim.Native.Nat.{ℕ, _-_}
+use native.Mathlib.Omega.{arith}
+use lib.ListN.{length, take, replicate, length-replicate}
+use denote.Ref.{now}
+use Rattle.planner_c.specs.Room.{costRoom}
+use Rattle.planner_c.proofs.ListCalls.{room-most, lent-long, list-called, rows-room}
 use Rattle.planner_c.proofs.rigbasen_list.Statement.{statement}
 use Rattle.planner_c.proofs.rigbasen_list.Tie as tie
-use Rattle.planner_c.proofs.rigbasen_list.Reads as reads
-use Rattle.planner_c.proofs.rigbasen_list.Lts as lts
-use Rattle.byte_areas.proofs.store_costs.Reads as store-costs-reads
-use Rattle.byte_areas.proofs.store_count.Reads as store-count-reads
-use Rattle.planner.proofs.list.Reads as list-reads
-use Rattle.planner.proofs.listed_number.Reads as listed-number-reads
-use Rattle.planner.proofs.listed_rows.Reads as listed-rows-reads
-use Rattle.planner_c.proofs.cost_room.Reads as cost-room-reads
 
--- src/lib.rt:48:9
 cost-room-requires : tie.Need-cost-room-requires
 cost-room-requires c κs = search needs
 
--- src/lib.rt:51:35
 sub-list : tie.Need-sub-list
 sub-list c = search needs
 
--- src/lib.rt:51:35
 part-held-start : tie.Need-part-held-start
 part-held-start c = search needs
 
--- src/lib.rt:51:35
 part-held-end : tie.Need-part-held-end
-part-held-end c = ?
+part-held-end c = omega (arith, c .before .cost-room .ensures, room-most (length (now (c .before .before .before .before .before .before .args .costs))) (length (now (c .before .before .before .before .before .before .args .result))) .0)
 
--- src/lib.rt:51:55
 slice-aggregate-list : tie.Need-slice-aggregate-list
 slice-aggregate-list c = search needs
 
--- src/lib.rt:51:9
 list-requires : tie.Need-list-requires
 list-requires c κs = search needs
 
--- src/lib.rt:52:9
 listed-rows-requires : tie.Need-listed-rows-requires
 listed-rows-requires c κs = search needs
 
--- src/lib.rt:53:5
 store-costs-requires : tie.Need-store-costs-requires
-store-costs-requires c κs = ?
+store-costs-requires c κs =
+    let a = c .before .before .before .before .before .before .before .before .before .before .before .before .before .before .before .before .args in
+    let room = c .before .before .before .before .before .before .before .before .before .before .before .cost-room in
+    rw (c .before .before .listed-rows .ensures)
+    (rows-room (now (a .file)) (now (a .beds)) (now (a .costs)) (now (a .result)) (take (room .result - 0) (replicate 64 0)) (replicate 16_384 0)
+    (lent-long (room .result - 0) (costRoom (length (now (a .costs))) (length (now (a .result)))) (omega (arith, room .ensures)) (room-most (length (now (a .costs))) (length (now (a .result))) .0)) (length-replicate {A = ℕ} 16_384 0) _ _ _ _ _ (c .before .before .before .before .before .before .before .list .ensures))
 
--- src/lib.rt:54:5
 store-count-requires : tie.Need-store-count-requires
 store-count-requires c κs = search needs
 
--- src/lib.rt:55:5
 listed-number-requires : tie.Need-listed-number-requires
 listed-number-requires c κs = search needs
 
--- src/lib.rt:39:1
 same-length : tie.Need-same-length
 same-length c = search needs
 
--- src/lib.rt:39:1
 same-length-2 : tie.Need-same-length-2
 same-length-2 c = search needs
 
--- src/lib.rt:39:1
 same-length-3 : tie.Need-same-length-3
 same-length-3 c = search needs
 
--- src/lib.rt:39:1
 returns : tie.Need-returns
-returns c = ?
+returns c =
+    let a = c .before .before .before .before .before .before .before .before .before .before .before .before .before .before .before .before .before .before .before .before .before .before .before .before .args in
+    let room = c .before .before .before .before .before .before .before .before .before .before .before .before .before .before .before .before .before .before .before .cost-room in
+    let rows = c .before .before .before .before .before .before .before .before .before .before .listed-rows .ensures in
+    rw (c .listed-number .ensures)
+    (list-called (now (a .file)) (now (a .beds)) (now (a .costs)) (now (a .result)) (take (room .result - 0) (replicate 64 0)) (replicate 16_384 0)
+    (lent-long (room .result - 0) (costRoom (length (now (a .costs))) (length (now (a .result)))) (omega (arith, room .ensures)) (room-most (length (now (a .costs))) (length (now (a .result))) .0)) (length-replicate {A = ℕ} 16_384 0) _ _ _ _ _ _ _ _ (c .before .before .before .before .before .before .before .before .before .before .before .before .before .before .before .list .ensures)
+    (rw rows at (c .before .before .before .before .before .before .before .store-costs .ensures)) (rw rows at (c .before .before .before .store-count .ensures)))
 
 pub rigbasen-list-spec : {M : Type 1} → statement M
 rigbasen-list-spec =
