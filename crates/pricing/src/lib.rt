@@ -48,9 +48,9 @@ fn wide(bed: u8) -> usize
 }
 
 // The place in the store of a term's entry for a plan.
-fn entry_place(terms: &[u32; 640], k: usize, beds: [u8; 32]) -> usize
+fn entry_place(terms: &[u32; 640], k: usize, beds: &[u8; 32]) -> usize
     requires { ⌜ Reads (now terms) k ⌝ }
-    ensures { λ at. ⌜ at ≡ placeAt (now (terms .entry)) k beds ⌝ }
+    ensures { λ at. ⌜ at ≡ placeAt (now (terms .entry)) k (now (beds .entry)) ⌝ }
 {
     let start = k * 10;
     let mut place = terms[start] as usize;
@@ -70,12 +70,11 @@ pub fn bucket_cost(
     terms: &[u32; 640],
     entries: &[u32; 4096],
     s: usize,
-    plan: Plan,
+    beds: &[u8; 32],
 ) -> Cost
-    requires { ⌜ Asks (now entries) (now patients) (now terms) s (plan .beds) ⌝ }
-    ensures { λ c. ⌜ Gives (now (entries .entry)) (now (patients .entry)) (now (terms .entry)) s (plan .beds) c ⌝ }
+    requires { ⌜ Asks (now entries) (now patients) (now terms) s (now beds) ⌝ }
+    ensures { λ c. ⌜ Gives (now (entries .entry)) (now (patients .entry)) (now (terms .entry)) s (now (beds .entry)) c ⌝ }
 {
-    let beds = plan.beds;
     let mut sum: u64 = 0;
     let mut k = patients[s * 3 + 2] as usize;
     while k < 64 {
@@ -104,7 +103,7 @@ pub fn total(
     let mut sum: u64 = 0;
     let mut s = 0;
     while s < v {
-        let cost = bucket_cost(patients, terms, entries, s, plan);
+        let cost = bucket_cost(patients, terms, entries, s, &plan.beds);
         match cost {
             Cost::Forbidden => {
                 return Cost::Forbidden;

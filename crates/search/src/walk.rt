@@ -43,7 +43,7 @@ fn next_head(
     let before = head.plan;
     let plan = before.place(s, bed);
     let bound = head.bound - least_cost(patients, s) as u64;
-    let cost = bucket_cost(patients, terms, entries, s, plan);
+    let cost = bucket_cost(patients, terms, entries, s, &plan.beds);
     match cost {
         Cost::Forbidden => Next {
             allowed: false,

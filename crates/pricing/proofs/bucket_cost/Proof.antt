@@ -27,28 +27,28 @@ element-copy-out-k : tie.Need-element-copy-out-k Inv-loop μ-loop
 element-copy-out-k c = search needs
 
 cast-k : tie.Need-cast-k Inv-loop μ-loop
-cast-k c = omega (arith, first-most (c .before .before .pre))
+cast-k c = omega (arith, first-most (c .before .pre))
 
 loop-holds : tie.Need-loop-holds Inv-loop μ-loop
-loop-holds c = goes-start (c .before .before .pre)
+loop-holds c = goes-start (c .before .pre)
 
 entry-place-requires : tie.Need-entry-place-requires Inv-loop μ-loop
-entry-place-requires c κs = goes-reads (c .before .before .before .before .pre) (c .before .loop .inv) (c .loop-test .taken)
+entry-place-requires c κs = goes-reads (c .before .before .before .pre) (c .before .loop .inv) (c .loop-test .taken)
 
 mul-entry : tie.Need-mul-entry Inv-loop μ-loop
-mul-entry c = rw (c .entry-place .ensures) (omega (arith, goes-inside (c .before .before .before .before .before .pre) (c .before .before .loop .inv) (c .before .loop-test .taken)))
+mul-entry c = rw (c .entry-place .ensures) (omega (arith, goes-inside (c .before .before .before .before .pre) (c .before .before .loop .inv) (c .before .loop-test .taken)))
 
 element-copy-out-entry : tie.Need-element-copy-out-entry Inv-loop μ-loop
-element-copy-out-entry c = rw (c .entry-place .ensures) (goes-inside (c .before .before .before .before .before .pre) (c .before .before .loop .inv) (c .before .loop-test .taken))
+element-copy-out-entry c = rw (c .entry-place .ensures) (goes-inside (c .before .before .before .before .pre) (c .before .before .loop .inv) (c .before .loop-test .taken))
 
 returns : tie.Need-returns Inv-loop μ-loop
-returns c = goes-forbidden (c .before .before .before .before .before .before .before .pre) (c .before .before .before .before .loop .inv) (c .before .before .before .loop-test .taken) (sym (ap (λ at. getD (now (c .before .before .before .before .before .before .before .args .entries)) at 0) (c .before .before .entry-place .ensures)) ∙ c .if1 .taken)
+returns c = goes-forbidden (c .before .before .before .before .before .before .pre) (c .before .before .before .before .loop .inv) (c .before .before .before .loop-test .taken) (sym (ap (λ at. getD (now (c .before .before .before .before .before .before .args .entries)) at 0) (c .before .before .entry-place .ensures)) ∙ c .if1 .taken)
 
 cast-sum : tie.Need-cast-sum Inv-loop μ-loop
-cast-sum c = omega (arith, goes-small (c .before .before .before .before .before .before .before .pre) (c .before .before .before .before .loop .inv) (c .before .before .before .loop-test .taken) _ (ap (λ at. getD (now (c .before .before .before .before .before .before .before .args .entries)) at 0) (c .before .before .entry-place .ensures)) (c .if1 .left))
+cast-sum c = omega (arith, goes-small (c .before .before .before .before .before .before .pre) (c .before .before .before .before .loop .inv) (c .before .before .before .loop-test .taken) _ (ap (λ at. getD (now (c .before .before .before .before .before .before .args .entries)) at 0) (c .before .before .entry-place .ensures)) (c .if1 .left))
 
 add-sum : tie.Need-add-sum Inv-loop μ-loop
-add-sum c = omega (arith, goes-small (c .before .before .before .before .before .before .before .pre) (c .before .before .before .before .loop .inv) (c .before .before .before .loop-test .taken) _ (ap (λ at. getD (now (c .before .before .before .before .before .before .before .args .entries)) at 0) (c .before .before .entry-place .ensures)) (c .if1 .left), c .before .before .before .before .loop .inv .few)
+add-sum c = omega (arith, goes-small (c .before .before .before .before .before .before .pre) (c .before .before .before .before .loop .inv) (c .before .before .before .loop-test .taken) _ (ap (λ at. getD (now (c .before .before .before .before .before .before .args .entries)) at 0) (c .before .before .entry-place .ensures)) (c .if1 .left), c .before .before .before .before .loop .inv .few)
 
 mul-k-3 : tie.Need-mul-k-3 Inv-loop μ-loop
 mul-k-3 c = search needs
@@ -63,16 +63,16 @@ element-copy-out-k-2 : tie.Need-element-copy-out-k-2 Inv-loop μ-loop
 element-copy-out-k-2 c = search needs
 
 cast-k-2 : tie.Need-cast-k-2 Inv-loop μ-loop
-cast-k-2 c = omega (arith, goes-later (c .before .before .before .before .before .before .before .before .pre) (c .before .before .before .before .before .loop .inv) (c .before .before .before .before .loop-test .taken) .1)
+cast-k-2 c = omega (arith, goes-later (c .before .before .before .before .before .before .before .pre) (c .before .before .before .before .before .loop .inv) (c .before .before .before .before .loop-test .taken) .1)
 
 loop-less : tie.Need-loop-less Inv-loop μ-loop
-loop-less c = omega (arith, goes-later (c .before .before .before .before .before .before .before .before .pre) (c .before .before .before .before .before .loop .inv) (c .before .before .before .before .loop-test .taken) .0, goes-later (c .before .before .before .before .before .before .before .before .pre) (c .before .before .before .before .before .loop .inv) (c .before .before .before .before .loop-test .taken) .1)
+loop-less c = omega (arith, goes-later (c .before .before .before .before .before .before .before .pre) (c .before .before .before .before .before .loop .inv) (c .before .before .before .before .loop-test .taken) .0, goes-later (c .before .before .before .before .before .before .before .pre) (c .before .before .before .before .before .loop .inv) (c .before .before .before .before .loop-test .taken) .1)
 
 loop-again : tie.Need-loop-again Inv-loop μ-loop
-loop-again c = goes-next (c .before .before .before .before .before .before .before .before .pre) (c .before .before .before .before .before .loop .inv) (c .before .before .before .before .loop-test .taken) _ (ap (λ at. getD (now (c .before .before .before .before .before .before .before .before .args .entries)) at 0) (c .before .before .before .entry-place .ensures)) (c .before .if1 .left)
+loop-again c = goes-next (c .before .before .before .before .before .before .before .pre) (c .before .before .before .before .before .loop .inv) (c .before .before .before .before .loop-test .taken) _ (ap (λ at. getD (now (c .before .before .before .before .before .before .before .args .entries)) at 0) (c .before .before .before .entry-place .ensures)) (c .before .if1 .left)
 
 returns-2 : tie.Need-returns-2 Inv-loop μ-loop
-returns-2 c = goes-done (c .before .before .before .before .pre) (c .before .loop .inv) (c .loop-test .left)
+returns-2 c = goes-done (c .before .before .before .pre) (c .before .loop .inv) (c .loop-test .left)
 
 pub bucket-cost-spec : {M : Type 1} → statement M
 bucket-cost-spec =

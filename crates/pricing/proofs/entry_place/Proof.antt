@@ -67,20 +67,20 @@ element-copy-out-stride c = search needs
 cast-stride : tie.Need-cast-stride Inv-loop μ-loop
 cast-stride c = omega (arith, c .before .before .before .before .before .pre .near _ (c .before .before .loop-test .taken))
 
-array-read-wide : tie.Need-array-read-wide Inv-loop μ-loop
-array-read-wide c = c .before .before .before .before .before .pre .known _ (c .before .before .loop-test .taken)
+element-copy-out-wide : tie.Need-element-copy-out-wide Inv-loop μ-loop
+element-copy-out-wide c = c .before .before .before .before .before .pre .known _ (c .before .before .loop-test .taken)
 
 wide-requires : tie.Need-wide-requires Inv-loop μ-loop
 wide-requires c κs = search needs
 
 mul-place-2 : tie.Need-mul-place-2 Inv-loop μ-loop
 mul-place-2 c =
-    let most = bed-most (c .wide .result) _ (c .wide .ensures .1) (c .before .before .before .before .before .before .pre .near _ (c .before .before .before .loop-test .taken)) in
+    let most = bed-most (c .wide .result) _ (c .wide .ensures .1) (c .before .before .before .before .before .before .before .pre .near _ (c .before .before .before .before .loop-test .taken)) in
     omega (arith, most)
 
 add-place : tie.Need-add-place Inv-loop μ-loop
 add-place c =
-    let most = bed-most (c .wide .result) _ (c .wide .ensures .1) (c .before .before .before .before .before .before .pre .near _ (c .before .before .before .loop-test .taken)) in
+    let most = bed-most (c .wide .result) _ (c .wide .ensures .1) (c .before .before .before .before .before .before .before .pre .near _ (c .before .before .before .before .loop-test .taken)) in
     omega (arith, most)
 
 add-j : tie.Need-add-j Inv-loop μ-loop
@@ -91,11 +91,11 @@ loop-less c = search needs
 
 loop-again : tie.Need-loop-again Inv-loop μ-loop
 loop-again c =
-    let most = bed-most (c .wide .result) _ (c .wide .ensures .1) (c .before .before .before .before .before .before .pre .near _ (c .before .before .before .loop-test .taken)) in
-    let loop = c .before .before .before .before in
+    let most = bed-most (c .wide .result) _ (c .wide .ensures .1) (c .before .before .before .before .before .before .before .pre .near _ (c .before .before .before .before .loop-test .taken)) in
+    let loop = c .before .before .before .before .before in
     let a = loop .before .before .args in
-    let known = ap (λ b. loop .loop .place + b * strideAt (now (a .terms)) (a .k) (loop .loop .j) + leftFrom (bedAt (now (a .terms)) (a .k) (a .t3)) 4 (loop .loop .j + 1)) (c .wide .ensures .0) in
-    (omega (arith, most), known ∙ left-next _ 4 _ _ (c .before .before .before .loop-test .taken) ∙ loop .loop .inv .1)
+    let known = ap (λ b. loop .loop .place + b * strideAt (now (a .terms)) (a .k) (loop .loop .j) + leftFrom (bedAt (now (a .terms)) (a .k) (now (a .beds))) 4 (loop .loop .j + 1)) (c .wide .ensures .0) in
+    (omega (arith, most), known ∙ left-next _ 4 _ _ (c .before .before .before .before .loop-test .taken) ∙ loop .loop .inv .1)
 
 returns : tie.Need-returns Inv-loop μ-loop
 returns c = sym (left-done _ 4 _ _ (c .loop-test .left)) ∙ c .before .loop .inv .1
@@ -121,7 +121,7 @@ entry-place-spec =
     mul-stride
     element-copy-out-stride
     cast-stride
-    array-read-wide
+    element-copy-out-wide
     wide-requires
     mul-place-2
     add-place

@@ -15,19 +15,19 @@ loop-holds : tie.Need-loop-holds Inv-loop μ-loop
 loop-holds c = adds-start
 
 bucket-cost-requires : tie.Need-bucket-cost-requires Inv-loop μ-loop
-bucket-cost-requires c κs = asks-one (c .before .before .pre) (c .loop-test .taken)
+bucket-cost-requires c κs = asks-one (c .before .before .before .before .pre) (c .before .before .loop-test .taken)
 
 enum-told : tie.Need-enum-told Inv-loop μ-loop
 enum-told c = search needs
 
 returns : tie.Need-returns Inv-loop μ-loop
-returns c = adds-forbidden (c .before .before .before .before .loop .inv) (c .before .before .before .loop-test .taken) (c .before .before .bucket-cost .ensures) (c .enum-told .given .1)
+returns c = adds-forbidden (c .before .before .before .before .before .before .loop .inv) (c .before .before .before .before .before .loop-test .taken) (c .before .before .bucket-cost .ensures) (c .enum-told .given .1)
 
 enum-known-cost : tie.Need-enum-known-cost Inv-loop μ-loop
 enum-known-cost c = search needs
 
 add-sum : tie.Need-add-sum Inv-loop μ-loop
-add-sum c = omega (arith, adds-small (c .before .before .before .before .before .loop .inv) (c .before .before .before .before .loop-test .taken) (c .before .before .before .bucket-cost .ensures) _ (c .before .cost .given .1), c .before .before .before .before .before .loop .inv .few)
+add-sum c = omega (arith, adds-small (c .before .before .before .before .before .before .before .loop .inv) (c .before .before .before .before .before .before .loop-test .taken) (c .before .before .before .bucket-cost .ensures) _ (c .before .cost .given .1), c .before .before .before .before .before .before .before .loop .inv .few)
 
 add-s : tie.Need-add-s Inv-loop μ-loop
 add-s c = search needs
@@ -36,7 +36,7 @@ loop-less : tie.Need-loop-less Inv-loop μ-loop
 loop-less c = search needs
 
 loop-again : tie.Need-loop-again Inv-loop μ-loop
-loop-again c = adds-next (c .before .before .before .before .before .loop .inv) (c .before .before .before .before .loop-test .taken) (c .before .before .before .bucket-cost .ensures) _ (c .before .cost .given .1)
+loop-again c = adds-next (c .before .before .before .before .before .before .before .loop .inv) (c .before .before .before .before .before .before .loop-test .taken) (c .before .before .before .bucket-cost .ensures) _ (c .before .cost .given .1)
 
 returns-2 : tie.Need-returns-2 Inv-loop μ-loop
 returns-2 c = adds-done (c .before .loop .inv) (c .loop-test .left)
