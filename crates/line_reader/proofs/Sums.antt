@@ -1,7 +1,7 @@
 -- Summing bytes: what is summed and what is left is the whole sum. Assumes nothing.
 use mathlib.Core.Path.{_≡_, sym, ap, _∙_}
 use mathlib.Core.List.{List}
-use Prim.Native.Nat.{ℕ, suc, _+_, _%_, _^_, _≤_, _<_}
+use Prim.Native.Nat.{ℕ, suc, _+_, _*_, _%_, _^_, _≤_, _<_}
 use native.Mathlib.Nat.{mod-add-mod, mod-lt, zero-lt-suc, add-zero, add-assoc}
 use native.Mathlib.Numerals.{add-one}
 use native.Mathlib.Omega.{arith}
@@ -54,4 +54,29 @@ module _ {s : List ℕ} {t i : ℕ} (r : Roomy s t i) (b : getD s i 0 < 256) whe
             rw add-one
             (ap (λ n. n % 65521) (add-assoc t (getD s i 0) (sum (drop (suc i) s))) ∙ ap (λ l. (t + sum l) % 65521) (sym (drop-cons s i 0 h))
             ∙ r .summing .same);
+      }
+
+-- Summing a short input, unreduced.
+pub record ShortSum (s : List ℕ) (t i : ℕ) : Type 0 where
+  pub high : i ≤ length s
+  pub small : t ≤ 255 * i
+  pub same : t + sum (drop i s) ≡ sum s
+
+pub short-start : (s : List ℕ) → ShortSum s 0 0
+short-start s = record { high = omega arith; small = omega arith; same = omega arith }
+
+module _ {s : List ℕ} {t i : ℕ} (m : ShortSum s t i) where
+  pub short-done : length s ≤ i → t ≡ sum s
+  short-done h = sym (add-zero t) ∙ ap (λ l. t + sum l) (sym (drop-of-length-le s h)) ∙ m .same
+
+  pub short-fits : i < length s → length s ≤ 65535 → getD s i 0 < 256 → t + getD s i 0 < 2 ^ 32
+  short-fits h n b = let l = m .small in omega arith
+
+  pub short-on : i < length s → getD s i 0 < 256 → ShortSum s (t + getD s i 0) (i + 1)
+  short-on h b =
+      let l = m .small in
+      record {
+        high = omega arith;
+        small = omega arith;
+        same = rw add-one (add-assoc t (getD s i 0) (sum (drop (suc i) s)) ∙ ap (λ l. t + sum l) (sym (drop-cons s i 0 h)) ∙ m .same);
       }
