@@ -49,7 +49,7 @@ one-moved from to area after h k l r = record {
 }
 
 -- The rows of the area once there is a gap and the row is written into it.
-module _ (v n m : ℕ) (x : Row) (area shifted after : List ℕ) (p end : ℕ) (room : Room v n m area) (place : Place v n x area p) (fits : p ≤ end) (last : min m (suc n) ≡ suc end)
+module _ (v n m : ℕ) (x : Row) (area shifted after : List ℕ) (p end : ℕ) (room : Room v n m area) (place : Place v n (x .cost) (x .beds) area p) (fits : p ≤ end) (last : min m (suc n) ≡ suc end)
     (moved : Moved (p * 34 + 34) (end * 34 + 34) area shifted) (stored : Stored v p x shifted after) where
   below-gap : (j : ℕ) → j < p → rowIn v after j ≡ rowIn v area j
   below-gap j h =
@@ -106,7 +106,7 @@ module _ (v n m : ℕ) (x : Row) (area shifted after : List ℕ) (p end : ℕ) (
           sym (rows-at v (end + 1) after k z t) ∙ row-at k (omega arith) ∙ sym (getD-take m put k z (omega arith))
 
 -- A row that comes after all of a full list.
-pub not-inserted : (v n m : ℕ) (x : Row) (area : List ℕ) → Room v n m area → Place v n x area m → Inserted v n m x area area n
+pub not-inserted : (v n m : ℕ) (x : Row) (area : List ℕ) → Room v n m area → Place v n (x .cost) (x .beds) area m → Inserted v n m x area area n
 not-inserted v n m x area room place = record { count = room .held; rows = same; long = refl }
   where
     rows : List Said.Row

@@ -44,7 +44,7 @@ module _ (v n : ℕ) (x : Row) (area : List ℕ) where
     here : drop i (rowsIn v n area) ≡ rowIn v area i ∷ drop (suc i) (rowsIn v n area)
     here = rw (rows-at v n area i (rowIn v area i) h) (drop-cons (rowsIn v n area) i (rowIn v area i) (omega (arith, rows-long v n area)))
 
-    pub found : beforeOr true (compareRows (rowOf v x) (rowIn v area i)) ≡ true → Place v n x area i
+    pub found : beforeOr true (compareRows (rowOf v x) (rowIn v area i)) ≡ true → Place v n (x .cost) (x .beds) area i
     found t = record {
       within = omega arith;
       here = sym passed ∙ ap (λ (l : List Said.Row). take i (rowsIn v n area) ++ l) (ap (insert compareRows (rowOf v x)) here ∙ in-front (rowOf v x) (rowIn v area i) (drop (suc i) (rowsIn v n area)) t ∙ ap (λ (l : List Said.Row). rowOf v x ∷ l) (sym here));
@@ -60,7 +60,7 @@ module _ (v n : ℕ) (x : Row) (area : List ℕ) where
   pub none-passed : Passed v n x area 0
   none-passed = refl
 
-  pub all-passed : (i : ℕ) → i ≤ n → n ≤ i → Passed v n x area i → Place v n x area i
+  pub all-passed : (i : ℕ) → i ≤ n → n ≤ i → Passed v n x area i → Place v n (x .cost) (x .beds) area i
   all-passed i h k passed = record {
     within = h;
     here = (let e : drop i (rowsIn v n area) ≡ [] = drop-of-length-le (rowsIn v n area) {i = i} (omega (arith, rows-long v n area)) in sym passed ∙ rw e);

@@ -7,9 +7,12 @@ use Rattle.definitions.specs.Plans as Said
 use Rattle.definitions.specs.Plans.{compareRows}
 use Rattle.row_list.specs.declared.Row.{Row}
 
--- The row that a struct holds, for so many patients.
+-- The row of a cost and beds, for so many patients; the row that a struct holds.
+abbrev pub rowWith : ℕ → ℕ → List ℕ → Said.Row
+rowWith v cost beds = record { cost = cost; beds = take v beds }
+
 abbrev pub rowOf : ℕ → Row → Said.Row
-rowOf v x = record { cost = x .cost; beds = take v (x .beds) }
+rowOf v x = rowWith v (x .cost) (x .beds)
 
 -- Row i of an area; the first n rows.
 unfoldable pub rowIn : ℕ → List ℕ → ℕ → Said.Row

@@ -6,7 +6,7 @@ ghost use Prim.Native.Nat.{_+_, _-_, _*_, _/_, _%_, _<_, _≤_};
 ghost use lib.Dec.{eqb};
 ghost use lib.ListN.{length};
 ghost use Rattle.definitions.specs.Plans.{compareRows};
-ghost use Rattle.row_list.specs.Rows.{rowOf, rowIn, beforeOr, isBefore, RowHeld, RowRead, Stored, Room, Inserted};
+ghost use Rattle.row_list.specs.Rows.{rowWith, rowOf, rowIn, beforeOr, isBefore, RowHeld, RowRead, Stored, Room, Inserted};
 ghost use Rattle.row_list.specs.Steps.{Place, Moved};
 
 // A row by value: its cost, and a bed for each of 32 patients.
@@ -78,21 +78,21 @@ pub fn set_row(list: &mut [u32], v: usize, i: usize, row: Row)
 }
 
 // Does a row come before row i of the list? At a tie, the answer is the one handed in.
-fn precedes(row: Row, list: &[u32], v: usize, i: usize, equal: bool) -> bool
-    requires { ⌜ RowHeld v i (now list) ⌝ }
-    ensures { λ r. ⌜ r ≡ beforeOr equal (compareRows (rowOf v row) (rowIn v (now (list .entry)) i)) ⌝ }
+fn precedes(cost: u64, beds: &[u8; 32], list: &[u32], v: usize, i: usize, equal: bool) -> bool
+    requires { ⌜ (RowHeld v i (now list)) × (length (now beds) ≡ 32) ⌝ }
+    ensures { λ r. ⌜ r ≡ beforeOr equal (compareRows (rowWith v cost (now (beds .entry))) (rowIn v (now (list .entry)) i)) ⌝ }
 {
     let at = i * 34;
-    let cost = cost_of(list[at], list[at + 1]);
-    if row.cost < cost {
+    let held_cost = cost_of(list[at], list[at + 1]);
+    if cost < held_cost {
         return true;
     }
-    if cost < row.cost {
+    if held_cost < cost {
         return false;
     }
     let mut j: usize = 0;
     while j < v {
-        let bed = row.beds[j];
+        let bed = beds[j];
         let held = bed_of(list[at + 2 + j]);
         if bed < held {
             return true;
@@ -105,33 +105,33 @@ fn precedes(row: Row, list: &[u32], v: usize, i: usize, equal: bool) -> bool
     equal
 }
 
-// Does a row come before row i of the list? An equal row does not.
-pub fn comes_before(row: Row, list: &[u32], v: usize, i: usize) -> bool
-    requires { ⌜ RowHeld v i (now list) ⌝ }
-    ensures { λ r. ⌜ r ≡ isBefore (compareRows (rowOf v row) (rowIn v (now (list .entry)) i)) ⌝ }
+// Does a row of this cost and these beds come before row i of the list? An equal row does not.
+pub fn comes_before(cost: u64, beds: &[u8; 32], list: &[u32], v: usize, i: usize) -> bool
+    requires { ⌜ (RowHeld v i (now list)) × (length (now beds) ≡ 32) ⌝ }
+    ensures { λ r. ⌜ r ≡ isBefore (compareRows (rowWith v cost (now (beds .entry))) (rowIn v (now (list .entry)) i)) ⌝ }
 {
-    precedes(row, list, v, i, false)
+    precedes(cost, beds, list, v, i, false)
 }
 
-// Is the list full, and the row not before its last?
-pub fn is_past(list: &[u32], v: usize, n: usize, m: usize, row: Row) -> bool
-    requires { ⌜ Room v n m (now list) ⌝ }
-    ensures { λ r. ⌜ r ≡ (eqb n m && not (isBefore (compareRows (rowOf v row) (rowIn v (now (list .entry)) (m - 1))))) ⌝ }
+// Is the list full, and a row of this cost and these beds not before its last?
+pub fn is_past(list: &[u32], v: usize, n: usize, m: usize, cost: u64, beds: &[u8; 32]) -> bool
+    requires { ⌜ (Room v n m (now list)) × (length (now beds) ≡ 32) ⌝ }
+    ensures { λ r. ⌜ r ≡ (eqb n m && not (isBefore (compareRows (rowWith v cost (now (beds .entry))) (rowIn v (now (list .entry)) (m - 1))))) ⌝ }
 {
     if n < m {
         return false;
     }
-    !comes_before(row, list, v, m - 1)
+    !comes_before(cost, beds, list, v, m - 1)
 }
 
 // The place of a new row: the first row of the n that it does not come after, or n.
-fn place_of(list: &[u32], v: usize, n: usize, row: Row) -> usize
-    requires { ⌜ (v ≤ 32) × (n * 34 ≤ length (now list)) ⌝ }
-    ensures { λ r. ⌜ Place v n row (now (list .entry)) r ⌝ }
+fn place_of(list: &[u32], v: usize, n: usize, cost: u64, beds: &[u8; 32]) -> usize
+    requires { ⌜ (v ≤ 32) × (n * 34 ≤ length (now list)) × (length (now beds) ≡ 32) ⌝ }
+    ensures { λ r. ⌜ Place v n cost (now (beds .entry)) (now (list .entry)) r ⌝ }
 {
     let mut i: usize = 0;
     while i < n {
-        if precedes(row, list, v, i, true) {
+        if precedes(cost, beds, list, v, i, true) {
             return i;
         }
         i += 1;
@@ -157,7 +157,7 @@ pub fn insert(list: &mut [u32], v: usize, n: usize, m: usize, row: Row) -> usize
     requires { ⌜ Room v n m (now list) ⌝ }
     ensures { λ r. ⌜ Inserted v n m row (now (list .entry)) (now (list .exit)) r ⌝ }
 {
-    let at = place_of(list, v, n, row);
+    let at = place_of(list, v, n, row.cost, &row.beds);
     if at == m {
         return n;
     }

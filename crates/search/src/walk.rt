@@ -67,10 +67,7 @@ fn is_cut(list: &[u32], v: usize, n: usize, m: usize, head: Head) -> bool
     ensures { λ a. ⌜ a ≡ pastHead v n m (now (list .entry)) head ⌝ }
 {
     let plan = head.plan;
-    let beds = plan.beds;
-    let cost = head.cost + head.bound;
-    let row = Row { cost, beds };
-    is_past(list, v, n, m, row)
+    is_past(list, v, n, m, head.cost + head.bound, &plan.beds)
 }
 
 // Adds the rows of the branch to the list: the m cheapest are kept.

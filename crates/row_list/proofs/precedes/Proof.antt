@@ -1,16 +1,23 @@
 use borrow.Author.Needs.{needs}
 use native.Mathlib.Omega.{arith}
 use mathlib.Core.Path.{_≡_, sym, _∙_}
-use Prim.Native.Nat.{_-_, _≤_}
+use Prim.Native.Nat.{ℕ, _-_, _≤_}
+use mathlib.Core.List.{List}
+use denote.Ref.{now}
+use Rattle.row_list.specs.declared.Row.{Row}
 use Rattle.row_list.proofs.Comparing.{answer, answerFrom, cheaper, dearer, same-cost, all-same, smaller-bed, larger-bed, same-bed}
 use Rattle.row_list.proofs.precedes.Statement.{statement}
 use Rattle.row_list.proofs.precedes.Tie as tie
 
+-- The row of what is lent.
+abbrev row : ℕ → List ℕ → Row
+row cost beds = record { cost = cost; beds = beds }
+
 abbrev Inv-loop : tie.InvT-loop
-Inv-loop list v i equal row at cost j₀ j = (j ≤ v) × (answer equal v row list i ≡ answerFrom equal v row list i j)
+Inv-loop cost beds list v i equal at held j₀ j = (j ≤ v) × (answer equal v (row cost beds) list i ≡ answerFrom equal v (row cost beds) list i j)
 
 abbrev μ-loop : tie.MeasureT-loop
-μ-loop list v i equal row at cost j₀ j = v - j
+μ-loop cost beds list v i equal at held j₀ j = v - j
 
 mul-at : tie.Need-mul-at Inv-loop μ-loop
 mul-at c = search needs
@@ -36,17 +43,17 @@ cost-of-requires c κs = search needs
 returns : tie.Need-returns Inv-loop μ-loop
 returns c =
     let a = c .before .before .before .before .before .args in
-    cheaper (a .equal) (a .v) (a .t1) _ (a .i) _ (c .before .cost-of .ensures) (c .if1 .taken)
+    cheaper (a .equal) (a .v) (row (a .cost) (now (a .beds))) _ (a .i) _ (c .before .cost-of .ensures) (c .if1 .taken)
 
 returns-2 : tie.Need-returns-2 Inv-loop μ-loop
 returns-2 c =
     let a = c .before .before .before .before .before .before .args in
-    dearer (a .equal) (a .v) (a .t1) _ (a .i) _ (c .before .before .cost-of .ensures) (c .if2 .taken)
+    dearer (a .equal) (a .v) (row (a .cost) (now (a .beds))) _ (a .i) _ (c .before .before .cost-of .ensures) (c .if2 .taken)
 
 loop-holds : tie.Need-loop-holds Inv-loop μ-loop
 loop-holds c =
     let a = c .before .before .before .before .before .before .args in
-    (search needs, same-cost (a .equal) (a .v) (a .t1) _ (a .i) _ (c .before .before .cost-of .ensures) (c .before .if1 .left) (c .if2 .left))
+    (search needs, same-cost (a .equal) (a .v) (row (a .cost) (now (a .beds))) _ (a .i) _ (c .before .before .cost-of .ensures) (c .before .if1 .left) (c .if2 .left))
 
 element-copy-out-bed : tie.Need-element-copy-out-bed Inv-loop μ-loop
 element-copy-out-bed c = search needs
@@ -70,13 +77,13 @@ returns-3 : tie.Need-returns-3 Inv-loop μ-loop
 returns-3 c =
     let l = c .before .before .before .before .before in
     let a = l .before .before .before .before .before .before .before .args in
-    sym (l .loop .inv .1 ∙ smaller-bed (a .equal) (a .v) (a .t1) _ (a .i) (omega arith) (search needs) (l .loop .j) _ (omega arith) (c .before .bed-of .ensures) (c .if3 .taken))
+    sym (l .loop .inv .1 ∙ smaller-bed (a .equal) (a .v) (row (a .cost) (now (a .beds))) _ (a .i) (omega arith) (search needs) (l .loop .j) _ (omega arith) (c .before .bed-of .ensures) (c .if3 .taken))
 
 returns-4 : tie.Need-returns-4 Inv-loop μ-loop
 returns-4 c =
     let l = c .before .before .before .before .before .before in
     let a = l .before .before .before .before .before .before .before .args in
-    sym (l .loop .inv .1 ∙ larger-bed (a .equal) (a .v) (a .t1) _ (a .i) (omega arith) (search needs) (l .loop .j) _ (omega arith) (c .before .before .bed-of .ensures) (c .if4 .taken))
+    sym (l .loop .inv .1 ∙ larger-bed (a .equal) (a .v) (row (a .cost) (now (a .beds))) _ (a .i) (omega arith) (search needs) (l .loop .j) _ (omega arith) (c .before .before .bed-of .ensures) (c .if4 .taken))
 
 add-j : tie.Need-add-j Inv-loop μ-loop
 add-j c = search needs
@@ -88,13 +95,13 @@ loop-again : tie.Need-loop-again Inv-loop μ-loop
 loop-again c =
     let l = c .before .before .before .before .before .before in
     let a = l .before .before .before .before .before .before .before .args in
-    (omega arith, l .loop .inv .1 ∙ same-bed (a .equal) (a .v) (a .t1) _ (a .i) (omega arith) (search needs) (l .loop .j) _ (omega arith) (c .before .before .bed-of .ensures) (c .before .if3 .left) (c .if4 .left))
+    (omega arith, l .loop .inv .1 ∙ same-bed (a .equal) (a .v) (row (a .cost) (now (a .beds))) _ (a .i) (omega arith) (search needs) (l .loop .j) _ (omega arith) (c .before .before .bed-of .ensures) (c .before .if3 .left) (c .if4 .left))
 
 returns-5 : tie.Need-returns-5 Inv-loop μ-loop
 returns-5 c =
     let l = c .before in
     let a = l .before .before .before .before .before .before .before .args in
-    sym (l .loop .inv .1 ∙ all-same (a .equal) (a .v) (a .t1) _ (a .i) (omega arith) (search needs) (l .loop .j) (omega arith))
+    sym (l .loop .inv .1 ∙ all-same (a .equal) (a .v) (row (a .cost) (now (a .beds))) _ (a .i) (omega arith) (search needs) (l .loop .j) (omega arith))
 
 pub precedes-spec : {M : Type 1} → statement M
 precedes-spec =
