@@ -18,8 +18,10 @@ use Rattle.pricing.specs.Pricing as Price
 use Rattle.pricing.specs.Pricing.{costIn}
 use Rattle.pricing.specs.declared.Cost.{Cost}
 use Rattle.search.specs.Lowest.{Upward, list-split, list-lowest, bucket-decided, upward-rest, bound-members}
-use Rattle.search.specs.Walks.{remaining, leftIn, headRow, Light, Heads, AsksNext, Below, Decides}
+use Rattle.search.specs.Walks.{remaining, leftIn, headRow, Light, Heads, AsksNext, Below, Decides, GivesRest}
 use Rattle.search.specs.declared.walk.Head.{Head}
+use Rattle.search.specs.declared.walk.Rest.{Rest}
+use Rattle.pricing.specs.declared.Plan.{Plan as CodePlan}
 
 -- A plan that fits still fits with another bed below its patient's count.
 fitting-set : (r : Region) (beds : Plan) (s bed : ℕ) → s < length beds → Fitting r beds → bed < patientAt r s .bedCount → Fitting r (set beds s bed)
@@ -132,3 +134,9 @@ pub bound-holds : {r : Region} {store patients terms : List ℕ} {v : ℕ} {head
     → LowerBound r (leftIn head) (head .plan .beds) (head .bound)
 bound-holds {r} {head} heads =
     rw (heads .bound) (bound-members r (remaining head) (leftIn head) (λ q. refl) (rising (head .left .0)) (heads .upward) (head .plan .beds))
+
+-- The head below a bed, put together.
+pub below-head : {patients : List ℕ} {head : Head} {s bed c : ℕ} {rest : Rest} {plan : CodePlan} (others : List ℕ) → remaining head ≡ s ∷ others
+    → GivesRest patients head s rest → plan .beds ≡ set (head .plan .beds) s bed → plan .len ≡ head .plan .len + 1 → c ≤ 64_000_000
+    → Below patients head s bed c (record { left = rest .left; plan = plan; cost = head .cost + c; bound = rest .bound })
+below-head others lowest rest beds len most = record { left = rest .left others lowest; beds = beds; len = len; cost = refl; most = most; bound = rest .bound }

@@ -12,7 +12,7 @@ use Rattle.buckets.specs.Terms.{Fitting, bucketOf, leastIn, leastAt, Prepared}
 use Rattle.row_list.specs.Rows.{rowIn, rowsIn, isBefore, Room}
 use Rattle.search.specs.Lowest.{Upward}
 use Rattle.search.specs.declared.walk.Head.{Head}
-use Rattle.search.specs.declared.walk.Next.{Next}
+use Rattle.search.specs.declared.walk.Rest.{Rest}
 
 -- The patients that are left; is a patient left? The row of the beds and the cost so far.
 abbrev pub remaining : Head → List ℕ
@@ -70,15 +70,16 @@ abbrev pub Decides : List ℕ → List ℕ → List ℕ → Head → ℕ → ℕ
 Decides store patients terms head s bed cost =
     (r : Region) (v : ℕ) → Heads r store patients terms v head → bed < patientAt r s .bedCount → costOver (bucketOf r s) r (set (head .plan .beds) s bed) ≡ cost
 
-pub record GivesNext (store patients terms : List ℕ) (head : Head) (s bed : ℕ) (next : Next) : Type 0 where
-  pub forbidden : next .allowed ≡ false → Decides store patients terms head s bed none
-  pub allowed : next .allowed ≡ true → (c : ℕ) × Below patients head s bed c (next .head) × Decides store patients terms head s bed (some c)
+-- What is left without the lowest patient.
+pub record AsksRest (patients : List ℕ) (head : Head) (s : ℕ) : Type 0 where
+  pub few : s < 32
+  pub least : leastAt patients s ≤ head .bound
+
+pub record GivesRest (patients : List ℕ) (head : Head) (s : ℕ) (rest : Rest) : Type 0 where
+  pub left : (others : List ℕ) → remaining head ≡ s ∷ others → remaining head ≡ s ∷ members (rest .left .0)
+  pub bound : rest .bound ≡ head .bound - leastAt patients s
 
 -- ---- the cut
-
-pub record Walkable (v n m : ℕ) (area : List ℕ) (head : Head) : Type 0 where
-  pub room : Room v n m area
-  pub light : Light head
 
 -- The list is full, and the cost so far with the bound, and the beds so far, are not before its last row.
 unfoldable pub pastHead : ℕ → ℕ → ℕ → List ℕ → Head → Bool

@@ -3,10 +3,11 @@ use native.Mathlib.Omega.{arith}
 use mathlib.Core.Path.{sym, ap, _∙_}
 use mathlib.Core.Logic.{⊎-elim}
 use Prim.Native.Nat.{ℕ, _<_, _-_}
-use lib.ListN.{length, drop}
+use lib.ListN.{length, length-set, drop}
 use borrow.Author.Tests.{not-false}
-use Rattle.search.specs.Walks.{remaining}
-use Rattle.search.proofs.Steps.{few, light-below}
+use Rattle.pricing.specs.Pricing.{costIn}
+use Rattle.search.specs.Walks.{remaining, pastHead}
+use Rattle.search.proofs.Steps.{few, least-most, asks-few, asks-room, asks-price, decides, below-head}
 use Rattle.search.proofs.Walking.{Sofar, walk-end, sofar-start, sofar-done, room-now, bed-small, asks-next, sofar-skip, asks-below, sofar-walk, sofar-cut, lowest-first}
 use borrow.Fn.Kinds.{In}
 use borrow.Fn.PlainCycle.{Measures, is, falls, and}
@@ -15,10 +16,12 @@ use Rattle.search.proofs.walk.walk.Kinds as walk-kinds
 use Rattle.search.proofs.walk.+walk.Lts-walk as walk-lts
 use Rattle.patient_set.proofs.PatientSet.is_empty.Reads as is-empty-reads
 use Rattle.patient_set.proofs.PatientSet.lowest.Reads as lowest-reads
+use Rattle.pricing.proofs.Plan.place.Reads as place-reads
 use Rattle.pricing.proofs.bed_count.Reads as bed-count-reads
+use Rattle.pricing.proofs.bucket_cost.Reads as bucket-cost-reads
 use Rattle.row_list.proofs.insert.Reads as insert-reads
-use Rattle.search.proofs.walk.is_cut.Reads as is-cut-reads
-use Rattle.search.proofs.walk.next_head.Reads as next-head-reads
+use Rattle.row_list.proofs.is_past.Reads as is-past-reads
+use Rattle.search.proofs.walk.rest_of.Reads as rest-of-reads
 use Rattle.search.proofs.walk.+walk.{statement}
 use Rattle.search.proofs.walk.+walk.Tie.{close}
 
@@ -32,10 +35,12 @@ abbrev walk-below : ℕ → In 4 walk-kinds.ps
 walk-below t = and 4 walk-kinds.ps (falls 4 walk-kinds.ps _<_ μ-walk t) walk.Pre
 
 abbrev walk-Inv-loop : walk-lts.InvT-loop
-walk-Inv-loop list₀ patients terms entries v n m head s count found₀ bed₀ list found bed = Sofar entries patients terms v n m list₀ head s count list found bed
+walk-Inv-loop list₀ patients terms entries v n m head s count others bound before found₀ bed₀ list found bed =
+    Sofar entries patients terms v n m list₀ head s count list found bed
 
 abbrev walk-μ-loop : walk-lts.MeasureT-loop
-walk-μ-loop list₀ patients terms entries v n m head s count found₀ bed₀ list found bed = count - bed
+walk-μ-loop list₀ patients terms entries v n m head s count others bound before found₀ bed₀ list found bed =
+    count - bed
 
 walk-is-empty-requires : (t : ℕ) → walk-lts.Need-is-empty-requires (
   is-empty-reads.Asked,
@@ -46,10 +51,14 @@ walk-is-empty-requires : (t : ℕ) → walk-lts.Need-is-empty-requires (
   lowest-reads.Learnt,
   bed-count-reads.Asked,
   bed-count-reads.Learnt,
-  next-head-reads.Asked,
-  next-head-reads.Learnt,
-  is-cut-reads.Asked,
-  is-cut-reads.Learnt,
+  rest-of-reads.Asked,
+  rest-of-reads.Learnt,
+  place-reads.Asked,
+  place-reads.Learnt,
+  bucket-cost-reads.Asked,
+  bucket-cost-reads.Learnt,
+  is-past-reads.Asked,
+  is-past-reads.Learnt,
   walk-below t,
   walk.Post,
 ) (walk-at t) walk.Post walk-Inv-loop walk-μ-loop
@@ -64,10 +73,14 @@ walk-insert-requires : (t : ℕ) → walk-lts.Need-insert-requires (
   lowest-reads.Learnt,
   bed-count-reads.Asked,
   bed-count-reads.Learnt,
-  next-head-reads.Asked,
-  next-head-reads.Learnt,
-  is-cut-reads.Asked,
-  is-cut-reads.Learnt,
+  rest-of-reads.Asked,
+  rest-of-reads.Learnt,
+  place-reads.Asked,
+  place-reads.Learnt,
+  bucket-cost-reads.Asked,
+  bucket-cost-reads.Learnt,
+  is-past-reads.Asked,
+  is-past-reads.Learnt,
   walk-below t,
   walk.Post,
 ) (walk-at t) walk.Post walk-Inv-loop walk-μ-loop
@@ -82,10 +95,14 @@ walk-same-length : (t : ℕ) → walk-lts.Need-same-length (
   lowest-reads.Learnt,
   bed-count-reads.Asked,
   bed-count-reads.Learnt,
-  next-head-reads.Asked,
-  next-head-reads.Learnt,
-  is-cut-reads.Asked,
-  is-cut-reads.Learnt,
+  rest-of-reads.Asked,
+  rest-of-reads.Learnt,
+  place-reads.Asked,
+  place-reads.Learnt,
+  bucket-cost-reads.Asked,
+  bucket-cost-reads.Learnt,
+  is-past-reads.Asked,
+  is-past-reads.Learnt,
   walk-below t,
   walk.Post,
 ) (walk-at t) walk.Post walk-Inv-loop walk-μ-loop
@@ -100,10 +117,14 @@ walk-returns : (t : ℕ) → walk-lts.Need-returns (
   lowest-reads.Learnt,
   bed-count-reads.Asked,
   bed-count-reads.Learnt,
-  next-head-reads.Asked,
-  next-head-reads.Learnt,
-  is-cut-reads.Asked,
-  is-cut-reads.Learnt,
+  rest-of-reads.Asked,
+  rest-of-reads.Learnt,
+  place-reads.Asked,
+  place-reads.Learnt,
+  bucket-cost-reads.Asked,
+  bucket-cost-reads.Learnt,
+  is-past-reads.Asked,
+  is-past-reads.Learnt,
   walk-below t,
   walk.Post,
 ) (walk-at t) walk.Post walk-Inv-loop walk-μ-loop
@@ -118,10 +139,14 @@ walk-lowest-requires : (t : ℕ) → walk-lts.Need-lowest-requires (
   lowest-reads.Learnt,
   bed-count-reads.Asked,
   bed-count-reads.Learnt,
-  next-head-reads.Asked,
-  next-head-reads.Learnt,
-  is-cut-reads.Asked,
-  is-cut-reads.Learnt,
+  rest-of-reads.Asked,
+  rest-of-reads.Learnt,
+  place-reads.Asked,
+  place-reads.Learnt,
+  bucket-cost-reads.Asked,
+  bucket-cost-reads.Learnt,
+  is-past-reads.Asked,
+  is-past-reads.Learnt,
   walk-below t,
   walk.Post,
 ) (walk-at t) walk.Post walk-Inv-loop walk-μ-loop
@@ -136,10 +161,14 @@ walk-cast-s : (t : ℕ) → walk-lts.Need-cast-s (
   lowest-reads.Learnt,
   bed-count-reads.Asked,
   bed-count-reads.Learnt,
-  next-head-reads.Asked,
-  next-head-reads.Learnt,
-  is-cut-reads.Asked,
-  is-cut-reads.Learnt,
+  rest-of-reads.Asked,
+  rest-of-reads.Learnt,
+  place-reads.Asked,
+  place-reads.Learnt,
+  bucket-cost-reads.Asked,
+  bucket-cost-reads.Learnt,
+  is-past-reads.Asked,
+  is-past-reads.Learnt,
   walk-below t,
   walk.Post,
 ) (walk-at t) walk.Post walk-Inv-loop walk-μ-loop
@@ -154,14 +183,40 @@ walk-bed-count-requires : (t : ℕ) → walk-lts.Need-bed-count-requires (
   lowest-reads.Learnt,
   bed-count-reads.Asked,
   bed-count-reads.Learnt,
-  next-head-reads.Asked,
-  next-head-reads.Learnt,
-  is-cut-reads.Asked,
-  is-cut-reads.Learnt,
+  rest-of-reads.Asked,
+  rest-of-reads.Learnt,
+  place-reads.Asked,
+  place-reads.Learnt,
+  bucket-cost-reads.Asked,
+  bucket-cost-reads.Learnt,
+  is-past-reads.Asked,
+  is-past-reads.Learnt,
   walk-below t,
   walk.Post,
 ) (walk-at t) walk.Post walk-Inv-loop walk-μ-loop
 walk-bed-count-requires t c κs = few (c .before .before .before .before .before .pre .1 .heads) (lowest-first _ _ (sym (c .before .before .is-empty .ensures) ∙ c .before .if1 .left) (c .lowest .ensures))
+
+walk-rest-of-requires : (t : ℕ) → walk-lts.Need-rest-of-requires (
+  is-empty-reads.Asked,
+  is-empty-reads.Learnt,
+  insert-reads.Asked,
+  insert-reads.Learnt,
+  lowest-reads.Asked,
+  lowest-reads.Learnt,
+  bed-count-reads.Asked,
+  bed-count-reads.Learnt,
+  rest-of-reads.Asked,
+  rest-of-reads.Learnt,
+  place-reads.Asked,
+  place-reads.Learnt,
+  bucket-cost-reads.Asked,
+  bucket-cost-reads.Learnt,
+  is-past-reads.Asked,
+  is-past-reads.Learnt,
+  walk-below t,
+  walk.Post,
+) (walk-at t) walk.Post walk-Inv-loop walk-μ-loop
+walk-rest-of-requires t c κs = let lowest = (lowest-first _ _ (sym (c .before .before .before .is-empty .ensures) ∙ c .before .before .if1 .left) (c .before .lowest .ensures)) in record { few = few (c .before .before .before .before .before .before .pre .1 .heads) lowest; least = least-most (c .before .before .before .before .before .before .pre .1 .heads) lowest }
 
 walk-loop-holds : (t : ℕ) → walk-lts.Need-loop-holds (
   is-empty-reads.Asked,
@@ -172,16 +227,20 @@ walk-loop-holds : (t : ℕ) → walk-lts.Need-loop-holds (
   lowest-reads.Learnt,
   bed-count-reads.Asked,
   bed-count-reads.Learnt,
-  next-head-reads.Asked,
-  next-head-reads.Learnt,
-  is-cut-reads.Asked,
-  is-cut-reads.Learnt,
+  rest-of-reads.Asked,
+  rest-of-reads.Learnt,
+  place-reads.Asked,
+  place-reads.Learnt,
+  bucket-cost-reads.Asked,
+  bucket-cost-reads.Learnt,
+  is-past-reads.Asked,
+  is-past-reads.Learnt,
   walk-below t,
   walk.Post,
 ) (walk-at t) walk.Post walk-Inv-loop walk-μ-loop
-walk-loop-holds t c = sofar-start (c .before .before .before .before .before .before .pre .1) (drop 1 (remaining (c .before .before .before .before .before .before .args .head))) (lowest-first _ _ (sym (c .before .before .before .is-empty .ensures) ∙ c .before .before .if1 .left) (c .before .lowest .ensures)) (c .bed-count .ensures)
+walk-loop-holds t c = sofar-start (c .before .before .before .before .before .before .before .before .before .pre .1) (drop 1 (remaining (c .before .before .before .before .before .before .before .before .before .args .head))) (lowest-first _ _ (sym (c .before .before .before .before .before .before .is-empty .ensures) ∙ c .before .before .before .before .before .if1 .left) (c .before .before .before .before .lowest .ensures)) (c .before .before .before .bed-count .ensures)
 
-walk-cast-next-head : (t : ℕ) → walk-lts.Need-cast-next-head (
+walk-cast-place : (t : ℕ) → walk-lts.Need-cast-place (
   is-empty-reads.Asked,
   is-empty-reads.Learnt,
   insert-reads.Asked,
@@ -190,16 +249,20 @@ walk-cast-next-head : (t : ℕ) → walk-lts.Need-cast-next-head (
   lowest-reads.Learnt,
   bed-count-reads.Asked,
   bed-count-reads.Learnt,
-  next-head-reads.Asked,
-  next-head-reads.Learnt,
-  is-cut-reads.Asked,
-  is-cut-reads.Learnt,
+  rest-of-reads.Asked,
+  rest-of-reads.Learnt,
+  place-reads.Asked,
+  place-reads.Learnt,
+  bucket-cost-reads.Asked,
+  bucket-cost-reads.Learnt,
+  is-past-reads.Asked,
+  is-past-reads.Learnt,
   walk-below t,
   walk.Post,
 ) (walk-at t) walk.Post walk-Inv-loop walk-μ-loop
-walk-cast-next-head t c = omega (arith, bed-small (c .before .before .before .before .before .before .before .before .pre .1) (c .before .loop .inv) (c .loop-test .taken))
+walk-cast-place t c = omega (arith, bed-small (c .before .before .before .before .before .before .before .before .before .before .before .pre .1) (c .before .loop .inv) (c .loop-test .taken))
 
-walk-next-head-requires : (t : ℕ) → walk-lts.Need-next-head-requires (
+walk-place-requires : (t : ℕ) → walk-lts.Need-place-requires (
   is-empty-reads.Asked,
   is-empty-reads.Learnt,
   insert-reads.Asked,
@@ -208,16 +271,20 @@ walk-next-head-requires : (t : ℕ) → walk-lts.Need-next-head-requires (
   lowest-reads.Learnt,
   bed-count-reads.Asked,
   bed-count-reads.Learnt,
-  next-head-reads.Asked,
-  next-head-reads.Learnt,
-  is-cut-reads.Asked,
-  is-cut-reads.Learnt,
+  rest-of-reads.Asked,
+  rest-of-reads.Learnt,
+  place-reads.Asked,
+  place-reads.Learnt,
+  bucket-cost-reads.Asked,
+  bucket-cost-reads.Learnt,
+  is-past-reads.Asked,
+  is-past-reads.Learnt,
   walk-below t,
   walk.Post,
 ) (walk-at t) walk.Post walk-Inv-loop walk-μ-loop
-walk-next-head-requires t c κs = asks-next (c .before .before .before .before .before .before .before .before .pre .1) (c .before .loop .inv) (c .loop-test .taken)
+walk-place-requires t c κs = let asks = asks-next (c .before .before .before .before .before .before .before .before .before .before .before .pre .1) (c .before .loop .inv) (c .loop-test .taken) in (asks-few asks, asks-room asks)
 
-walk-is-cut-requires : (t : ℕ) → walk-lts.Need-is-cut-requires (
+walk-bucket-cost-requires : (t : ℕ) → walk-lts.Need-bucket-cost-requires (
   is-empty-reads.Asked,
   is-empty-reads.Learnt,
   insert-reads.Asked,
@@ -226,18 +293,106 @@ walk-is-cut-requires : (t : ℕ) → walk-lts.Need-is-cut-requires (
   lowest-reads.Learnt,
   bed-count-reads.Asked,
   bed-count-reads.Learnt,
-  next-head-reads.Asked,
-  next-head-reads.Learnt,
-  is-cut-reads.Asked,
-  is-cut-reads.Learnt,
+  rest-of-reads.Asked,
+  rest-of-reads.Learnt,
+  place-reads.Asked,
+  place-reads.Learnt,
+  bucket-cost-reads.Asked,
+  bucket-cost-reads.Learnt,
+  is-past-reads.Asked,
+  is-past-reads.Learnt,
   walk-below t,
   walk.Post,
 ) (walk-at t) walk.Post walk-Inv-loop walk-μ-loop
-walk-is-cut-requires t c κs =
-    let loop = c .before .before .before .before .before in
-    let below = c .before .before .before .next-head .ensures .allowed (c .before .before .if2 .taken) in
-    let pre = c .before .before .before .before .before .before .before .before .before .before .before .before .pre .1 in
-    record { room = room-now pre (loop .loop .inv); light = light-below (below .1) (pre .light) }
+walk-bucket-cost-requires t c κs = asks-price (asks-next (c .before .before .before .before .before .before .before .before .before .before .before .before .before .before .pre .1) (c .before .before .before .before .loop .inv) (c .before .before .before .loop-test .taken)) (c .before .before .place .ensures .0)
+
+walk-enum-known-cost : (t : ℕ) → walk-lts.Need-enum-known-cost (
+  is-empty-reads.Asked,
+  is-empty-reads.Learnt,
+  insert-reads.Asked,
+  insert-reads.Learnt,
+  lowest-reads.Asked,
+  lowest-reads.Learnt,
+  bed-count-reads.Asked,
+  bed-count-reads.Learnt,
+  rest-of-reads.Asked,
+  rest-of-reads.Learnt,
+  place-reads.Asked,
+  place-reads.Learnt,
+  bucket-cost-reads.Asked,
+  bucket-cost-reads.Learnt,
+  is-past-reads.Asked,
+  is-past-reads.Learnt,
+  walk-below t,
+  walk.Post,
+) (walk-at t) walk.Post walk-Inv-loop walk-μ-loop
+walk-enum-known-cost t c = search needs
+
+walk-add-sum : (t : ℕ) → walk-lts.Need-add-sum (
+  is-empty-reads.Asked,
+  is-empty-reads.Learnt,
+  insert-reads.Asked,
+  insert-reads.Learnt,
+  lowest-reads.Asked,
+  lowest-reads.Learnt,
+  bed-count-reads.Asked,
+  bed-count-reads.Learnt,
+  rest-of-reads.Asked,
+  rest-of-reads.Learnt,
+  place-reads.Asked,
+  place-reads.Learnt,
+  bucket-cost-reads.Asked,
+  bucket-cost-reads.Learnt,
+  is-past-reads.Asked,
+  is-past-reads.Learnt,
+  walk-below t,
+  walk.Post,
+) (walk-at t) walk.Post walk-Inv-loop walk-μ-loop
+walk-add-sum t c = omega (arith, c .before .before .before .before .bucket-cost .ensures .most _ (ap costIn (c .before .before .cost .given .1)), c .before .before .before .before .before .before .before .before .before .before .before .before .before .before .before .before .before .before .before .pre .1 .light .cost, c .before .before .before .before .before .before .before .before .before .before .before .before .before .before .before .before .before .before .before .pre .1 .light .placed)
+
+walk-add-is-past : (t : ℕ) → walk-lts.Need-add-is-past (
+  is-empty-reads.Asked,
+  is-empty-reads.Learnt,
+  insert-reads.Asked,
+  insert-reads.Learnt,
+  lowest-reads.Asked,
+  lowest-reads.Learnt,
+  bed-count-reads.Asked,
+  bed-count-reads.Learnt,
+  rest-of-reads.Asked,
+  rest-of-reads.Learnt,
+  place-reads.Asked,
+  place-reads.Learnt,
+  bucket-cost-reads.Asked,
+  bucket-cost-reads.Learnt,
+  is-past-reads.Asked,
+  is-past-reads.Learnt,
+  walk-below t,
+  walk.Post,
+) (walk-at t) walk.Post walk-Inv-loop walk-μ-loop
+walk-add-is-past t c = omega (arith, c .before .before .before .before .before .bucket-cost .ensures .most _ (ap costIn (c .before .before .before .cost .given .1)), c .before .before .before .before .before .before .before .before .before .before .before .before .before .before .before .before .before .before .before .before .pre .1 .light .cost, c .before .before .before .before .before .before .before .before .before .before .before .before .before .before .before .before .before .before .before .before .pre .1 .light .placed, c .before .before .before .before .before .before .before .before .before .before .before .before .before .before .before .before .before .before .before .before .pre .1 .light .bound, c .before .before .before .before .before .before .before .before .before .before .before .before .before .rest-of .ensures .bound)
+
+walk-is-past-requires : (t : ℕ) → walk-lts.Need-is-past-requires (
+  is-empty-reads.Asked,
+  is-empty-reads.Learnt,
+  insert-reads.Asked,
+  insert-reads.Learnt,
+  lowest-reads.Asked,
+  lowest-reads.Learnt,
+  bed-count-reads.Asked,
+  bed-count-reads.Learnt,
+  rest-of-reads.Asked,
+  rest-of-reads.Learnt,
+  place-reads.Asked,
+  place-reads.Learnt,
+  bucket-cost-reads.Asked,
+  bucket-cost-reads.Learnt,
+  is-past-reads.Asked,
+  is-past-reads.Learnt,
+  walk-below t,
+  walk.Post,
+) (walk-at t) walk.Post walk-Inv-loop walk-μ-loop
+walk-is-past-requires t c κs = (room-now (c .before .before .before .before .before .before .before .before .before .before .before .before .before .before .before .before .before .before .before .before .before .before .pre .1) (c .before .before .before .before .before .before .before .before .before .before .before .before .loop .inv), rw (c .before .before .before .before .before .before .before .before .before .before .place .ensures .0) (simp length-set (c .before .before .before .before .before .before .before .before .before .before .before .before .before .before .before .before .before .before .before .before .before .before .pre .1 .light .beds)))
 
 walk-walk-requires : (t : ℕ) → walk-lts.Need-walk-requires (
   is-empty-reads.Asked,
@@ -248,18 +403,45 @@ walk-walk-requires : (t : ℕ) → walk-lts.Need-walk-requires (
   lowest-reads.Learnt,
   bed-count-reads.Asked,
   bed-count-reads.Learnt,
-  next-head-reads.Asked,
-  next-head-reads.Learnt,
-  is-cut-reads.Asked,
-  is-cut-reads.Learnt,
+  rest-of-reads.Asked,
+  rest-of-reads.Learnt,
+  place-reads.Asked,
+  place-reads.Learnt,
+  bucket-cost-reads.Asked,
+  bucket-cost-reads.Learnt,
+  is-past-reads.Asked,
+  is-past-reads.Learnt,
   walk-below t,
   walk.Post,
 ) (walk-at t) walk.Post walk-Inv-loop walk-μ-loop
 walk-walk-requires t c κs =
-    let loop = c .before .before .before .before .before .before .before .before in
-    let below = c .before .before .before .before .before .before .next-head .ensures .allowed (c .before .before .before .before .before .if2 .taken) in
-    let pre = c .before .before .before .before .before .before .before .before .before .before .before .before .before .before .before .pre in
-    (omega (arith, pre .0, ap length (below .1 .left)), asks-below (pre .1) (loop .loop .inv) (c .before .before .before .before .before .before .before .loop-test .taken) (below .1) (below .2))
+    let pre = c .before .before .before .before .before .before .before .before .before .before .before .before .before .before .before .before .before .before .before .before .before .before .before .before .before .pre in
+    let inv = c .before .before .before .before .before .before .before .before .before .before .before .before .before .before .before .loop .inv in
+    let more = c .before .before .before .before .before .before .before .before .before .before .before .before .before .before .loop-test .taken in
+    let is = below-head (inv .others) (inv .lowest) (c .before .before .before .before .before .before .before .before .before .before .before .before .before .before .before .before .before .before .rest-of .ensures) (c .before .before .before .before .before .before .before .before .before .before .before .before .before .place .ensures .0) (c .before .before .before .before .before .before .before .before .before .before .before .before .before .place .ensures .1) (c .before .before .before .before .before .before .before .before .before .before .bucket-cost .ensures .most _ (ap costIn (c .before .before .before .before .before .before .before .before .cost .given .1))) in
+    (omega (arith, pre .0, ap length (is .left)), asks-below (pre .1) inv more is (decides (asks-next (pre .1) inv more) (c .before .before .before .before .before .before .before .before .before .before .before .before .before .place .ensures .0) (c .before .before .before .before .before .before .before .before .before .before .bucket-cost .ensures) (ap costIn (c .before .before .before .before .before .before .before .before .cost .given .1))))
+
+walk-enum-told : (t : ℕ) → walk-lts.Need-enum-told (
+  is-empty-reads.Asked,
+  is-empty-reads.Learnt,
+  insert-reads.Asked,
+  insert-reads.Learnt,
+  lowest-reads.Asked,
+  lowest-reads.Learnt,
+  bed-count-reads.Asked,
+  bed-count-reads.Learnt,
+  rest-of-reads.Asked,
+  rest-of-reads.Learnt,
+  place-reads.Asked,
+  place-reads.Learnt,
+  bucket-cost-reads.Asked,
+  bucket-cost-reads.Learnt,
+  is-past-reads.Asked,
+  is-past-reads.Learnt,
+  walk-below t,
+  walk.Post,
+) (walk-at t) walk.Post walk-Inv-loop walk-μ-loop
+walk-enum-told t c = search needs
 
 walk-add-bed : (t : ℕ) → walk-lts.Need-add-bed (
   is-empty-reads.Asked,
@@ -270,10 +452,14 @@ walk-add-bed : (t : ℕ) → walk-lts.Need-add-bed (
   lowest-reads.Learnt,
   bed-count-reads.Asked,
   bed-count-reads.Learnt,
-  next-head-reads.Asked,
-  next-head-reads.Learnt,
-  is-cut-reads.Asked,
-  is-cut-reads.Learnt,
+  rest-of-reads.Asked,
+  rest-of-reads.Learnt,
+  place-reads.Asked,
+  place-reads.Learnt,
+  bucket-cost-reads.Asked,
+  bucket-cost-reads.Learnt,
+  is-past-reads.Asked,
+  is-past-reads.Learnt,
   walk-below t,
   walk.Post,
 ) (walk-at t) walk.Post walk-Inv-loop walk-μ-loop
@@ -288,10 +474,14 @@ walk-loop-less : (t : ℕ) → walk-lts.Need-loop-less (
   lowest-reads.Learnt,
   bed-count-reads.Asked,
   bed-count-reads.Learnt,
-  next-head-reads.Asked,
-  next-head-reads.Learnt,
-  is-cut-reads.Asked,
-  is-cut-reads.Learnt,
+  rest-of-reads.Asked,
+  rest-of-reads.Learnt,
+  place-reads.Asked,
+  place-reads.Learnt,
+  bucket-cost-reads.Asked,
+  bucket-cost-reads.Learnt,
+  is-past-reads.Asked,
+  is-past-reads.Learnt,
   walk-below t,
   walk.Post,
 ) (walk-at t) walk.Post walk-Inv-loop walk-μ-loop
@@ -306,24 +496,35 @@ walk-loop-again : (t : ℕ) → walk-lts.Need-loop-again (
   lowest-reads.Learnt,
   bed-count-reads.Asked,
   bed-count-reads.Learnt,
-  next-head-reads.Asked,
-  next-head-reads.Learnt,
-  is-cut-reads.Asked,
-  is-cut-reads.Learnt,
+  rest-of-reads.Asked,
+  rest-of-reads.Learnt,
+  place-reads.Asked,
+  place-reads.Learnt,
+  bucket-cost-reads.Asked,
+  bucket-cost-reads.Learnt,
+  is-past-reads.Asked,
+  is-past-reads.Learnt,
   walk-below t,
   walk.Post,
 ) (walk-at t) walk.Post walk-Inv-loop walk-μ-loop
+unfolding pastHead
 walk-loop-again t c =
-    let loop = c .before .before .before in
-    let pre = c .before .before .before .before .before .before .before .before .before .before .pre .1 in
-    let more = c .before .before .loop-test .taken in
-    let next = c .before .next-head .ensures in
+    let pre = c .before .before .before .before .before .before .before .before .before .before .before .before .before .before .before .before .pre .1 in
+    let inv = c .before .before .before .before .before .before .loop .inv in
+    let more = c .before .before .before .before .before .loop-test .taken in
+    let placed = c .before .before .before .before .place .ensures in
+    let priced = c .before .bucket-cost .ensures in
+    let rest = c .before .before .before .before .before .before .before .before .before .rest-of .ensures in
     ⊎-elim
-    (λ w. let below = next .allowed (w .0 .taken) in rw (w .9, w .10) (sofar-walk pre (loop .loop .inv) more (below .1) (below .2) (w .6 .ensures)))
+    (λ w.
+    let is = ap costIn (w .1 .given .1) in
+    rw (w .13, w .14) (sofar-walk pre inv more (below-head (inv .others) (inv .lowest) rest (placed .0) (placed .1) (priced .most _ is)) (decides (asks-next pre inv more) (placed .0) priced is) (w .10 .ensures)))
     (⊎-elim
-    (λ w. let below = next .allowed (w .0 .taken) in rw (w .5, w .6) (sofar-cut pre (loop .loop .inv) more (below .1) (below .2) (sym (w .3 .ensures) ∙ not-false _ (w .4 .left))))
-    (λ w. rw (w .1, w .2) (sofar-skip pre (loop .loop .inv) more (next .forbidden (w .0 .left)))))
-    (c .if2 .came)
+    (λ w.
+    let is = ap costIn (w .1 .given .1) in
+    rw (w .9, w .10) (sofar-cut pre inv more (below-head (inv .others) (inv .lowest) rest (placed .0) (placed .1) (priced .most _ is)) (decides (asks-next pre inv more) (placed .0) priced is) (sym (w .7 .ensures) ∙ not-false _ (w .8 .left))))
+    (λ w. rw (w .2, w .3) (sofar-skip pre inv more (decides (asks-next pre inv more) (placed .0) priced (ap costIn (w .1 .given .1))))))
+    (c .match .came)
 
 walk-same-length-2 : (t : ℕ) → walk-lts.Need-same-length-2 (
   is-empty-reads.Asked,
@@ -334,10 +535,14 @@ walk-same-length-2 : (t : ℕ) → walk-lts.Need-same-length-2 (
   lowest-reads.Learnt,
   bed-count-reads.Asked,
   bed-count-reads.Learnt,
-  next-head-reads.Asked,
-  next-head-reads.Learnt,
-  is-cut-reads.Asked,
-  is-cut-reads.Learnt,
+  rest-of-reads.Asked,
+  rest-of-reads.Learnt,
+  place-reads.Asked,
+  place-reads.Learnt,
+  bucket-cost-reads.Asked,
+  bucket-cost-reads.Learnt,
+  is-past-reads.Asked,
+  is-past-reads.Learnt,
   walk-below t,
   walk.Post,
 ) (walk-at t) walk.Post walk-Inv-loop walk-μ-loop
@@ -352,14 +557,18 @@ walk-returns-2 : (t : ℕ) → walk-lts.Need-returns-2 (
   lowest-reads.Learnt,
   bed-count-reads.Asked,
   bed-count-reads.Learnt,
-  next-head-reads.Asked,
-  next-head-reads.Learnt,
-  is-cut-reads.Asked,
-  is-cut-reads.Learnt,
+  rest-of-reads.Asked,
+  rest-of-reads.Learnt,
+  place-reads.Asked,
+  place-reads.Learnt,
+  bucket-cost-reads.Asked,
+  bucket-cost-reads.Learnt,
+  is-past-reads.Asked,
+  is-past-reads.Learnt,
   walk-below t,
   walk.Post,
 ) (walk-at t) walk.Post walk-Inv-loop walk-μ-loop
-walk-returns-2 t c = sofar-done (c .before .before .before .before .before .before .before .before .pre .1) (c .before .loop .inv) (c .loop-test .left)
+walk-returns-2 t c = sofar-done (c .before .before .before .before .before .before .before .before .before .before .before .pre .1) (c .before .loop .inv) (c .loop-test .left)
 
 pub +walk-spec : {M : Type 1} → statement M
 +walk-spec = close μ-walk λ t. walk-lts.spec (
@@ -371,10 +580,14 @@ pub +walk-spec : {M : Type 1} → statement M
   lowest-reads.Learnt,
   bed-count-reads.Asked,
   bed-count-reads.Learnt,
-  next-head-reads.Asked,
-  next-head-reads.Learnt,
-  is-cut-reads.Asked,
-  is-cut-reads.Learnt,
+  rest-of-reads.Asked,
+  rest-of-reads.Learnt,
+  place-reads.Asked,
+  place-reads.Learnt,
+  bucket-cost-reads.Asked,
+  bucket-cost-reads.Learnt,
+  is-past-reads.Asked,
+  is-past-reads.Learnt,
   walk-below t,
   walk.Post,
 )
@@ -389,11 +602,17 @@ pub +walk-spec : {M : Type 1} → statement M
     (walk-lowest-requires t)
     (walk-cast-s t)
     (walk-bed-count-requires t)
+    (walk-rest-of-requires t)
     (walk-loop-holds t)
-    (walk-cast-next-head t)
-    (walk-next-head-requires t)
-    (walk-is-cut-requires t)
+    (walk-cast-place t)
+    (walk-place-requires t)
+    (walk-bucket-cost-requires t)
+    (walk-enum-known-cost t)
+    (walk-add-sum t)
+    (walk-add-is-past t)
+    (walk-is-past-requires t)
     (walk-walk-requires t)
+    (walk-enum-told t)
     (walk-add-bed t)
     (walk-loop-less t)
     (walk-loop-again t)
