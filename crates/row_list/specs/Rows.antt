@@ -38,6 +38,10 @@ pub record RowHeld (v i : ℕ) (area : List ℕ) : Type 0 where
   pub patients : v ≤ 32
   pub inside : i * 34 + 34 ≤ length area
 
+-- The cost of row i, which is the same for any number of patients.
+abbrev pub CostRead : ℕ → List ℕ → ℕ → Type 0
+CostRead i area cost = (v : ℕ) → cost ≡ rowIn v area i .cost
+
 -- The row that was read, with bed 0 for those who are no patients.
 pub record RowRead (v i : ℕ) (area : List ℕ) (r : Row) : Type 0 where
   pub row : rowOf v r ≡ rowIn v area i

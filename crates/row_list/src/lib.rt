@@ -6,7 +6,7 @@ ghost use Prim.Native.Nat.{_+_, _-_, _*_, _/_, _%_, _<_, _≤_};
 ghost use lib.Dec.{eqb};
 ghost use lib.ListN.{length};
 ghost use Rattle.definitions.specs.Plans.{compareRows};
-ghost use Rattle.row_list.specs.Rows.{rowWith, rowOf, rowIn, beforeOr, isBefore, RowHeld, RowRead, Stored, Room, Inserted};
+ghost use Rattle.row_list.specs.Rows.{rowWith, rowOf, rowIn, beforeOr, isBefore, RowHeld, CostRead, RowRead, Stored, Room, Inserted};
 ghost use Rattle.row_list.specs.Steps.{Place, Moved};
 
 // A row by value: its cost, and a bed for each of 32 patients.
@@ -44,6 +44,14 @@ fn word_of(bed: u8) -> u32
     ensures { λ r. ⌜ (r ≡ bed) × (r < 256) ⌝ }
 {
     bed as u32
+}
+
+// The cost of row i of the list, for any number of patients.
+pub fn cost_at(list: &[u32], i: usize) -> u64
+    requires { ⌜ i * 34 + 34 ≤ length (now list) ⌝ }
+    ensures { λ r. ⌜ CostRead i (now (list .entry)) r ⌝ }
+{
+    cost_of(list[i * 34], list[i * 34 + 1])
 }
 
 // Row i of the list.

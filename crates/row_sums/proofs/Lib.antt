@@ -2,3 +2,4 @@ pub mod Adding
 pub mod Joining
 pub mod Copying
 pub mod Finding
+pub mod Skipping

@@ -1,6 +1,6 @@
 -- What the steps of the sums give: two rows added, a row added to each of a list, and the sums copied back.
 use Prim.Native.Nat.{_≤_}
-use Rattle.definitions.specs.Basics.{ℕ, zero, suc, _+_, _<_, _≡_, List, [], _∷_, _++_, map, length, getD, take, sort}
+use Rattle.definitions.specs.Basics.{ℕ, zero, suc, _+_, _-_, _<_, _≡_, List, [], _∷_, _++_, map, length, getD, take, sort}
 use Rattle.definitions.specs.Plans.{Row, compareRows}
 use Rattle.ranking.specs.Combining.{cross}
 use Rattle.partial_rows.specs.Adding.{addRows}
@@ -22,6 +22,11 @@ backwards v (suc n) area = rowIn v area n ∷ backwards v n area
 -- The third list holds the first m of these sums.
 abbrev pub Holds : ℕ → ℕ → ℕ → List ℕ → List Row → Type 0
 Holds v m n work sums = listAt v n 2 work ≡ take m (sort compareRows sums)
+
+-- The list is full, and its last row costs less than this.
+pub record Dear (n m cost : ℕ) (area : List ℕ) : Type 0 where
+  pub full : n ≡ m
+  pub last : (v : ℕ) → rowIn v area (m - 1) .cost < cost
 
 pub record AsksRow (v m n b : ℕ) (x : Code.Row) (work : List ℕ) : Type 0 where
   pub patients : v ≤ 32
