@@ -34,544 +34,9 @@ walk-at t = and 4 walk-kinds.ps (is 4 walk-kinds.ps μ-walk t) walk.Pre
 abbrev walk-below : ℕ → In 4 walk-kinds.ps
 walk-below t = and 4 walk-kinds.ps (falls 4 walk-kinds.ps _<_ μ-walk t) walk.Pre
 
-abbrev walk-Inv-loop : walk-lts.InvT-loop
-walk-Inv-loop list₀ patients terms entries v n m head s count others bound before found₀ bed₀ list found bed =
-    Sofar entries patients terms v n m list₀ head s count list found bed
-
-abbrev walk-μ-loop : walk-lts.MeasureT-loop
-walk-μ-loop list₀ patients terms entries v n m head s count others bound before found₀ bed₀ list found bed =
-    count - bed
-
-walk-is-empty-requires : (t : ℕ) → walk-lts.Need-is-empty-requires (
-  is-empty-reads.Asked,
-  is-empty-reads.Learnt,
-  insert-reads.Asked,
-  insert-reads.Learnt,
-  lowest-reads.Asked,
-  lowest-reads.Learnt,
-  bed-count-reads.Asked,
-  bed-count-reads.Learnt,
-  rest-of-reads.Asked,
-  rest-of-reads.Learnt,
-  place-reads.Asked,
-  place-reads.Learnt,
-  bucket-cost-reads.Asked,
-  bucket-cost-reads.Learnt,
-  is-past-reads.Asked,
-  is-past-reads.Learnt,
-  walk-below t,
-  walk.Post,
-) (walk-at t) walk.Post walk-Inv-loop walk-μ-loop
-walk-is-empty-requires t c κs = search needs
-
-walk-insert-requires : (t : ℕ) → walk-lts.Need-insert-requires (
-  is-empty-reads.Asked,
-  is-empty-reads.Learnt,
-  insert-reads.Asked,
-  insert-reads.Learnt,
-  lowest-reads.Asked,
-  lowest-reads.Learnt,
-  bed-count-reads.Asked,
-  bed-count-reads.Learnt,
-  rest-of-reads.Asked,
-  rest-of-reads.Learnt,
-  place-reads.Asked,
-  place-reads.Learnt,
-  bucket-cost-reads.Asked,
-  bucket-cost-reads.Learnt,
-  is-past-reads.Asked,
-  is-past-reads.Learnt,
-  walk-below t,
-  walk.Post,
-) (walk-at t) walk.Post walk-Inv-loop walk-μ-loop
-walk-insert-requires t c κs = search needs
-
-walk-same-length : (t : ℕ) → walk-lts.Need-same-length (
-  is-empty-reads.Asked,
-  is-empty-reads.Learnt,
-  insert-reads.Asked,
-  insert-reads.Learnt,
-  lowest-reads.Asked,
-  lowest-reads.Learnt,
-  bed-count-reads.Asked,
-  bed-count-reads.Learnt,
-  rest-of-reads.Asked,
-  rest-of-reads.Learnt,
-  place-reads.Asked,
-  place-reads.Learnt,
-  bucket-cost-reads.Asked,
-  bucket-cost-reads.Learnt,
-  is-past-reads.Asked,
-  is-past-reads.Learnt,
-  walk-below t,
-  walk.Post,
-) (walk-at t) walk.Post walk-Inv-loop walk-μ-loop
-walk-same-length t c = search needs
-
-walk-returns : (t : ℕ) → walk-lts.Need-returns (
-  is-empty-reads.Asked,
-  is-empty-reads.Learnt,
-  insert-reads.Asked,
-  insert-reads.Learnt,
-  lowest-reads.Asked,
-  lowest-reads.Learnt,
-  bed-count-reads.Asked,
-  bed-count-reads.Learnt,
-  rest-of-reads.Asked,
-  rest-of-reads.Learnt,
-  place-reads.Asked,
-  place-reads.Learnt,
-  bucket-cost-reads.Asked,
-  bucket-cost-reads.Learnt,
-  is-past-reads.Asked,
-  is-past-reads.Learnt,
-  walk-below t,
-  walk.Post,
-) (walk-at t) walk.Post walk-Inv-loop walk-μ-loop
-walk-returns t c = walk-end (sym (c .before .before .before .before .before .before .before .is-empty .ensures) ∙ c .before .before .before .before .before .before .if1 .taken) (c .before .before .insert .ensures .count) (c .before .before .insert .ensures .long) (c .before .before .insert .ensures .rows)
-
-walk-lowest-requires : (t : ℕ) → walk-lts.Need-lowest-requires (
-  is-empty-reads.Asked,
-  is-empty-reads.Learnt,
-  insert-reads.Asked,
-  insert-reads.Learnt,
-  lowest-reads.Asked,
-  lowest-reads.Learnt,
-  bed-count-reads.Asked,
-  bed-count-reads.Learnt,
-  rest-of-reads.Asked,
-  rest-of-reads.Learnt,
-  place-reads.Asked,
-  place-reads.Learnt,
-  bucket-cost-reads.Asked,
-  bucket-cost-reads.Learnt,
-  is-past-reads.Asked,
-  is-past-reads.Learnt,
-  walk-below t,
-  walk.Post,
-) (walk-at t) walk.Post walk-Inv-loop walk-μ-loop
-walk-lowest-requires t c κs = search needs
-
-walk-cast-s : (t : ℕ) → walk-lts.Need-cast-s (
-  is-empty-reads.Asked,
-  is-empty-reads.Learnt,
-  insert-reads.Asked,
-  insert-reads.Learnt,
-  lowest-reads.Asked,
-  lowest-reads.Learnt,
-  bed-count-reads.Asked,
-  bed-count-reads.Learnt,
-  rest-of-reads.Asked,
-  rest-of-reads.Learnt,
-  place-reads.Asked,
-  place-reads.Learnt,
-  bucket-cost-reads.Asked,
-  bucket-cost-reads.Learnt,
-  is-past-reads.Asked,
-  is-past-reads.Learnt,
-  walk-below t,
-  walk.Post,
-) (walk-at t) walk.Post walk-Inv-loop walk-μ-loop
-walk-cast-s t c = search needs
-
-walk-bed-count-requires : (t : ℕ) → walk-lts.Need-bed-count-requires (
-  is-empty-reads.Asked,
-  is-empty-reads.Learnt,
-  insert-reads.Asked,
-  insert-reads.Learnt,
-  lowest-reads.Asked,
-  lowest-reads.Learnt,
-  bed-count-reads.Asked,
-  bed-count-reads.Learnt,
-  rest-of-reads.Asked,
-  rest-of-reads.Learnt,
-  place-reads.Asked,
-  place-reads.Learnt,
-  bucket-cost-reads.Asked,
-  bucket-cost-reads.Learnt,
-  is-past-reads.Asked,
-  is-past-reads.Learnt,
-  walk-below t,
-  walk.Post,
-) (walk-at t) walk.Post walk-Inv-loop walk-μ-loop
-walk-bed-count-requires t c κs = few (c .before .before .before .before .before .pre .1 .heads) (lowest-first _ _ (sym (c .before .before .is-empty .ensures) ∙ c .before .if1 .left) (c .lowest .ensures))
-
-walk-rest-of-requires : (t : ℕ) → walk-lts.Need-rest-of-requires (
-  is-empty-reads.Asked,
-  is-empty-reads.Learnt,
-  insert-reads.Asked,
-  insert-reads.Learnt,
-  lowest-reads.Asked,
-  lowest-reads.Learnt,
-  bed-count-reads.Asked,
-  bed-count-reads.Learnt,
-  rest-of-reads.Asked,
-  rest-of-reads.Learnt,
-  place-reads.Asked,
-  place-reads.Learnt,
-  bucket-cost-reads.Asked,
-  bucket-cost-reads.Learnt,
-  is-past-reads.Asked,
-  is-past-reads.Learnt,
-  walk-below t,
-  walk.Post,
-) (walk-at t) walk.Post walk-Inv-loop walk-μ-loop
-walk-rest-of-requires t c κs = let lowest = (lowest-first _ _ (sym (c .before .before .before .is-empty .ensures) ∙ c .before .before .if1 .left) (c .before .lowest .ensures)) in record { few = few (c .before .before .before .before .before .before .pre .1 .heads) lowest; least = least-most (c .before .before .before .before .before .before .pre .1 .heads) lowest }
-
-walk-loop-holds : (t : ℕ) → walk-lts.Need-loop-holds (
-  is-empty-reads.Asked,
-  is-empty-reads.Learnt,
-  insert-reads.Asked,
-  insert-reads.Learnt,
-  lowest-reads.Asked,
-  lowest-reads.Learnt,
-  bed-count-reads.Asked,
-  bed-count-reads.Learnt,
-  rest-of-reads.Asked,
-  rest-of-reads.Learnt,
-  place-reads.Asked,
-  place-reads.Learnt,
-  bucket-cost-reads.Asked,
-  bucket-cost-reads.Learnt,
-  is-past-reads.Asked,
-  is-past-reads.Learnt,
-  walk-below t,
-  walk.Post,
-) (walk-at t) walk.Post walk-Inv-loop walk-μ-loop
-walk-loop-holds t c = sofar-start (c .before .before .before .before .before .before .before .before .before .pre .1) (drop 1 (remaining (c .before .before .before .before .before .before .before .before .before .args .head))) (lowest-first _ _ (sym (c .before .before .before .before .before .before .is-empty .ensures) ∙ c .before .before .before .before .before .if1 .left) (c .before .before .before .before .lowest .ensures)) (c .before .before .before .bed-count .ensures)
-
-walk-cast-place : (t : ℕ) → walk-lts.Need-cast-place (
-  is-empty-reads.Asked,
-  is-empty-reads.Learnt,
-  insert-reads.Asked,
-  insert-reads.Learnt,
-  lowest-reads.Asked,
-  lowest-reads.Learnt,
-  bed-count-reads.Asked,
-  bed-count-reads.Learnt,
-  rest-of-reads.Asked,
-  rest-of-reads.Learnt,
-  place-reads.Asked,
-  place-reads.Learnt,
-  bucket-cost-reads.Asked,
-  bucket-cost-reads.Learnt,
-  is-past-reads.Asked,
-  is-past-reads.Learnt,
-  walk-below t,
-  walk.Post,
-) (walk-at t) walk.Post walk-Inv-loop walk-μ-loop
-walk-cast-place t c = omega (arith, bed-small (c .before .before .before .before .before .before .before .before .before .before .before .pre .1) (c .before .loop .inv) (c .loop-test .taken))
-
-walk-place-requires : (t : ℕ) → walk-lts.Need-place-requires (
-  is-empty-reads.Asked,
-  is-empty-reads.Learnt,
-  insert-reads.Asked,
-  insert-reads.Learnt,
-  lowest-reads.Asked,
-  lowest-reads.Learnt,
-  bed-count-reads.Asked,
-  bed-count-reads.Learnt,
-  rest-of-reads.Asked,
-  rest-of-reads.Learnt,
-  place-reads.Asked,
-  place-reads.Learnt,
-  bucket-cost-reads.Asked,
-  bucket-cost-reads.Learnt,
-  is-past-reads.Asked,
-  is-past-reads.Learnt,
-  walk-below t,
-  walk.Post,
-) (walk-at t) walk.Post walk-Inv-loop walk-μ-loop
-walk-place-requires t c κs = let asks = asks-next (c .before .before .before .before .before .before .before .before .before .before .before .pre .1) (c .before .loop .inv) (c .loop-test .taken) in (asks-few asks, asks-room asks)
-
-walk-bucket-cost-requires : (t : ℕ) → walk-lts.Need-bucket-cost-requires (
-  is-empty-reads.Asked,
-  is-empty-reads.Learnt,
-  insert-reads.Asked,
-  insert-reads.Learnt,
-  lowest-reads.Asked,
-  lowest-reads.Learnt,
-  bed-count-reads.Asked,
-  bed-count-reads.Learnt,
-  rest-of-reads.Asked,
-  rest-of-reads.Learnt,
-  place-reads.Asked,
-  place-reads.Learnt,
-  bucket-cost-reads.Asked,
-  bucket-cost-reads.Learnt,
-  is-past-reads.Asked,
-  is-past-reads.Learnt,
-  walk-below t,
-  walk.Post,
-) (walk-at t) walk.Post walk-Inv-loop walk-μ-loop
-walk-bucket-cost-requires t c κs = asks-price (asks-next (c .before .before .before .before .before .before .before .before .before .before .before .before .before .before .pre .1) (c .before .before .before .before .loop .inv) (c .before .before .before .loop-test .taken)) (c .before .before .place .ensures .0)
-
-walk-enum-known-cost : (t : ℕ) → walk-lts.Need-enum-known-cost (
-  is-empty-reads.Asked,
-  is-empty-reads.Learnt,
-  insert-reads.Asked,
-  insert-reads.Learnt,
-  lowest-reads.Asked,
-  lowest-reads.Learnt,
-  bed-count-reads.Asked,
-  bed-count-reads.Learnt,
-  rest-of-reads.Asked,
-  rest-of-reads.Learnt,
-  place-reads.Asked,
-  place-reads.Learnt,
-  bucket-cost-reads.Asked,
-  bucket-cost-reads.Learnt,
-  is-past-reads.Asked,
-  is-past-reads.Learnt,
-  walk-below t,
-  walk.Post,
-) (walk-at t) walk.Post walk-Inv-loop walk-μ-loop
-walk-enum-known-cost t c = search needs
-
-walk-add-sum : (t : ℕ) → walk-lts.Need-add-sum (
-  is-empty-reads.Asked,
-  is-empty-reads.Learnt,
-  insert-reads.Asked,
-  insert-reads.Learnt,
-  lowest-reads.Asked,
-  lowest-reads.Learnt,
-  bed-count-reads.Asked,
-  bed-count-reads.Learnt,
-  rest-of-reads.Asked,
-  rest-of-reads.Learnt,
-  place-reads.Asked,
-  place-reads.Learnt,
-  bucket-cost-reads.Asked,
-  bucket-cost-reads.Learnt,
-  is-past-reads.Asked,
-  is-past-reads.Learnt,
-  walk-below t,
-  walk.Post,
-) (walk-at t) walk.Post walk-Inv-loop walk-μ-loop
-walk-add-sum t c = omega (arith, c .before .before .before .before .bucket-cost .ensures .most _ (ap costIn (c .before .before .cost .given .1)), c .before .before .before .before .before .before .before .before .before .before .before .before .before .before .before .before .before .before .before .pre .1 .light .cost, c .before .before .before .before .before .before .before .before .before .before .before .before .before .before .before .before .before .before .before .pre .1 .light .placed)
-
-walk-add-is-past : (t : ℕ) → walk-lts.Need-add-is-past (
-  is-empty-reads.Asked,
-  is-empty-reads.Learnt,
-  insert-reads.Asked,
-  insert-reads.Learnt,
-  lowest-reads.Asked,
-  lowest-reads.Learnt,
-  bed-count-reads.Asked,
-  bed-count-reads.Learnt,
-  rest-of-reads.Asked,
-  rest-of-reads.Learnt,
-  place-reads.Asked,
-  place-reads.Learnt,
-  bucket-cost-reads.Asked,
-  bucket-cost-reads.Learnt,
-  is-past-reads.Asked,
-  is-past-reads.Learnt,
-  walk-below t,
-  walk.Post,
-) (walk-at t) walk.Post walk-Inv-loop walk-μ-loop
-walk-add-is-past t c = omega (arith, c .before .before .before .before .before .bucket-cost .ensures .most _ (ap costIn (c .before .before .before .cost .given .1)), c .before .before .before .before .before .before .before .before .before .before .before .before .before .before .before .before .before .before .before .before .pre .1 .light .cost, c .before .before .before .before .before .before .before .before .before .before .before .before .before .before .before .before .before .before .before .before .pre .1 .light .placed, c .before .before .before .before .before .before .before .before .before .before .before .before .before .before .before .before .before .before .before .before .pre .1 .light .bound, c .before .before .before .before .before .before .before .before .before .before .before .before .before .rest-of .ensures .bound)
-
-walk-is-past-requires : (t : ℕ) → walk-lts.Need-is-past-requires (
-  is-empty-reads.Asked,
-  is-empty-reads.Learnt,
-  insert-reads.Asked,
-  insert-reads.Learnt,
-  lowest-reads.Asked,
-  lowest-reads.Learnt,
-  bed-count-reads.Asked,
-  bed-count-reads.Learnt,
-  rest-of-reads.Asked,
-  rest-of-reads.Learnt,
-  place-reads.Asked,
-  place-reads.Learnt,
-  bucket-cost-reads.Asked,
-  bucket-cost-reads.Learnt,
-  is-past-reads.Asked,
-  is-past-reads.Learnt,
-  walk-below t,
-  walk.Post,
-) (walk-at t) walk.Post walk-Inv-loop walk-μ-loop
-walk-is-past-requires t c κs = (room-now (c .before .before .before .before .before .before .before .before .before .before .before .before .before .before .before .before .before .before .before .before .before .before .pre .1) (c .before .before .before .before .before .before .before .before .before .before .before .before .loop .inv), rw (c .before .before .before .before .before .before .before .before .before .before .place .ensures .0) (simp length-set (c .before .before .before .before .before .before .before .before .before .before .before .before .before .before .before .before .before .before .before .before .before .before .pre .1 .light .beds)))
-
-walk-walk-requires : (t : ℕ) → walk-lts.Need-walk-requires (
-  is-empty-reads.Asked,
-  is-empty-reads.Learnt,
-  insert-reads.Asked,
-  insert-reads.Learnt,
-  lowest-reads.Asked,
-  lowest-reads.Learnt,
-  bed-count-reads.Asked,
-  bed-count-reads.Learnt,
-  rest-of-reads.Asked,
-  rest-of-reads.Learnt,
-  place-reads.Asked,
-  place-reads.Learnt,
-  bucket-cost-reads.Asked,
-  bucket-cost-reads.Learnt,
-  is-past-reads.Asked,
-  is-past-reads.Learnt,
-  walk-below t,
-  walk.Post,
-) (walk-at t) walk.Post walk-Inv-loop walk-μ-loop
-walk-walk-requires t c κs =
-    let pre = c .before .before .before .before .before .before .before .before .before .before .before .before .before .before .before .before .before .before .before .before .before .before .before .before .before .pre in
-    let inv = c .before .before .before .before .before .before .before .before .before .before .before .before .before .before .before .loop .inv in
-    let more = c .before .before .before .before .before .before .before .before .before .before .before .before .before .before .loop-test .taken in
-    let is = below-head (inv .others) (inv .lowest) (c .before .before .before .before .before .before .before .before .before .before .before .before .before .before .before .before .before .before .rest-of .ensures) (c .before .before .before .before .before .before .before .before .before .before .before .before .before .place .ensures .0) (c .before .before .before .before .before .before .before .before .before .before .before .before .before .place .ensures .1) (c .before .before .before .before .before .before .before .before .before .before .bucket-cost .ensures .most _ (ap costIn (c .before .before .before .before .before .before .before .before .cost .given .1))) in
-    (omega (arith, pre .0, ap length (is .left)), asks-below (pre .1) inv more is (decides (asks-next (pre .1) inv more) (c .before .before .before .before .before .before .before .before .before .before .before .before .before .place .ensures .0) (c .before .before .before .before .before .before .before .before .before .before .bucket-cost .ensures) (ap costIn (c .before .before .before .before .before .before .before .before .cost .given .1))))
-
-walk-enum-told : (t : ℕ) → walk-lts.Need-enum-told (
-  is-empty-reads.Asked,
-  is-empty-reads.Learnt,
-  insert-reads.Asked,
-  insert-reads.Learnt,
-  lowest-reads.Asked,
-  lowest-reads.Learnt,
-  bed-count-reads.Asked,
-  bed-count-reads.Learnt,
-  rest-of-reads.Asked,
-  rest-of-reads.Learnt,
-  place-reads.Asked,
-  place-reads.Learnt,
-  bucket-cost-reads.Asked,
-  bucket-cost-reads.Learnt,
-  is-past-reads.Asked,
-  is-past-reads.Learnt,
-  walk-below t,
-  walk.Post,
-) (walk-at t) walk.Post walk-Inv-loop walk-μ-loop
-walk-enum-told t c = search needs
-
-walk-add-bed : (t : ℕ) → walk-lts.Need-add-bed (
-  is-empty-reads.Asked,
-  is-empty-reads.Learnt,
-  insert-reads.Asked,
-  insert-reads.Learnt,
-  lowest-reads.Asked,
-  lowest-reads.Learnt,
-  bed-count-reads.Asked,
-  bed-count-reads.Learnt,
-  rest-of-reads.Asked,
-  rest-of-reads.Learnt,
-  place-reads.Asked,
-  place-reads.Learnt,
-  bucket-cost-reads.Asked,
-  bucket-cost-reads.Learnt,
-  is-past-reads.Asked,
-  is-past-reads.Learnt,
-  walk-below t,
-  walk.Post,
-) (walk-at t) walk.Post walk-Inv-loop walk-μ-loop
-walk-add-bed t c = search needs
-
-walk-loop-less : (t : ℕ) → walk-lts.Need-loop-less (
-  is-empty-reads.Asked,
-  is-empty-reads.Learnt,
-  insert-reads.Asked,
-  insert-reads.Learnt,
-  lowest-reads.Asked,
-  lowest-reads.Learnt,
-  bed-count-reads.Asked,
-  bed-count-reads.Learnt,
-  rest-of-reads.Asked,
-  rest-of-reads.Learnt,
-  place-reads.Asked,
-  place-reads.Learnt,
-  bucket-cost-reads.Asked,
-  bucket-cost-reads.Learnt,
-  is-past-reads.Asked,
-  is-past-reads.Learnt,
-  walk-below t,
-  walk.Post,
-) (walk-at t) walk.Post walk-Inv-loop walk-μ-loop
-walk-loop-less t c = search needs
-
-walk-loop-again : (t : ℕ) → walk-lts.Need-loop-again (
-  is-empty-reads.Asked,
-  is-empty-reads.Learnt,
-  insert-reads.Asked,
-  insert-reads.Learnt,
-  lowest-reads.Asked,
-  lowest-reads.Learnt,
-  bed-count-reads.Asked,
-  bed-count-reads.Learnt,
-  rest-of-reads.Asked,
-  rest-of-reads.Learnt,
-  place-reads.Asked,
-  place-reads.Learnt,
-  bucket-cost-reads.Asked,
-  bucket-cost-reads.Learnt,
-  is-past-reads.Asked,
-  is-past-reads.Learnt,
-  walk-below t,
-  walk.Post,
-) (walk-at t) walk.Post walk-Inv-loop walk-μ-loop
-unfolding pastHead
-walk-loop-again t c =
-    let pre = c .before .before .before .before .before .before .before .before .before .before .before .before .before .before .before .before .pre .1 in
-    let inv = c .before .before .before .before .before .before .loop .inv in
-    let more = c .before .before .before .before .before .loop-test .taken in
-    let placed = c .before .before .before .before .place .ensures in
-    let priced = c .before .bucket-cost .ensures in
-    let rest = c .before .before .before .before .before .before .before .before .before .rest-of .ensures in
-    ⊎-elim
-    (λ w.
-    let is = ap costIn (w .1 .given .1) in
-    rw (w .13, w .14) (sofar-walk pre inv more (below-head (inv .others) (inv .lowest) rest (placed .0) (placed .1) (priced .most _ is)) (decides (asks-next pre inv more) (placed .0) priced is) (w .10 .ensures)))
-    (⊎-elim
-    (λ w.
-    let is = ap costIn (w .1 .given .1) in
-    rw (w .9, w .10) (sofar-cut pre inv more (below-head (inv .others) (inv .lowest) rest (placed .0) (placed .1) (priced .most _ is)) (decides (asks-next pre inv more) (placed .0) priced is) (sym (w .7 .ensures) ∙ not-false _ (w .8 .left))))
-    (λ w. rw (w .2, w .3) (sofar-skip pre inv more (decides (asks-next pre inv more) (placed .0) priced (ap costIn (w .1 .given .1))))))
-    (c .match .came)
-
-walk-same-length-2 : (t : ℕ) → walk-lts.Need-same-length-2 (
-  is-empty-reads.Asked,
-  is-empty-reads.Learnt,
-  insert-reads.Asked,
-  insert-reads.Learnt,
-  lowest-reads.Asked,
-  lowest-reads.Learnt,
-  bed-count-reads.Asked,
-  bed-count-reads.Learnt,
-  rest-of-reads.Asked,
-  rest-of-reads.Learnt,
-  place-reads.Asked,
-  place-reads.Learnt,
-  bucket-cost-reads.Asked,
-  bucket-cost-reads.Learnt,
-  is-past-reads.Asked,
-  is-past-reads.Learnt,
-  walk-below t,
-  walk.Post,
-) (walk-at t) walk.Post walk-Inv-loop walk-μ-loop
-walk-same-length-2 t c = search needs
-
-walk-returns-2 : (t : ℕ) → walk-lts.Need-returns-2 (
-  is-empty-reads.Asked,
-  is-empty-reads.Learnt,
-  insert-reads.Asked,
-  insert-reads.Learnt,
-  lowest-reads.Asked,
-  lowest-reads.Learnt,
-  bed-count-reads.Asked,
-  bed-count-reads.Learnt,
-  rest-of-reads.Asked,
-  rest-of-reads.Learnt,
-  place-reads.Asked,
-  place-reads.Learnt,
-  bucket-cost-reads.Asked,
-  bucket-cost-reads.Learnt,
-  is-past-reads.Asked,
-  is-past-reads.Learnt,
-  walk-below t,
-  walk.Post,
-) (walk-at t) walk.Post walk-Inv-loop walk-μ-loop
-walk-returns-2 t c = sofar-done (c .before .before .before .before .before .before .before .before .before .before .before .pre .1) (c .before .loop .inv) (c .loop-test .left)
-
-pub +walk-spec : {M : Type 1} → statement M
-+walk-spec = close μ-walk λ t. walk-lts.spec (
+-- What each call asks and gives.
+abbrev calls : ℕ → walk-lts.Claims
+calls t = (
   is-empty-reads.Asked,
   is-empty-reads.Learnt,
   insert-reads.Asked,
@@ -591,6 +56,108 @@ pub +walk-spec : {M : Type 1} → statement M
   walk-below t,
   walk.Post,
 )
+
+abbrev walk-Inv-loop : walk-lts.InvT-loop
+walk-Inv-loop list₀ patients terms entries v n m head s count others bound before found₀ bed₀ list found bed =
+    Sofar entries patients terms v n m list₀ head s count list found bed
+
+abbrev walk-μ-loop : walk-lts.MeasureT-loop
+walk-μ-loop list₀ patients terms entries v n m head s count others bound before found₀ bed₀ list found bed =
+    count - bed
+
+walk-is-empty-requires : (t : ℕ) → walk-lts.Need-is-empty-requires (calls t) (walk-at t) walk.Post walk-Inv-loop walk-μ-loop
+walk-is-empty-requires t c κs = search needs
+
+walk-insert-requires : (t : ℕ) → walk-lts.Need-insert-requires (calls t) (walk-at t) walk.Post walk-Inv-loop walk-μ-loop
+walk-insert-requires t c κs = search needs
+
+walk-same-length : (t : ℕ) → walk-lts.Need-same-length (calls t) (walk-at t) walk.Post walk-Inv-loop walk-μ-loop
+walk-same-length t c = search needs
+
+walk-returns : (t : ℕ) → walk-lts.Need-returns (calls t) (walk-at t) walk.Post walk-Inv-loop walk-μ-loop
+walk-returns t c = walk-end (sym (c .before .before .before .before .before .before .before .is-empty .ensures) ∙ c .before .before .before .before .before .before .if1 .taken) (c .before .before .insert .ensures .count) (c .before .before .insert .ensures .long) (c .before .before .insert .ensures .rows)
+
+walk-lowest-requires : (t : ℕ) → walk-lts.Need-lowest-requires (calls t) (walk-at t) walk.Post walk-Inv-loop walk-μ-loop
+walk-lowest-requires t c κs = search needs
+
+walk-cast-s : (t : ℕ) → walk-lts.Need-cast-s (calls t) (walk-at t) walk.Post walk-Inv-loop walk-μ-loop
+walk-cast-s t c = search needs
+
+walk-bed-count-requires : (t : ℕ) → walk-lts.Need-bed-count-requires (calls t) (walk-at t) walk.Post walk-Inv-loop walk-μ-loop
+walk-bed-count-requires t c κs = few (c .before .before .before .before .before .pre .1 .heads) (lowest-first _ _ (sym (c .before .before .is-empty .ensures) ∙ c .before .if1 .left) (c .lowest .ensures))
+
+walk-rest-of-requires : (t : ℕ) → walk-lts.Need-rest-of-requires (calls t) (walk-at t) walk.Post walk-Inv-loop walk-μ-loop
+walk-rest-of-requires t c κs = let lowest = (lowest-first _ _ (sym (c .before .before .before .is-empty .ensures) ∙ c .before .before .if1 .left) (c .before .lowest .ensures)) in record { few = few (c .before .before .before .before .before .before .pre .1 .heads) lowest; least = least-most (c .before .before .before .before .before .before .pre .1 .heads) lowest }
+
+walk-loop-holds : (t : ℕ) → walk-lts.Need-loop-holds (calls t) (walk-at t) walk.Post walk-Inv-loop walk-μ-loop
+walk-loop-holds t c = sofar-start (c .before .before .before .before .before .before .before .before .before .pre .1) (drop 1 (remaining (c .before .before .before .before .before .before .before .before .before .args .head))) (lowest-first _ _ (sym (c .before .before .before .before .before .before .is-empty .ensures) ∙ c .before .before .before .before .before .if1 .left) (c .before .before .before .before .lowest .ensures)) (c .before .before .before .bed-count .ensures)
+
+walk-cast-place : (t : ℕ) → walk-lts.Need-cast-place (calls t) (walk-at t) walk.Post walk-Inv-loop walk-μ-loop
+walk-cast-place t c = omega (arith, bed-small (c .before .before .before .before .before .before .before .before .before .before .before .pre .1) (c .before .loop .inv) (c .loop-test .taken))
+
+walk-place-requires : (t : ℕ) → walk-lts.Need-place-requires (calls t) (walk-at t) walk.Post walk-Inv-loop walk-μ-loop
+walk-place-requires t c κs = let asks = asks-next (c .before .before .before .before .before .before .before .before .before .before .before .pre .1) (c .before .loop .inv) (c .loop-test .taken) in (asks-few asks, asks-room asks)
+
+walk-bucket-cost-requires : (t : ℕ) → walk-lts.Need-bucket-cost-requires (calls t) (walk-at t) walk.Post walk-Inv-loop walk-μ-loop
+walk-bucket-cost-requires t c κs = asks-price (asks-next (c .before .before .before .before .before .before .before .before .before .before .before .before .before .before .pre .1) (c .before .before .before .before .loop .inv) (c .before .before .before .loop-test .taken)) (c .before .before .place .ensures .0)
+
+walk-enum-known-cost : (t : ℕ) → walk-lts.Need-enum-known-cost (calls t) (walk-at t) walk.Post walk-Inv-loop walk-μ-loop
+walk-enum-known-cost t c = search needs
+
+walk-add-sum : (t : ℕ) → walk-lts.Need-add-sum (calls t) (walk-at t) walk.Post walk-Inv-loop walk-μ-loop
+walk-add-sum t c = omega (arith, c .before .before .before .before .bucket-cost .ensures .most _ (ap costIn (c .before .before .cost .given .1)), c .before .before .before .before .before .before .before .before .before .before .before .before .before .before .before .before .before .before .before .pre .1 .light .cost, c .before .before .before .before .before .before .before .before .before .before .before .before .before .before .before .before .before .before .before .pre .1 .light .placed)
+
+walk-add-is-past : (t : ℕ) → walk-lts.Need-add-is-past (calls t) (walk-at t) walk.Post walk-Inv-loop walk-μ-loop
+walk-add-is-past t c = omega (arith, c .before .before .before .before .before .bucket-cost .ensures .most _ (ap costIn (c .before .before .before .cost .given .1)), c .before .before .before .before .before .before .before .before .before .before .before .before .before .before .before .before .before .before .before .before .pre .1 .light .cost, c .before .before .before .before .before .before .before .before .before .before .before .before .before .before .before .before .before .before .before .before .pre .1 .light .placed, c .before .before .before .before .before .before .before .before .before .before .before .before .before .before .before .before .before .before .before .before .pre .1 .light .bound, c .before .before .before .before .before .before .before .before .before .before .before .before .before .rest-of .ensures .bound)
+
+walk-is-past-requires : (t : ℕ) → walk-lts.Need-is-past-requires (calls t) (walk-at t) walk.Post walk-Inv-loop walk-μ-loop
+walk-is-past-requires t c κs = (room-now (c .before .before .before .before .before .before .before .before .before .before .before .before .before .before .before .before .before .before .before .before .before .before .pre .1) (c .before .before .before .before .before .before .before .before .before .before .before .before .loop .inv), rw (c .before .before .before .before .before .before .before .before .before .before .place .ensures .0) (simp length-set (c .before .before .before .before .before .before .before .before .before .before .before .before .before .before .before .before .before .before .before .before .before .before .pre .1 .light .beds)))
+
+walk-walk-requires : (t : ℕ) → walk-lts.Need-walk-requires (calls t) (walk-at t) walk.Post walk-Inv-loop walk-μ-loop
+walk-walk-requires t c κs =
+    let pre = c .before .before .before .before .before .before .before .before .before .before .before .before .before .before .before .before .before .before .before .before .before .before .before .before .before .pre in
+    let inv = c .before .before .before .before .before .before .before .before .before .before .before .before .before .before .before .loop .inv in
+    let more = c .before .before .before .before .before .before .before .before .before .before .before .before .before .before .loop-test .taken in
+    let is = below-head (inv .others) (inv .lowest) (c .before .before .before .before .before .before .before .before .before .before .before .before .before .before .before .before .before .before .rest-of .ensures) (c .before .before .before .before .before .before .before .before .before .before .before .before .before .place .ensures .0) (c .before .before .before .before .before .before .before .before .before .before .before .before .before .place .ensures .1) (c .before .before .before .before .before .before .before .before .before .before .bucket-cost .ensures .most _ (ap costIn (c .before .before .before .before .before .before .before .before .cost .given .1))) in
+    (omega (arith, pre .0, ap length (is .left)), asks-below (pre .1) inv more is (decides (asks-next (pre .1) inv more) (c .before .before .before .before .before .before .before .before .before .before .before .before .before .place .ensures .0) (c .before .before .before .before .before .before .before .before .before .before .bucket-cost .ensures) (ap costIn (c .before .before .before .before .before .before .before .before .cost .given .1))))
+
+walk-enum-told : (t : ℕ) → walk-lts.Need-enum-told (calls t) (walk-at t) walk.Post walk-Inv-loop walk-μ-loop
+walk-enum-told t c = search needs
+
+walk-add-bed : (t : ℕ) → walk-lts.Need-add-bed (calls t) (walk-at t) walk.Post walk-Inv-loop walk-μ-loop
+walk-add-bed t c = search needs
+
+walk-loop-less : (t : ℕ) → walk-lts.Need-loop-less (calls t) (walk-at t) walk.Post walk-Inv-loop walk-μ-loop
+walk-loop-less t c = search needs
+
+walk-loop-again : (t : ℕ) → walk-lts.Need-loop-again (calls t) (walk-at t) walk.Post walk-Inv-loop walk-μ-loop
+unfolding pastHead
+walk-loop-again t c =
+    let pre = c .before .before .before .before .before .before .before .before .before .before .before .before .before .before .before .before .pre .1 in
+    let inv = c .before .before .before .before .before .before .loop .inv in
+    let more = c .before .before .before .before .before .loop-test .taken in
+    let placed = c .before .before .before .before .place .ensures in
+    let priced = c .before .bucket-cost .ensures in
+    let rest = c .before .before .before .before .before .before .before .before .before .rest-of .ensures in
+    ⊎-elim
+    (λ w.
+    let is = ap costIn (w .1 .given .1) in
+    rw (w .13, w .14) (sofar-walk pre inv more (below-head (inv .others) (inv .lowest) rest (placed .0) (placed .1) (priced .most _ is)) (decides (asks-next pre inv more) (placed .0) priced is) (w .10 .ensures)))
+    (⊎-elim
+    (λ w.
+    let is = ap costIn (w .1 .given .1) in
+    rw (w .9, w .10) (sofar-cut pre inv more (below-head (inv .others) (inv .lowest) rest (placed .0) (placed .1) (priced .most _ is)) (decides (asks-next pre inv more) (placed .0) priced is) (sym (w .7 .ensures) ∙ not-false _ (w .8 .left))))
+    (λ w. rw (w .2, w .3) (sofar-skip pre inv more (decides (asks-next pre inv more) (placed .0) priced (ap costIn (w .1 .given .1))))))
+    (c .match .came)
+
+walk-same-length-2 : (t : ℕ) → walk-lts.Need-same-length-2 (calls t) (walk-at t) walk.Post walk-Inv-loop walk-μ-loop
+walk-same-length-2 t c = search needs
+
+walk-returns-2 : (t : ℕ) → walk-lts.Need-returns-2 (calls t) (walk-at t) walk.Post walk-Inv-loop walk-μ-loop
+walk-returns-2 t c = sofar-done (c .before .before .before .before .before .before .before .before .before .before .before .pre .1) (c .before .loop .inv) (c .loop-test .left)
+
+pub +walk-spec : {M : Type 1} → statement M
++walk-spec = close μ-walk λ t. walk-lts.spec (calls t)
     (walk-at t)
     walk.Post
     walk-Inv-loop
