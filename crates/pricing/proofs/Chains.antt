@@ -1,46 +1,28 @@
 -- A loop that follows the terms of a bucket and adds up their entries for a plan. Assumes nothing.
-use mathlib.Core.Path.{_≡_, refl, sym, ap, _∙_}
+use mathlib.Core.Path.{_≡_, sym, ap, _∙_, subst}
 use mathlib.Core.Option.{Option·none-ne-some}
 use Prim.Native.Nat.{_≤_}
-use native.Mathlib.Nat.{zero-add, le-refl}
 use native.Mathlib.Omega.{arith}
 use Rattle.definitions.specs.Basics.{ℕ, suc, _+_, _*_, _<_, Option, none, some, List, [], _∷_, length, getD}
 use Rattle.definitions.specs.Syntax.{Table, Region}
 use Rattle.definitions.specs.Plans.{Plan, entryFor, costOver}
-use Rattle.theorems.specs.Sums.{plus}
+use Rattle.theorems.specs.Sums.{plus, plus-assoc}
 use Rattle.partial_rows.specs.Costs.{cost-cons}
-use Rattle.held_region.specs.Held.{mark, codeOf}
+use Rattle.held_region.specs.Held.{mark}
 use Rattle.buckets.specs.Terms.{Fitting, bucketOf, firstAt, nextAt, placeAt, Term, Chain, Prepared}
-use Rattle.pricing.specs.Pricing.{Reads, Asks, Gives}
+use Rattle.pricing.specs.Pricing.{entryIn, Reads, Asks, Gives}
+use Rattle.pricing.specs.Costs.{zero-plus, plus-zero, entry-number, entry-known}
 use Rattle.pricing.specs.declared.Cost.the-variants.{Forbidden, Of}
 
--- Sums of costs of which some may be forbidden.
-plus-zero : (o : Option ℕ) → plus (some 0) o ≡ o
-plus-zero none = refl
-plus-zero (some n) = ap {B = Option ℕ} some (zero-add n)
-
-plus-more : (x e : ℕ) (o : Option ℕ) → plus (some x) (plus (some e) o) ≡ plus (some (x + e)) o
-plus-more x e none = refl
-plus-more x e (some n) = ap {B = Option ℕ} some (omega arith)
-
--- A code that is not the mark is a number; the mark is no number that a table has.
-code-number : (o : Option ℕ) (e : ℕ) → e ≡ codeOf o → (e ≡ mark → ⊥) → o ≡ some e
-code-number none e is other = absurd (other is)
-code-number (some n) e is other = ap {B = Option ℕ} some (sym is)
-
-code-mark : (o : Option ℕ) → ((n : ℕ) → o ≡ some n → n ≤ 1_000_000) → mark ≡ codeOf o → o ≡ none
-code-mark none small is = refl
-code-mark (some n) small is = absurd (omega (arith, small n refl))
-
 -- Where the loop stands: the sum so far, and the tables that are left, whose terms begin at k.
-pub record Left (r : Region) (store terms : List ℕ) (s : ℕ) (beds : Plan) (sum k : ℕ) : Type 0 where
+pub record Left (r : Region) (store terms : List ℕ) (s : ℕ) (beds : Plan) (sum : Option ℕ) (k : ℕ) : Type 0 where
   pub low : ℕ
   pub tables : List Table
   pub chain : Chain r store terms low k tables
-  pub cost : plus (some sum) (costOver tables r beds) ≡ costOver (bucketOf r s) r beds
+  pub cost : plus sum (costOver tables r beds) ≡ costOver (bucketOf r s) r beds
 
-pub left-start : (r : Region) (store terms : List ℕ) (s : ℕ) (beds : Plan) {k : ℕ} → Chain r store terms 0 k (bucketOf r s) → Left r store terms s beds 0 k
-left-start r store terms s beds chain = record { low = 0; tables = bucketOf r s; chain = chain; cost = plus-zero (costOver (bucketOf r s) r beds) }
+pub left-start : (r : Region) (store terms : List ℕ) (s : ℕ) (beds : Plan) {k : ℕ} → Chain r store terms 0 k (bucketOf r s) → Left r store terms s beds (some 0) k
+left-start r store terms s beds chain = record { low = 0; tables = bucketOf r s; chain = chain; cost = zero-plus (costOver (bucketOf r s) r beds) }
 
 -- A chain goes no further than 64.
 pub chain-most : (r : Region) (store terms : List ℕ) (low k : ℕ) (tables : List Table) → Chain r store terms low k tables → k ≤ 64
@@ -53,17 +35,17 @@ unfolding Chain
 chain-from r store terms low k [] l h = omega arith
 chain-from r store terms low k (t ∷ tables) l h = h .0
 
-module _ {r : Region} {store terms : List ℕ} {s : ℕ} {beds : Plan} {sum k : ℕ} where
+module _ {r : Region} {store terms : List ℕ} {s : ℕ} {beds : Plan} {sum : Option ℕ} {k : ℕ} where
   pub left-most : Left r store terms s beds sum k → k ≤ 64
   left-most h = chain-most r store terms (h .low) k (h .tables) (h .chain)
 
   -- At the end nothing is left.
-  pub left-done : Left r store terms s beds sum k → 64 ≤ k → some sum ≡ costOver (bucketOf r s) r beds
+  pub left-done : Left r store terms s beds sum k → 64 ≤ k → sum ≡ costOver (bucketOf r s) r beds
   unfolding Chain costOver
   left-done h end = go (h .tables) (h .chain) (h .cost)
     where
-      go : (tables : List Table) → Chain r store terms (h .low) k tables → plus (some sum) (costOver tables r beds) ≡ costOver (bucketOf r s) r beds → some sum ≡ costOver (bucketOf r s) r beds
-      go [] chain e = ap {B = Option ℕ} some (omega arith) ∙ e
+      go : (tables : List Table) → Chain r store terms (h .low) k tables → plus sum (costOver tables r beds) ≡ costOver (bucketOf r s) r beds → sum ≡ costOver (bucketOf r s) r beds
+      go [] chain e = sym (plus-zero sum) ∙ e
       go (t ∷ tables) chain e = absurd (omega (arith, chain .1))
 
   -- Before the end, k is the term of a table.
@@ -72,15 +54,15 @@ module _ {r : Region} {store terms : List ℕ} {s : ℕ} {beds : Plan} {sum k : 
     others : List Table
     term : Term r store terms k table
     rest : Chain r store terms (suc k) (nextAt terms k) others
-    cost : plus (some sum) (plus (entryFor r beds table) (costOver others r beds)) ≡ costOver (bucketOf r s) r beds
+    cost : plus sum (plus (entryFor r beds table) (costOver others r beds)) ≡ costOver (bucketOf r s) r beds
 
   here : (h : Left r store terms s beds sum k) → k < 64 → Here h
   unfolding Chain
   here h more = go (h .tables) (h .chain) (h .cost)
     where
-      go : (tables : List Table) → Chain r store terms (h .low) k tables → plus (some sum) (costOver tables r beds) ≡ costOver (bucketOf r s) r beds → Here h
+      go : (tables : List Table) → Chain r store terms (h .low) k tables → plus sum (costOver tables r beds) ≡ costOver (bucketOf r s) r beds → Here h
       go [] chain e = absurd (omega arith)
-      go (t ∷ tables) chain e = record { table = t; others = tables; term = chain .2; rest = chain .3; cost = ap (plus (some sum)) (sym (cost-cons r beds t tables)) ∙ e }
+      go (t ∷ tables) chain e = record { table = t; others = tables; term = chain .2; rest = chain .3; cost = ap (plus sum) (sym (cost-cons r beds t tables)) ∙ e }
 
   module _ (h : Left r store terms s beds sum k) (more : k < 64) where
     pub left-reads : Reads terms k
@@ -97,33 +79,27 @@ module _ {r : Region} {store terms : List ℕ} {s : ℕ} {beds : Plan} {sum k : 
       pub left-inside : placeAt terms k beds < 4096
       left-inside = here h more .term .inside beds fits
 
-      pub left-forbidden : getD store (placeAt terms k beds) 0 ≡ mark → none ≡ costOver (bucketOf r s) r beds
-      left-forbidden e =
+      -- What the store has at the term's place is the table's entry.
+      entry : entryIn (getD store (placeAt terms k beds) 0) ≡ entryFor r beds (here h more .table)
+      entry = ap entryIn (here h more .term .finds beds fits) ∙ entry-known (entryFor r beds (here h more .table)) (here h more .term .small beds)
+
+      pub left-small : (e : ℕ) → entryIn (getD store (placeAt terms k beds) 0) ≡ some e → e ≤ 1_000_000
+      left-small e is = here h more .term .small beds e (sym entry ∙ is)
+
+      pub left-next : Left r store terms s beds (plus sum (entryIn (getD store (placeAt terms k beds) 0))) (nextAt terms k)
+      left-next =
           let g = here h more in
-          let forbidden = code-mark (entryFor r beds (g .table)) (g .term .small beds) (sym e ∙ g .term .finds beds fits) in
-          sym (ap (λ o. plus (some sum) (plus o (costOver (g .others) r beds))) forbidden) ∙ g .cost
-
-      module _ (e : ℕ) (is : e ≡ getD store (placeAt terms k beds) 0) (other : e ≡ mark → ⊥) where
-        number : entryFor r beds (here h more .table) ≡ some e
-        number = code-number (entryFor r beds (here h more .table)) e (is ∙ here h more .term .finds beds fits) other
-
-        pub left-small : e ≤ 1_000_000
-        left-small = here h more .term .small beds e number
-
-        pub left-next : Left r store terms s beds (sum + e) (nextAt terms k)
-        left-next =
-            let g = here h more in
-            record {
-              low = suc k;
-              tables = g .others;
-              chain = g .rest;
-              cost = sym (plus-more sum e (costOver (g .others) r beds)) ∙ ap (λ o. plus (some sum) (plus o (costOver (g .others) r beds))) (sym number) ∙ g .cost;
-            }
+          record {
+            low = suc k;
+            tables = g .others;
+            chain = g .rest;
+            cost = sym (plus-assoc sum _ (costOver (g .others) r beds)) ∙ ap (λ o. plus sum (plus o (costOver (g .others) r beds))) entry ∙ g .cost;
+          }
 
 -- The same for every region that the words are prepared for, with a sum that stays small.
 pub record Goes (store patients terms : List ℕ) (s : ℕ) (beds : Plan) (sum k : ℕ) : Type 0 where
   pub few : sum ≤ k * 1_000_000
-  pub left : (r : Region) → Prepared r store patients terms → Fitting r beds → s < length (r .patients) → Left r store terms s beds sum k
+  pub left : (r : Region) → Prepared r store patients terms → Fitting r beds → s < length (r .patients) → Left r store terms s beds (some sum) k
 
 module _ {store patients terms : List ℕ} {s : ℕ} {beds : Plan} (asks : Asks store patients terms s beds) where
   pub first-most : firstAt patients s ≤ 64
@@ -133,7 +109,7 @@ module _ {store patients terms : List ℕ} {s : ℕ} {beds : Plan} (asks : Asks 
   goes-start = record { few = omega arith; left = λ r prepared fits known. left-start r store terms s beds (prepared .bucket s known) }
 
   module _ {sum k : ℕ} (goes : Goes store patients terms s beds sum k) where
-    own : Left (asks .region) store terms s beds sum k
+    own : Left (asks .region) store terms s beds (some sum) k
     own = goes .left (asks .region) (asks .prepared) (asks .fits) (asks .known)
 
     pub goes-done : 64 ≤ k → Gives store patients terms s beds (Of sum)
@@ -148,20 +124,25 @@ module _ {store patients terms : List ℕ} {s : ℕ} {beds : Plan} (asks : Asks 
       pub goes-inside : placeAt terms k beds < 4096
       goes-inside = left-inside own more (asks .fits)
 
-      pub goes-forbidden : getD store (placeAt terms k beds) 0 ≡ mark → Gives store patients terms s beds Forbidden
-      goes-forbidden e =
-          record { most = λ n no. absurd (Option·none-ne-some n no); cost = λ r prepared fits known. left-forbidden (goes .left r prepared fits known) more fits e }
-
       pub goes-later : (k < nextAt terms k) × (nextAt terms k ≤ 64)
       goes-later = (left-later own more, left-next-most own more)
 
+      -- With the next entry, for every region.
+      with-entry : {o : Option ℕ} → entryIn (getD store (placeAt terms k beds) 0) ≡ o → (r : Region) → Prepared r store patients terms → Fitting r beds → s < length (r .patients)
+          → Left r store terms s beds (plus (some sum) o) (nextAt terms k)
+      with-entry {o} is r prepared fits known =
+          subst (λ e. Left r store terms s beds (plus (some sum) e) (nextAt terms k)) is (left-next (goes .left r prepared fits known) more fits)
+
+      pub goes-forbidden : getD store (placeAt terms k beds) 0 ≡ mark → Gives store patients terms s beds Forbidden
+      goes-forbidden e =
+          record { most = λ n no. absurd (Option·none-ne-some n no); cost = λ r prepared fits known. with-entry (ap entryIn e) r prepared fits known .cost }
+
       module _ (e : ℕ) (is : e ≡ getD store (placeAt terms k beds) 0) (other : e ≡ mark → ⊥) where
+        number : entryIn (getD store (placeAt terms k beds) 0) ≡ some e
+        number = sym (ap entryIn is) ∙ entry-number e other
+
         pub goes-small : e ≤ 1_000_000
-        goes-small = left-small own more (asks .fits) e is other
+        goes-small = left-small own more (asks .fits) e number
 
         pub goes-next : Goes store patients terms s beds (sum + e) (nextAt terms k)
-        goes-next =
-            record {
-              few = omega (arith, goes .few, goes-small, left-later own more);
-              left = λ r prepared fits known. left-next (goes .left r prepared fits known) more fits e is other;
-            }
+        goes-next = record { few = omega (arith, goes .few, goes-small, left-later own more); left = with-entry number }

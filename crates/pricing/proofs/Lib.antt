@@ -1,4 +1,6 @@
 pub mod Sums
 pub mod Chains
 pub mod Totals
-pub mod Beds
+pub mod Placed
+pub mod Along
+pub mod BedSums

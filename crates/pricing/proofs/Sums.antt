@@ -2,9 +2,15 @@
 use mathlib.Core.Path.{_≡_, sym, ap, _∙_}
 use native.Mathlib.Omega.{arith}
 use native.Mathlib.Nat.{add-assoc, add-zero, mul-le-mul}
-use Rattle.definitions.specs.Basics.{ℕ, _+_, _*_, _<_, map, sum, below}
+use Rattle.definitions.specs.Basics.{ℕ, _+_, _*_, _<_, List, map, sum, below}
+use Rattle.definitions.specs.Plans.{bedOf}
+use Rattle.buckets.specs.Terms.{memberAt, strideAt}
 use Rattle.held_region.specs.Places.{placesFrom, places-all, places-next, places-done}
 use Prim.Native.Nat.{_≤_}
+
+-- What a member's bed adds to the place of a term's entry.
+abbrev pub bedAt : List ℕ → ℕ → List ℕ → ℕ → ℕ
+bedAt terms k beds j = bedOf beds (memberAt terms k j) * strideAt terms k j
 
 module _ (f : ℕ → ℕ) (n : ℕ) where
   -- What is left to add at place i.

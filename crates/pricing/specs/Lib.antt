@@ -1,1 +1,3 @@
 pub mod Pricing
+pub mod Costs
+pub mod BedCosts

@@ -1,9 +1,11 @@
 -- What pricing asks for and gives.
 use Prim.Native.Nat.{_≤_}
-use Rattle.definitions.specs.Basics.{ℕ, _<_, _≡_, Bool, Option, none, some, List, length, take}
+use lib.ListN.{set}
+use Rattle.definitions.specs.Basics.{ℕ, _+_, _*_, _<_, _≡_, Bool, cond, Option, none, some, List, length, getD, take, eqb}
 use Rattle.definitions.specs.Syntax.{Region, patientAt}
 use Rattle.definitions.specs.Questions.{planFits}
 use Rattle.definitions.specs.Plans.{costOver, total}
+use Rattle.held_region.specs.Held.{mark}
 use Rattle.buckets.specs.Terms.{Fitting, bucketOf, startAt, memberAt, strideAt, bedsAt, Prepared}
 use Rattle.pricing.specs.declared.Cost.{Cost}
 use Rattle.pricing.specs.declared.Cost.the-variants.{Forbidden, Of}
@@ -11,6 +13,16 @@ use Rattle.pricing.specs.declared.Cost.the-variants.{Forbidden, Of}
 abbrev pub costIn : Cost → Option ℕ
 costIn Forbidden = none
 costIn (Of n) = some n
+
+-- A sum in one word, of which the largest is no number: an entry is forbidden. An entry of the store.
+abbrev pub noSum : ℕ
+noSum = 18_446_744_073_709_551_615
+
+abbrev pub sumIn : ℕ → Option ℕ
+sumIn word = cond (eqb word noSum) none (some word)
+
+abbrev pub entryIn : ℕ → Option ℕ
+entryIn code = cond (eqb code mark) none (some code)
 
 -- The words of a term can be used to find a place.
 pub record Reads (terms : List ℕ) (k : ℕ) : Type 0 where

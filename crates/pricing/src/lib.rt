@@ -1,4 +1,6 @@
 // Plans, and what they cost.
+pub mod beds;
+
 ghost use mathlib.Core.Path.{_≡_};
 ghost use Prim.Native.Nat.{ℕ, _+_, _<_, _≤_};
 ghost use lib.ListN.{set, length, take};

@@ -13,7 +13,7 @@ plus none b = none
 plus (some x) none = none
 plus (some x) (some y) = some (x + y)
 
-plus-assoc : (a b c : Option ℕ) → plus a (plus b c) ≡ plus (plus a b) c
+pub plus-assoc : (a b c : Option ℕ) → plus a (plus b c) ≡ plus (plus a b) c
 plus-assoc none b c = refl
 plus-assoc (some x) none c = refl
 plus-assoc (some x) (some y) none = refl

@@ -5,14 +5,10 @@ use native.Mathlib.Omega.{arith}
 use Rattle.definitions.specs.Basics.{List}
 use Rattle.definitions.specs.Plans.{bedOf}
 use Rattle.buckets.specs.Terms.{startAt, memberAt, strideAt, placeAt}
-use Rattle.pricing.proofs.Sums.{leftFrom, left-all, left-next, left-done, bed-most}
+use Rattle.pricing.proofs.Sums.{bedAt, leftFrom, left-all, left-next, left-done, bed-most}
 use denote.Ref.{now}
 use Rattle.pricing.proofs.entry_place.Statement.{statement}
 use Rattle.pricing.proofs.entry_place.Tie as tie
-
--- What a member's bed adds to the place.
-abbrev bedAt : List ℕ → ℕ → List ℕ → ℕ → ℕ
-bedAt terms k beds j = bedOf beds (memberAt terms k j) * strideAt terms k j
 
 abbrev Inv-loop : tie.InvT-loop
 Inv-loop terms k beds start place₀ j₀ place j =

@@ -5,7 +5,7 @@ use denote.Ref.{now}
 use native.Mathlib.Omega.{arith}
 use Rattle.definitions.specs.Basics.{below, every}
 use Rattle.held_region.specs.Places.{askedFrom, ask-all, ask-yes, ask-no, ask-done}
-use Rattle.pricing.proofs.Beds.{bedFits, not-counted, counted, bed-no, bed-yes}
+use Rattle.pricing.proofs.Placed.{bedFits, not-counted, counted, bed-no, bed-yes}
 use Rattle.pricing.proofs.plan_fits.Statement.{statement}
 use Rattle.pricing.proofs.plan_fits.Tie as tie
 

@@ -4,7 +4,7 @@ use Prim.Native.Nat.{_-_}
 use native.Mathlib.Omega.{arith}
 use lib.ListN.{length, length-set}
 use denote.Ref.{now}
-use Rattle.pricing.proofs.Beds.{Begun, begun-more, begun-done}
+use Rattle.pricing.proofs.Placed.{Begun, begun-more, begun-done}
 use Rattle.pricing.proofs.plan_of.Statement.{statement}
 use Rattle.pricing.proofs.plan_of.Tie as tie
 

@@ -1,0 +1,51 @@
+-- What the costs of a patient's beds ask for and give.
+use Prim.Native.Nat.{_≤_}
+use lib.ListN.{set}
+use Rattle.definitions.specs.Basics.{ℕ, _+_, _*_, _<_, _≡_, Option, some, List, length, getD}
+use Rattle.definitions.specs.Syntax.{Region, patientAt}
+use Rattle.definitions.specs.Plans.{costOver}
+use Rattle.theorems.specs.Sums.{plus}
+use Rattle.buckets.specs.Terms.{Fitting, bucketOf, bedsAt, placeAt, Prepared}
+use Rattle.pricing.specs.Pricing.{sumIn, entryIn, Reads}
+use Rattle.pricing.specs.declared.beds.BedPlaces.{BedPlaces}
+
+-- A sum that is a number is no larger than 64 entries are.
+abbrev pub Small : ℕ → Type 0
+Small word = (n : ℕ) → sumIn word ≡ some n → n ≤ 64_000_000
+
+-- Where the entries for a patient's beds lie.
+pub record AsksPlaces (terms : List ℕ) (k s : ℕ) (beds : List ℕ) : Type 0 where
+  pub reads : Reads terms k
+  pub few : s < 32
+  pub long : length beds ≡ 32
+
+pub record GivesPlaces (terms : List ℕ) (k s : ℕ) (beds : List ℕ) (p : BedPlaces) : Type 0 where
+  pub place : (bed : ℕ) → p .first + bed * p .step ≡ placeAt terms k (set beds s bed)
+  pub near : p .step ≤ 16_384
+
+-- One more entry for each bed.
+pub record AsksEntries (store : List ℕ) (from step count : ℕ) (sums : List ℕ) : Type 0 where
+  pub few : count ≤ 16
+  pub near : step ≤ 16_384
+  pub inside : (bed : ℕ) → bed < count → from + bed * step < 4096
+  pub long : length sums ≡ 16
+  pub small : (bed : ℕ) → bed < count → Small (getD sums bed 0)
+
+pub record GivesEntries (store : List ℕ) (from step count : ℕ) (sums after : List ℕ) : Type 0 where
+  pub long : length after ≡ 16
+  pub each : (bed : ℕ) → bed < count → sumIn (getD after bed 0) ≡ plus (sumIn (getD sums bed 0)) (entryIn (getD store (from + bed * step) 0))
+
+-- The costs of all beds of a patient.
+pub record Asks (store patients terms : List ℕ) (s count : ℕ) (beds : List ℕ) : Type 0 where
+  pub region : Region
+  pub prepared : Prepared region store patients terms
+  pub fits : Fitting region beds
+  pub known : s < length (region .patients)
+  pub few : s < 32
+  pub counts : count ≡ bedsAt patients s
+  pub long : length beds ≡ 32
+
+pub record Gives (store patients terms : List ℕ) (s count : ℕ) (beds sums : List ℕ) : Type 0 where
+  pub small : (bed : ℕ) → bed < count → Small (getD sums bed 0)
+  pub cost : (r : Region) → Prepared r store patients terms → Fitting r beds → s < length (r .patients)
+      → (bed : ℕ) → bed < patientAt r s .bedCount → sumIn (getD sums bed 0) ≡ costOver (bucketOf r s) r (set beds s bed)

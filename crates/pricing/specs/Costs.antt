@@ -1,0 +1,44 @@
+-- Laws of sums of which some entries may be forbidden, and of plans with one more bed.
+use mathlib.Core.Path.{_≡_, refl, sym, ap, _∙_}
+use mathlib.Core.Option.{Option·none-ne-some}
+use Prim.Native.Nat.{_≤_}
+use native.Mathlib.Omega.{arith}
+use native.Mathlib.Nat.{zero-add, add-zero}
+use lib.ListN.{set}
+use lib.Seq.{getD-set-same, getD-set-other}
+use borrow.Author.Tests.{ne-eqb, eqb-true, eqb-false}
+use Rattle.definitions.specs.Basics.{ℕ, _<_, Bool, true, false, cond, Option, none, some, length, eqb}
+use Rattle.definitions.specs.Syntax.{Region, patientAt}
+use Rattle.definitions.specs.Plans.{Plan, bedOf}
+use Rattle.theorems.specs.Sums.{plus}
+use Rattle.held_region.specs.Held.{mark, codeOf}
+use Rattle.buckets.specs.Terms.{Fitting}
+use Rattle.pricing.specs.Pricing.{noSum, sumIn, entryIn}
+
+pub zero-plus : (o : Option ℕ) → plus (some 0) o ≡ o
+zero-plus none = refl
+zero-plus (some n) = ap {B = Option ℕ} some (zero-add n)
+
+pub plus-zero : (o : Option ℕ) → plus o (some 0) ≡ o
+plus-zero none = refl
+plus-zero (some n) = ap {B = Option ℕ} some (add-zero n)
+
+-- A code that is not the mark is a number; a word that is not the largest is a sum.
+pub entry-number : (e : ℕ) → (e ≡ mark → ⊥) → entryIn e ≡ some e
+entry-number e other = ap (λ b. cond b none (some e)) (ne-eqb e mark other)
+
+pub sum-number : (w : ℕ) → (w ≡ noSum → ⊥) → sumIn w ≡ some w
+sum-number w other = ap (λ b. cond b none (some w)) (ne-eqb w noSum other)
+
+-- The code of an entry that a table may have.
+pub entry-known : (o : Option ℕ) → ((n : ℕ) → o ≡ some n → n ≤ 1_000_000) → entryIn (codeOf o) ≡ o
+entry-known none small = refl
+entry-known (some n) small = entry-number n (λ e. omega (arith, small n refl))
+
+-- A plan that fits still fits with another bed below its patient's count.
+pub fitting-set : (r : Region) (beds : Plan) (s bed : ℕ) → s < length beds → Fitting r beds → bed < patientAt r s .bedCount → Fitting r (set beds s bed)
+fitting-set r beds s bed inside fits h q l = go (eqb s q) refl
+  where
+    go : (b : Bool) → eqb s q ≡ b → bedOf (set beds s bed) q < patientAt r q .bedCount
+    go true e = rw (← eqb-true s q e, getD-set-same beds s bed 0 inside) h
+    go false e = rw (getD-set-other beds s q bed 0 (λ z. eqb-false s q e (sym z))) (fits q l)
