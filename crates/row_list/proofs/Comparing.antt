@@ -8,35 +8,10 @@ use lib.Seq.{drop-cons, getD-take, length-take-le}
 use Rattle.definitions.specs.Basics.{ℕ, suc, _+_, _*_, _%_, _<_, compare, Ordering, Ordering·lt, Ordering·eq, Ordering·gt, Bool, true, false, List, []}
 use Rattle.definitions.specs.Basics.{length, getD, take}
 use Rattle.definitions.specs.Plans.{thenBy, compareBeds, compareRows}
-use Rattle.ranking.specs.Orders.{View, before, equal, after, ℕ-view}
 use Rattle.row_list.specs.declared.Row.{Row}
+use Rattle.row_list.specs.Numbers.{less, more, alike}
 use Rattle.row_list.specs.Below.{below-long, below-at}
 use Rattle.row_list.specs.Rows.{rowOf, rowIn, beforeOr}
-
-module _ (a b : ℕ) where
-  pub less : a < b → compare a b ≡ Ordering·lt
-  less h = go (ℕ-view a b)
-    where
-      go : {o : Ordering} → View _<_ a b o → o ≡ Ordering·lt
-      go (before t) = refl
-      go (equal e) = absurd (omega arith)
-      go (after t) = absurd (omega arith)
-
-  pub more : b < a → compare a b ≡ Ordering·gt
-  more h = go (ℕ-view a b)
-    where
-      go : {o : Ordering} → View _<_ a b o → o ≡ Ordering·gt
-      go (before t) = absurd (omega arith)
-      go (equal e) = absurd (omega arith)
-      go (after t) = refl
-
-  pub alike : a ≤ b → b ≤ a → compare a b ≡ Ordering·eq
-  alike h k = go (ℕ-view a b)
-    where
-      go : {o : Ordering} → View _<_ a b o → o ≡ Ordering·eq
-      go (before t) = absurd (omega arith)
-      go (equal e) = refl
-      go (after t) = absurd (omega arith)
 
 -- The answer; and the answer that the beds from patient j on give.
 abbrev pub answer : Bool → ℕ → Row → List ℕ → ℕ → Bool

@@ -3,8 +3,8 @@ use mathlib.Core.Path.{_≡_, refl, sym, ap, _∙_, subst⁻¹}
 use Prim.Native.Nat.{_≤_}
 use native.Mathlib.Omega.{arith}
 use lib.ListN.{set, length-set}
-use lib.Seq.{getD-set-same, getD-set-other, take-set-lt}
-use borrow.Author.Tests.{eq-eqb, eqb-true, eqb-false}
+use lib.Seq.{take-set-lt}
+use borrow.Author.Tests.{eq-eqb}
 use Rattle.definitions.specs.Basics.{ℕ, _+_, _<_, Bool, true, false, not, _&&_, _||_, Option, List, _∷_, map, length, getD, take, sum, eqb, isEmpty, contains, ltb, everyTwo}
 use Rattle.definitions.specs.Syntax.{Region, patientAt}
 use Rattle.definitions.specs.Plans.{Plan, bedOf, Row, costOver}
@@ -13,23 +13,15 @@ use Rattle.patient_set.specs.Laws.{rising, lowest-and-rest}
 use Rattle.partial_rows.specs.Sets.{only, Splits}
 use Rattle.partial_rows.specs.Rows.{Position, decidedTables, withBed, LowerBound}
 use Rattle.partial_rows.specs.Branches.{position-bed}
-use Rattle.buckets.specs.Terms.{Fitting, bucketOf, leastIn, leastAt, Prepared}
-use Rattle.pricing.specs.Pricing as Price
-use Rattle.pricing.specs.Pricing.{costIn}
-use Rattle.pricing.specs.declared.Cost.{Cost}
+use Rattle.buckets.specs.Terms.{Fitting, bucketOf, leastIn, leastAt, bedsAt, Prepared}
+use Rattle.pricing.specs.BedCosts as Price
+use Rattle.pricing.specs.Pricing.{sumIn}
+use Rattle.pricing.specs.Costs.{fitting-set}
 use Rattle.search.specs.Lowest.{Upward, list-split, list-lowest, bucket-decided, upward-rest, bound-members}
 use Rattle.search.specs.Walks.{remaining, leftIn, headRow, Light, Heads, AsksNext, Below, Decides, GivesRest}
 use Rattle.search.specs.declared.walk.Head.{Head}
 use Rattle.search.specs.declared.walk.Rest.{Rest}
 use Rattle.pricing.specs.declared.Plan.{Plan as CodePlan}
-
--- A plan that fits still fits with another bed below its patient's count.
-fitting-set : (r : Region) (beds : Plan) (s bed : ℕ) → s < length beds → Fitting r beds → bed < patientAt r s .bedCount → Fitting r (set beds s bed)
-fitting-set r beds s bed inside fits h q l = go (eqb s q) refl
-  where
-    go : (b : Bool) → eqb s q ≡ b → bedOf (set beds s bed) q < patientAt r q .bedCount
-    go true e = rw (← eqb-true s q e, getD-set-same beds s bed 0 inside) h
-    go false e = rw (getD-set-other beds s q bed 0 (λ z. eqb-false s q e (sym z))) (fits q l)
 
 module _ {r : Region} {store patients terms : List ℕ} {v : ℕ} {head : Head} (heads : Heads r store patients terms v head) {s : ℕ} {others : List ℕ} (lowest : remaining head ≡ s ∷ others) where
   here : leftIn head s ≡ true
@@ -62,6 +54,11 @@ module _ {r : Region} {store patients terms : List ℕ} {v : ℕ} {head : Head} 
   pub few : s < 32
   few = omega (arith, known, heads .counted, heads .few)
 
+  -- What the costs of the patient's beds ask for.
+  pub asks-beds : Light head → {count : ℕ} → count ≡ bedsAt patients s → Price.Asks store patients terms s count (head .plan .beds)
+  asks-beds light counts =
+      record { region = r; prepared = heads .prepared; fits = heads .fits; known = known; few = few; counts = counts; long = light .beds }
+
 -- What is asked for on the way to the head below a bed.
 module _ {store patients terms : List ℕ} {head : Head} {s bed : ℕ} (asks : AsksNext store patients terms head s bed) where
   pub asks-few : s < 32
@@ -73,21 +70,10 @@ module _ {store patients terms : List ℕ} {head : Head} {s bed : ℕ} (asks : A
   pub asks-least : leastAt patients s ≤ head .bound
   asks-least = least-most (asks .heads) (asks .lowest)
 
-  module _ {beds : List ℕ} (is : beds ≡ set (head .plan .beds) s bed) where
-    pub asks-price : Price.Asks store patients terms s beds
-    asks-price =
-        record {
-          region = asks .region;
-          prepared = asks .heads .prepared;
-          fits = rw is (fits-next (asks .heads) (asks .lowest) (asks .light) bed (asks .fits));
-          known = known (asks .heads) (asks .lowest);
-          few = asks-few;
-        }
-
-    pub decides : {cost : Cost} → Price.Gives store patients terms s beds cost → {o : Option ℕ} → costIn cost ≡ o → Decides store patients terms head s bed o
-    decides gives e r v heads h =
-        ap (costOver (bucketOf r s) r) (sym is)
-        ∙ sym (gives .cost r (heads .prepared) (rw is (fits-next heads (asks .lowest) (asks .light) bed h)) (known heads (asks .lowest))) ∙ e
+  -- What the bed decides costs as much as the sum for it says.
+  pub decides : {count : ℕ} {sums : List ℕ} → Price.Gives store patients terms s count (head .plan .beds) sums → {o : Option ℕ} → sumIn (getD sums bed 0) ≡ o
+      → Decides store patients terms head s bed o
+  decides gives e r v heads h = sym (gives .cost r (heads .prepared) (heads .fits) (known heads (asks .lowest)) bed h) ∙ e
 
 -- Those who are left without the lowest.
 pub rest-left : (w s one rest : ℕ) (others : List ℕ) → members w ≡ s ∷ others → ((q : ℕ) → inSet one q ≡ eqb q s) → ((q : ℕ) → inSet rest q ≡ (inSet w q && not (inSet one q)))
@@ -140,3 +126,8 @@ pub below-head : {patients : List ℕ} {head : Head} {s bed c : ℕ} {rest : Res
     → GivesRest patients head s rest → plan .beds ≡ set (head .plan .beds) s bed → plan .len ≡ head .plan .len + 1 → c ≤ 64_000_000
     → Below patients head s bed c (record { left = rest .left; plan = plan; cost = head .cost + c; bound = rest .bound })
 below-head others lowest rest beds len most = record { left = rest .left others lowest; beds = beds; len = len; cost = refl; most = most; bound = rest .bound }
+
+-- The same of the plan that the bed would make.
+pub below-bed : {patients : List ℕ} {head : Head} {s bed c : ℕ} {rest : Rest} (others : List ℕ) → remaining head ≡ s ∷ others → GivesRest patients head s rest → c ≤ 64_000_000
+    → Below patients head s bed c (record { left = rest .left; plan = record { beds = set (head .plan .beds) s bed; len = head .plan .len + 1 }; cost = head .cost + c; bound = rest .bound })
+below-bed others lowest rest most = below-head others lowest rest refl refl most

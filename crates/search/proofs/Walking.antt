@@ -21,7 +21,7 @@ use Rattle.buckets.specs.Terms.{bedsAt}
 use Rattle.buckets.specs.Right.{beds-few}
 use Rattle.row_list.specs.Rows.{rowOf, rowIn, rowsIn, isBefore, Room}
 use Rattle.row_list.specs.Laws.{rows-long, rows-at}
-use Rattle.search.specs.Walks.{remaining, leftIn, headRow, Light, Heads, BranchOf, AsksNext, Below, Decides, pastHead, Asks, Gives}
+use Rattle.search.specs.Walks.{remaining, leftIn, headRow, Light, Heads, BranchOf, AsksNext, Below, Decides, isPast, Asks, Gives}
 use Rattle.search.specs.declared.walk.Head.{Head}
 use Rattle.search.proofs.Steps.{known, split, decided, below-split, row-below, light-below, heads-below, bound-holds}
 
@@ -169,8 +169,8 @@ module _ {store patients terms : List ℕ} {v n m : ℕ} {area : List ℕ} {head
             next-bed (gives .count) (gives .long) (λ r heads ready.
             grown-below r heads ready then grows (gives .grown r (heads-below is heads (asks .light) (fits r heads)) (ready-below r heads ready)))
 
-        pub sofar-cut : pastHead v found m now below ≡ true → Sofar store patients terms v n m area head s count now found (bed + 1)
-        unfolding pastHead
+        pub sofar-cut : isPast v found m now (below .cost + below .bound) (below .plan .beds) ≡ true → Sofar store patients terms v n m area head s count now found (bed + 1)
+        unfolding isPast
         sofar-cut past =
             let parts = both (eqb found m) past in
             let full : found ≡ m = eqb-true found m (parts .0) in

@@ -9,7 +9,8 @@ use Rattle.theorems.specs.List.{rowOrder}
 use Rattle.patient_set.specs.Sets.{members}
 use Rattle.partial_rows.specs.Rows.{Branch, Position}
 use Rattle.buckets.specs.Terms.{Fitting, bucketOf, leastIn, leastAt, Prepared}
-use Rattle.row_list.specs.Rows.{rowIn, rowsIn, isBefore, Room}
+use Rattle.pricing.specs.declared.Plan as Code
+use Rattle.row_list.specs.Rows.{rowWith, rowIn, rowsIn, isBefore, Room}
 use Rattle.search.specs.Lowest.{Upward}
 use Rattle.search.specs.declared.walk.Head.{Head}
 use Rattle.search.specs.declared.walk.Rest.{Rest}
@@ -81,10 +82,15 @@ pub record GivesRest (patients : List ℕ) (head : Head) (s : ℕ) (rest : Rest)
 
 -- ---- the cut
 
--- The list is full, and the cost so far with the bound, and the beds so far, are not before its last row.
-unfoldable pub pastHead : ℕ → ℕ → ℕ → List ℕ → Head → Bool
-pastHead v n m area head =
-    eqb n m && not (isBefore (compareRows (record { cost = head .cost + head .bound; beds = take v (head .plan .beds) }) (rowIn v area (m - 1))))
+-- The list is full, and a row of this cost and these beds is not before its last row.
+unfoldable pub isPast : ℕ → ℕ → ℕ → List ℕ → ℕ → List ℕ → Bool
+isPast v n m area cost beds = eqb n m && not (isBefore (compareRows (rowWith v cost beds) (rowIn v area (m - 1))))
+
+pub record AsksCut (v n m : ℕ) (area : List ℕ) (plan : Code.Plan) (s : ℕ) : Type 0 where
+  pub room : Room v n m area
+  pub few : s < 32
+  pub placed : plan .len < 32
+  pub beds : length (plan .beds) ≡ 32
 
 -- ---- the walk
 

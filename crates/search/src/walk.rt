@@ -3,12 +3,16 @@ use patient_set::PatientSet;
 use pricing::Cost;
 use pricing::Plan;
 use pricing::bed_count;
-use pricing::bucket_cost;
+use pricing::beds::bed_cost;
+use pricing::beds::bed_costs;
 use pricing::least_cost;
 use row_list::Row;
+use row_list::cost_at;
 use row_list::insert;
 use row_list::is_past;
-ghost use Rattle.search.specs.Walks.{AsksRest, GivesRest, Asks, Gives};
+ghost use mathlib.Core.Path.{_≡_};
+ghost use lib.ListN.{set};
+ghost use Rattle.search.specs.Walks.{AsksRest, GivesRest, isPast, AsksCut, Asks, Gives};
 
 // The head of a branch: who is left, the beds and the cost so far, and a lower bound of what the rest costs.
 pub struct Head {
@@ -34,6 +38,34 @@ fn rest_of(patients: &[u32; 96], head: Head, s: usize) -> Rest
         left: left.minus(PatientSet::one(s)),
         bound: head.bound - least_cost(patients, s) as u64,
     }
+}
+
+// Is the list full, and a row of this cost, with the plan's beds and one more, not before its last? Only at equal costs the beds are looked at.
+fn is_cut(
+    list: &[u32],
+    v: usize,
+    n: usize,
+    m: usize,
+    cost: u64,
+    plan: Plan,
+    s: usize,
+    bed: u8,
+) -> bool
+    requires { ⌜ AsksCut v n m (now list) plan s ⌝ }
+    ensures { λ r. ⌜ r ≡ isPast v n m (now (list .entry)) cost (set (plan .beds) s bed) ⌝ }
+{
+    if n < m {
+        return false;
+    }
+    let last = cost_at(list, m - 1);
+    if cost < last {
+        return false;
+    }
+    if last < cost {
+        return true;
+    }
+    let placed = plan.place(s, bed);
+    is_past(list, v, n, m, cost, &placed.beds)
 }
 
 // Adds the rows of the branch to the list: the m cheapest are kept.
@@ -63,17 +95,17 @@ pub fn walk(
     let others = rest.left;
     let bound = rest.bound;
     let before = head.plan;
+    let sums = bed_costs(patients, terms, entries, s, count, &before.beds);
     let mut found = n;
     let mut bed: usize = 0;
     while bed < count {
-        let plan = before.place(s, bed as u8);
-        let cost = bucket_cost(patients, terms, entries, s, &plan.beds);
+        let cost = bed_cost(&sums, bed);
         if let Cost::Of(n) = cost {
             let sum = head.cost + n;
-            if !is_past(list, v, found, m, sum + bound, &plan.beds) {
+            if !is_cut(list, v, found, m, sum + bound, before, s, bed as u8) {
                 let below = Head {
                     left: others,
-                    plan: plan,
+                    plan: before.place(s, bed as u8),
                     cost: sum,
                     bound: bound,
                 };

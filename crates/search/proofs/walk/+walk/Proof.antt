@@ -6,8 +6,8 @@ use Prim.Native.Nat.{ℕ, _<_, _-_}
 use lib.ListN.{length, length-set, drop}
 use borrow.Author.Tests.{not-false}
 use Rattle.pricing.specs.Pricing.{costIn}
-use Rattle.search.specs.Walks.{remaining, pastHead}
-use Rattle.search.proofs.Steps.{few, least-most, asks-few, asks-room, asks-price, decides, below-head}
+use Rattle.search.specs.Walks.{remaining, isPast}
+use Rattle.search.proofs.Steps.{few, least-most, asks-few, asks-room, asks-beds, decides, below-head, below-bed}
 use Rattle.search.proofs.Walking.{Sofar, walk-end, sofar-start, sofar-done, room-now, bed-small, asks-next, sofar-skip, asks-below, sofar-walk, sofar-cut, lowest-first}
 use borrow.Fn.Kinds.{In}
 use borrow.Fn.PlainCycle.{Measures, is, falls, and}
@@ -18,9 +18,10 @@ use Rattle.patient_set.proofs.PatientSet.is_empty.Reads as is-empty-reads
 use Rattle.patient_set.proofs.PatientSet.lowest.Reads as lowest-reads
 use Rattle.pricing.proofs.Plan.place.Reads as place-reads
 use Rattle.pricing.proofs.bed_count.Reads as bed-count-reads
-use Rattle.pricing.proofs.bucket_cost.Reads as bucket-cost-reads
+use Rattle.pricing.proofs.beds.bed_cost.Reads as bed-cost-reads
+use Rattle.pricing.proofs.beds.bed_costs.Reads as bed-costs-reads
 use Rattle.row_list.proofs.insert.Reads as insert-reads
-use Rattle.row_list.proofs.is_past.Reads as is-past-reads
+use Rattle.search.proofs.walk.is_cut.Reads as is-cut-reads
 use Rattle.search.proofs.walk.rest_of.Reads as rest-of-reads
 use Rattle.search.proofs.walk.+walk.{statement}
 use Rattle.search.proofs.walk.+walk.Tie.{close}
@@ -47,22 +48,24 @@ calls t = (
   bed-count-reads.Learnt,
   rest-of-reads.Asked,
   rest-of-reads.Learnt,
+  bed-costs-reads.Asked,
+  bed-costs-reads.Learnt,
+  bed-cost-reads.Asked,
+  bed-cost-reads.Learnt,
+  is-cut-reads.Asked,
+  is-cut-reads.Learnt,
   place-reads.Asked,
   place-reads.Learnt,
-  bucket-cost-reads.Asked,
-  bucket-cost-reads.Learnt,
-  is-past-reads.Asked,
-  is-past-reads.Learnt,
   walk-below t,
   walk.Post,
 )
 
 abbrev walk-Inv-loop : walk-lts.InvT-loop
-walk-Inv-loop list₀ patients terms entries v n m head s count others bound before found₀ bed₀ list found bed =
+walk-Inv-loop list₀ patients terms entries v n m head s count others bound before sums found₀ bed₀ list found bed =
     Sofar entries patients terms v n m list₀ head s count list found bed
 
 abbrev walk-μ-loop : walk-lts.MeasureT-loop
-walk-μ-loop list₀ patients terms entries v n m head s count others bound before found₀ bed₀ list found bed =
+walk-μ-loop list₀ patients terms entries v n m head s count others bound before sums found₀ bed₀ list found bed =
     count - bed
 
 walk-is-empty-requires : (t : ℕ) → walk-lts.Need-is-empty-requires (calls t) (walk-at t) walk.Post walk-Inv-loop walk-μ-loop
@@ -87,39 +90,59 @@ walk-bed-count-requires : (t : ℕ) → walk-lts.Need-bed-count-requires (calls 
 walk-bed-count-requires t c κs = few (c .before .before .before .before .before .pre .1 .heads) (lowest-first _ _ (sym (c .before .before .is-empty .ensures) ∙ c .before .if1 .left) (c .lowest .ensures))
 
 walk-rest-of-requires : (t : ℕ) → walk-lts.Need-rest-of-requires (calls t) (walk-at t) walk.Post walk-Inv-loop walk-μ-loop
-walk-rest-of-requires t c κs = let lowest = (lowest-first _ _ (sym (c .before .before .before .is-empty .ensures) ∙ c .before .before .if1 .left) (c .before .lowest .ensures)) in record { few = few (c .before .before .before .before .before .before .pre .1 .heads) lowest; least = least-most (c .before .before .before .before .before .before .pre .1 .heads) lowest }
+walk-rest-of-requires t c κs =
+    let lowest = lowest-first _ _ (sym (c .before .before .before .is-empty .ensures) ∙ c .before .before .if1 .left) (c .before .lowest .ensures) in
+    record { few = few (c .before .before .before .before .before .before .pre .1 .heads) lowest; least = least-most (c .before .before .before .before .before .before .pre .1 .heads) lowest }
+
+walk-bed-costs-requires : (t : ℕ) → walk-lts.Need-bed-costs-requires (calls t) (walk-at t) walk.Post walk-Inv-loop walk-μ-loop
+walk-bed-costs-requires t c κs = asks-beds (c .before .before .before .before .before .before .before .before .before .before .before .pre .1 .heads) (lowest-first _ _ (sym (c .before .before .before .before .before .before .before .before .is-empty .ensures) ∙ c .before .before .before .before .before .before .before .if1 .left) (c .before .before .before .before .before .before .lowest .ensures)) (c .before .before .before .before .before .before .before .before .before .before .before .pre .1 .light) (c .before .before .before .before .before .bed-count .ensures)
 
 walk-loop-holds : (t : ℕ) → walk-lts.Need-loop-holds (calls t) (walk-at t) walk.Post walk-Inv-loop walk-μ-loop
-walk-loop-holds t c = sofar-start (c .before .before .before .before .before .before .before .before .before .pre .1) (drop 1 (remaining (c .before .before .before .before .before .before .before .before .before .args .head))) (lowest-first _ _ (sym (c .before .before .before .before .before .before .is-empty .ensures) ∙ c .before .before .before .before .before .if1 .left) (c .before .before .before .before .lowest .ensures)) (c .before .before .before .bed-count .ensures)
+walk-loop-holds t c = sofar-start (c .before .before .before .before .before .before .before .before .before .before .before .before .pre .1) (drop 1 (remaining (c .before .before .before .before .before .before .before .before .before .before .before .before .args .head))) (lowest-first _ _ (sym (c .before .before .before .before .before .before .before .before .before .is-empty .ensures) ∙ c .before .before .before .before .before .before .before .before .if1 .left) (c .before .before .before .before .before .before .before .lowest .ensures)) (c .before .before .before .before .before .before .bed-count .ensures)
 
-walk-cast-place : (t : ℕ) → walk-lts.Need-cast-place (calls t) (walk-at t) walk.Post walk-Inv-loop walk-μ-loop
-walk-cast-place t c = omega (arith, bed-small (c .before .before .before .before .before .before .before .before .before .before .before .pre .1) (c .before .loop .inv) (c .loop-test .taken))
-
-walk-place-requires : (t : ℕ) → walk-lts.Need-place-requires (calls t) (walk-at t) walk.Post walk-Inv-loop walk-μ-loop
-walk-place-requires t c κs = let asks = asks-next (c .before .before .before .before .before .before .before .before .before .before .before .pre .1) (c .before .loop .inv) (c .loop-test .taken) in (asks-few asks, asks-room asks)
-
-walk-bucket-cost-requires : (t : ℕ) → walk-lts.Need-bucket-cost-requires (calls t) (walk-at t) walk.Post walk-Inv-loop walk-μ-loop
-walk-bucket-cost-requires t c κs = asks-price (asks-next (c .before .before .before .before .before .before .before .before .before .before .before .before .before .before .pre .1) (c .before .before .before .before .loop .inv) (c .before .before .before .loop-test .taken)) (c .before .before .place .ensures .0)
+walk-bed-cost-requires : (t : ℕ) → walk-lts.Need-bed-cost-requires (calls t) (walk-at t) walk.Post walk-Inv-loop walk-μ-loop
+walk-bed-cost-requires t c κs = bed-small (c .before .before .before .before .before .before .before .before .before .before .before .before .before .before .before .pre .1) (c .before .before .loop .inv) (c .before .loop-test .taken)
 
 walk-enum-known-cost : (t : ℕ) → walk-lts.Need-enum-known-cost (calls t) (walk-at t) walk.Post walk-Inv-loop walk-μ-loop
 walk-enum-known-cost t c = search needs
 
 walk-add-sum : (t : ℕ) → walk-lts.Need-add-sum (calls t) (walk-at t) walk.Post walk-Inv-loop walk-μ-loop
-walk-add-sum t c = omega (arith, c .before .before .before .before .bucket-cost .ensures .most _ (ap costIn (c .before .before .cost .given .1)), c .before .before .before .before .before .before .before .before .before .before .before .before .before .before .before .before .before .before .before .pre .1 .light .cost, c .before .before .before .before .before .before .before .before .before .before .before .before .before .before .before .before .before .before .before .pre .1 .light .placed)
+walk-add-sum t c =
+    let most = c .before .before .before .before .before .before .before .before .bed-costs .ensures .small _ (c .before .before .before .before .before .before .loop-test .taken) _ (sym (c .before .before .before .before .bed-cost .ensures) ∙ ap costIn (c .before .before .cost .given .1)) in
+    let light = c .before .before .before .before .before .before .before .before .before .before .before .before .before .before .before .before .before .before .before .before .pre .1 .light in
+    omega (arith, most, light .cost, light .placed)
 
-walk-add-is-past : (t : ℕ) → walk-lts.Need-add-is-past (calls t) (walk-at t) walk.Post walk-Inv-loop walk-μ-loop
-walk-add-is-past t c = omega (arith, c .before .before .before .before .before .bucket-cost .ensures .most _ (ap costIn (c .before .before .before .cost .given .1)), c .before .before .before .before .before .before .before .before .before .before .before .before .before .before .before .before .before .before .before .before .pre .1 .light .cost, c .before .before .before .before .before .before .before .before .before .before .before .before .before .before .before .before .before .before .before .before .pre .1 .light .placed, c .before .before .before .before .before .before .before .before .before .before .before .before .before .before .before .before .before .before .before .before .pre .1 .light .bound, c .before .before .before .before .before .before .before .before .before .before .before .before .before .rest-of .ensures .bound)
+walk-add-is-cut : (t : ℕ) → walk-lts.Need-add-is-cut (calls t) (walk-at t) walk.Post walk-Inv-loop walk-μ-loop
+walk-add-is-cut t c =
+    let most = c .before .before .before .before .before .before .before .before .before .bed-costs .ensures .small _ (c .before .before .before .before .before .before .before .loop-test .taken) _ (sym (c .before .before .before .before .before .bed-cost .ensures) ∙ ap costIn (c .before .before .before .cost .given .1)) in
+    let light = c .before .before .before .before .before .before .before .before .before .before .before .before .before .before .before .before .before .before .before .before .before .pre .1 .light in
+    omega (arith, most, light .cost, light .placed, light .bound, c .before .before .before .before .before .before .before .before .before .before .before .before .before .before .rest-of .ensures .bound)
 
-walk-is-past-requires : (t : ℕ) → walk-lts.Need-is-past-requires (calls t) (walk-at t) walk.Post walk-Inv-loop walk-μ-loop
-walk-is-past-requires t c κs = (room-now (c .before .before .before .before .before .before .before .before .before .before .before .before .before .before .before .before .before .before .before .before .before .before .pre .1) (c .before .before .before .before .before .before .before .before .before .before .before .before .loop .inv), rw (c .before .before .before .before .before .before .before .before .before .before .place .ensures .0) (simp length-set (c .before .before .before .before .before .before .before .before .before .before .before .before .before .before .before .before .before .before .before .before .before .before .pre .1 .light .beds)))
+walk-cast-is-cut : (t : ℕ) → walk-lts.Need-cast-is-cut (calls t) (walk-at t) walk.Post walk-Inv-loop walk-μ-loop
+walk-cast-is-cut t c = omega (arith, bed-small (c .before .before .before .before .before .before .before .before .before .before .before .before .before .before .before .before .before .before .before .before .before .pre .1) (c .before .before .before .before .before .before .before .before .loop .inv) (c .before .before .before .before .before .before .before .loop-test .taken))
+
+walk-is-cut-requires : (t : ℕ) → walk-lts.Need-is-cut-requires (calls t) (walk-at t) walk.Post walk-Inv-loop walk-μ-loop
+walk-is-cut-requires t c κs =
+    let pre = c .before .before .before .before .before .before .before .before .before .before .before .before .before .before .before .before .before .before .before .before .before .pre .1 in
+    let asks = asks-next pre (c .before .before .before .before .before .before .before .before .loop .inv) (c .before .before .before .before .before .before .before .loop-test .taken) in
+    record { room = room-now pre (c .before .before .before .before .before .before .before .before .loop .inv); few = asks-few asks; placed = asks-room asks; beds = pre .light .beds }
+
+walk-cast-place : (t : ℕ) → walk-lts.Need-cast-place (calls t) (walk-at t) walk.Post walk-Inv-loop walk-μ-loop
+walk-cast-place t c = omega (arith, bed-small (c .before .before .before .before .before .before .before .before .before .before .before .before .before .before .before .before .before .before .before .before .before .before .before .pre .1) (c .before .before .before .before .before .before .before .before .before .before .loop .inv) (c .before .before .before .before .before .before .before .before .before .loop-test .taken))
+
+walk-place-requires : (t : ℕ) → walk-lts.Need-place-requires (calls t) (walk-at t) walk.Post walk-Inv-loop walk-μ-loop
+walk-place-requires t c κs = let asks = asks-next (c .before .before .before .before .before .before .before .before .before .before .before .before .before .before .before .before .before .before .before .before .before .before .before .pre .1) (c .before .before .before .before .before .before .before .before .before .before .loop .inv) (c .before .before .before .before .before .before .before .before .before .loop-test .taken) in (asks-few asks, asks-room asks)
 
 walk-walk-requires : (t : ℕ) → walk-lts.Need-walk-requires (calls t) (walk-at t) walk.Post walk-Inv-loop walk-μ-loop
 walk-walk-requires t c κs =
     let pre = c .before .before .before .before .before .before .before .before .before .before .before .before .before .before .before .before .before .before .before .before .before .before .before .before .before .pre in
-    let inv = c .before .before .before .before .before .before .before .before .before .before .before .before .before .before .before .loop .inv in
-    let more = c .before .before .before .before .before .before .before .before .before .before .before .before .before .before .loop-test .taken in
-    let is = below-head (inv .others) (inv .lowest) (c .before .before .before .before .before .before .before .before .before .before .before .before .before .before .before .before .before .before .rest-of .ensures) (c .before .before .before .before .before .before .before .before .before .before .before .before .before .place .ensures .0) (c .before .before .before .before .before .before .before .before .before .before .before .before .before .place .ensures .1) (c .before .before .before .before .before .before .before .before .before .before .bucket-cost .ensures .most _ (ap costIn (c .before .before .before .before .before .before .before .before .cost .given .1))) in
-    (omega (arith, pre .0, ap length (is .left)), asks-below (pre .1) inv more is (decides (asks-next (pre .1) inv more) (c .before .before .before .before .before .before .before .before .before .before .before .before .before .place .ensures .0) (c .before .before .before .before .before .before .before .before .before .before .bucket-cost .ensures) (ap costIn (c .before .before .before .before .before .before .before .before .cost .given .1))))
+    let inv = c .before .before .before .before .before .before .before .before .before .before .before .before .loop .inv in
+    let more = c .before .before .before .before .before .before .before .before .before .before .before .loop-test .taken in
+    let costs = c .before .before .before .before .before .before .before .before .before .before .before .before .before .bed-costs .ensures in
+    let priced = sym (c .before .before .before .before .before .before .before .before .before .bed-cost .ensures) ∙ ap costIn (c .before .before .before .before .before .before .before .cost .given .1) in
+    let placed = c .before .place .ensures in
+    let is = below-head (inv .others) (inv .lowest) (c .before .before .before .before .before .before .before .before .before .before .before .before .before .before .before .before .before .before .rest-of .ensures) (placed .0) (placed .1) (costs .small _ more _ priced) in
+    (omega (arith, pre .0, ap length (is .left)), asks-below (pre .1) inv more is (decides (asks-next (pre .1) inv more) costs priced))
 
 walk-enum-told : (t : ℕ) → walk-lts.Need-enum-told (calls t) (walk-at t) walk.Post walk-Inv-loop walk-μ-loop
 walk-enum-told t c = search needs
@@ -131,30 +154,29 @@ walk-loop-less : (t : ℕ) → walk-lts.Need-loop-less (calls t) (walk-at t) wal
 walk-loop-less t c = search needs
 
 walk-loop-again : (t : ℕ) → walk-lts.Need-loop-again (calls t) (walk-at t) walk.Post walk-Inv-loop walk-μ-loop
-unfolding pastHead
 walk-loop-again t c =
-    let pre = c .before .before .before .before .before .before .before .before .before .before .before .before .before .before .before .before .pre .1 in
-    let inv = c .before .before .before .before .before .before .loop .inv in
-    let more = c .before .before .before .before .before .loop-test .taken in
-    let placed = c .before .before .before .before .place .ensures in
-    let priced = c .before .bucket-cost .ensures in
-    let rest = c .before .before .before .before .before .before .before .before .before .rest-of .ensures in
+    let pre = c .before .before .before .before .before .before .before .before .before .before .before .before .before .before .before .before .before .pre .1 in
+    let inv = c .before .before .before .before .loop .inv in
+    let more = c .before .before .before .loop-test .taken in
+    let costs = c .before .before .before .before .before .bed-costs .ensures in
+    let price = c .before .bed-cost .ensures in
+    let rest = c .before .before .before .before .before .before .before .before .before .before .rest-of .ensures in
     ⊎-elim
     (λ w.
-    let is = ap costIn (w .1 .given .1) in
-    rw (w .13, w .14) (sofar-walk pre inv more (below-head (inv .others) (inv .lowest) rest (placed .0) (placed .1) (priced .most _ is)) (decides (asks-next pre inv more) (placed .0) priced is) (w .10 .ensures)))
+    let priced = sym price ∙ ap costIn (w .1 .given .1) in
+    rw (w .12, w .13) (sofar-walk pre inv more (below-head (inv .others) (inv .lowest) rest (w .7 .ensures .0) (w .7 .ensures .1) (costs .small _ more _ priced)) (decides (asks-next pre inv more) costs priced) (w .9 .ensures)))
     (⊎-elim
     (λ w.
-    let is = ap costIn (w .1 .given .1) in
-    rw (w .9, w .10) (sofar-cut pre inv more (below-head (inv .others) (inv .lowest) rest (placed .0) (placed .1) (priced .most _ is)) (decides (asks-next pre inv more) (placed .0) priced is) (sym (w .7 .ensures) ∙ not-false _ (w .8 .left))))
-    (λ w. rw (w .2, w .3) (sofar-skip pre inv more (decides (asks-next pre inv more) (placed .0) priced (ap costIn (w .1 .given .1))))))
+    let priced = sym price ∙ ap costIn (w .1 .given .1) in
+    rw (w .7, w .8) (sofar-cut pre inv more (below-bed (inv .others) (inv .lowest) rest (costs .small _ more _ priced)) (decides (asks-next pre inv more) costs priced) (sym (w .5 .ensures) ∙ not-false _ (w .6 .left))))
+    (λ w. rw (w .2, w .3) (sofar-skip pre inv more (decides (asks-next pre inv more) costs (sym price ∙ ap costIn (w .1 .given .1))))))
     (c .match .came)
 
 walk-same-length-2 : (t : ℕ) → walk-lts.Need-same-length-2 (calls t) (walk-at t) walk.Post walk-Inv-loop walk-μ-loop
 walk-same-length-2 t c = search needs
 
 walk-returns-2 : (t : ℕ) → walk-lts.Need-returns-2 (calls t) (walk-at t) walk.Post walk-Inv-loop walk-μ-loop
-walk-returns-2 t c = sofar-done (c .before .before .before .before .before .before .before .before .before .before .before .pre .1) (c .before .loop .inv) (c .loop-test .left)
+walk-returns-2 t c = sofar-done (c .before .before .before .before .before .before .before .before .before .before .before .before .before .before .pre .1) (c .before .loop .inv) (c .loop-test .left)
 
 pub +walk-spec : {M : Type 1} → statement M
 +walk-spec = close μ-walk λ t. walk-lts.spec (calls t)
@@ -170,14 +192,16 @@ pub +walk-spec : {M : Type 1} → statement M
     (walk-cast-s t)
     (walk-bed-count-requires t)
     (walk-rest-of-requires t)
+    (walk-bed-costs-requires t)
     (walk-loop-holds t)
-    (walk-cast-place t)
-    (walk-place-requires t)
-    (walk-bucket-cost-requires t)
+    (walk-bed-cost-requires t)
     (walk-enum-known-cost t)
     (walk-add-sum t)
-    (walk-add-is-past t)
-    (walk-is-past-requires t)
+    (walk-add-is-cut t)
+    (walk-cast-is-cut t)
+    (walk-is-cut-requires t)
+    (walk-cast-place t)
+    (walk-place-requires t)
     (walk-walk-requires t)
     (walk-enum-told t)
     (walk-add-bed t)

@@ -1,0 +1,28 @@
+-- When a branch is cut: the list is full, and the branch's best row is not before its last. Assumes nothing.
+use mathlib.Core.Path.{_≡_, sym, ap, _∙_}
+use borrow.Author.Tests.{eq-eqb, ne-eqb}
+use native.Mathlib.Omega.{arith}
+use Prim.Native.Nat.{_≤_}
+use Rattle.definitions.specs.Basics.{ℕ, _-_, _<_, Ordering, Ordering·lt, Ordering·gt, compare, Bool, true, false, not, _&&_, List, take}
+use Rattle.definitions.specs.Plans.{thenBy, compareBeds}
+use Rattle.row_list.specs.Rows.{rowIn, isBefore, Room}
+use Rattle.row_list.specs.Numbers.{less, more}
+use Rattle.search.specs.Walks.{isPast}
+
+module _ (v n m : ℕ) (area : List ℕ) (cost : ℕ) (beds : List ℕ) where
+  -- A list with room cuts nothing.
+  pub not-full : n < m → false ≡ isPast v n m area cost beds
+  unfolding isPast
+  not-full h = rw (ne-eqb n m (λ e. omega arith))
+
+  module _ (room : Room v n m area) (full : m ≤ n) where
+    -- The costs decide where they differ.
+    by-cost : (o : Ordering) → compare cost (rowIn v area (m - 1) .cost) ≡ o → isPast v n m area cost beds ≡ not (isBefore (thenBy o (compareBeds (take v beds) (rowIn v area (m - 1) .beds))))
+    unfolding isPast
+    by-cost o e = rw (eq-eqb n m (omega (arith, room .held))) (ap (λ c. not (isBefore (thenBy c (compareBeds (take v beds) (rowIn v area (m - 1) .beds))))) e)
+
+    pub cheaper : cost < rowIn v area (m - 1) .cost → false ≡ isPast v n m area cost beds
+    cheaper h = sym (by-cost Ordering·lt (less cost (rowIn v area (m - 1) .cost) h))
+
+    pub dearer : rowIn v area (m - 1) .cost < cost → true ≡ isPast v n m area cost beds
+    dearer h = sym (by-cost Ordering·gt (more cost (rowIn v area (m - 1) .cost) h))
