@@ -22,7 +22,7 @@ pub record Sums (store patients terms : List ℕ) (s count : ℕ) (beds sums : L
   pub left : (r : Region) → Prepared r store patients terms → Fitting r beds → s < length (r .patients)
       → (bed : ℕ) → bed < patientAt r s .bedCount → Left r store terms s (set beds s bed) (sumIn (getD sums bed 0)) k
 
-module _ {store patients terms : List ℕ} {s count : ℕ} {beds : List ℕ} (asks : Asks store patients terms s count beds) where
+module _ {store patients terms : List ℕ} {s count : ℕ} {beds zeros : List ℕ} (asks : Asks store patients terms s count beds zeros) where
   pub first-most : firstAt patients s ≤ 64
   first-most = chain-most (asks .region) store terms 0 _ _ (asks .prepared .bucket s (asks .known))
 
@@ -33,12 +33,12 @@ module _ {store patients terms : List ℕ} {s count : ℕ} {beds : List ℕ} (as
   few-beds : count ≤ 16
   few-beds = omega (arith, counted (asks .region) (asks .prepared) (asks .known), beds-few (asks .region) (asks .prepared .answered) s (asks .known))
 
-  nothing : (bed : ℕ) → bed < count → _≡_ {A = ℕ} (getD (replicate 16 0) bed 0) 0
-  nothing bed h = getD-replicate 16 bed 0 0 (omega (arith, few-beds))
+  nothing : (bed : ℕ) → bed < count → getD zeros bed 0 ≡ 0
+  nothing bed h = ap (λ (l : List ℕ). getD l bed 0) (asks .zeros) ∙ getD-replicate 16 bed 0 0 (omega (arith, few-beds))
 
-  pub sums-start : Sums store patients terms s count beds (replicate 16 0) (firstAt patients s)
+  pub sums-start : Sums store patients terms s count beds zeros (firstAt patients s)
   sums-start = record {
-    long = refl;
+    long = ap length (asks .zeros);
     few = λ bed n h e. (let zero : some 0 ≡ some n = sym (ap sumIn (nothing bed h)) ∙ e in let none : n ≡ 0 = cc in omega arith);
     left = λ r prepared fits known bed h.
         subst (λ w. Left r store terms s (set beds s bed) (sumIn w) (firstAt patients s)) (sym (nothing bed (omega (arith, counted r prepared known)))) (left-start r store terms s (set beds s bed) (prepared .bucket s known));

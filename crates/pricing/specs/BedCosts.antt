@@ -1,7 +1,7 @@
 -- What the costs of a patient's beds ask for and give.
 use Prim.Native.Nat.{_≤_}
 use lib.ListN.{set}
-use Rattle.definitions.specs.Basics.{ℕ, _+_, _*_, _<_, _≡_, Option, some, List, length, getD}
+use Rattle.definitions.specs.Basics.{ℕ, _+_, _*_, _<_, _≡_, Option, some, List, length, getD, replicate}
 use Rattle.definitions.specs.Syntax.{Region, patientAt}
 use Rattle.definitions.specs.Plans.{costOver}
 use Rattle.theorems.specs.Sums.{plus}
@@ -36,7 +36,7 @@ pub record GivesEntries (store : List ℕ) (from step count : ℕ) (sums after :
   pub each : (bed : ℕ) → bed < count → sumIn (getD after bed 0) ≡ plus (sumIn (getD sums bed 0)) (entryIn (getD store (from + bed * step) 0))
 
 -- The costs of all beds of a patient.
-pub record Asks (store patients terms : List ℕ) (s count : ℕ) (beds : List ℕ) : Type 0 where
+pub record Asks (store patients terms : List ℕ) (s count : ℕ) (beds sums : List ℕ) : Type 0 where
   pub region : Region
   pub prepared : Prepared region store patients terms
   pub fits : Fitting region beds
@@ -44,6 +44,7 @@ pub record Asks (store patients terms : List ℕ) (s count : ℕ) (beds : List �
   pub few : s < 32
   pub counts : count ≡ bedsAt patients s
   pub long : length beds ≡ 32
+  pub zeros : sums ≡ replicate 16 0
 
 pub record Gives (store patients terms : List ℕ) (s count : ℕ) (beds sums : List ℕ) : Type 0 where
   pub small : (bed : ℕ) → bed < count → Small (getD sums bed 0)

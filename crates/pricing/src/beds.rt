@@ -67,26 +67,25 @@ fn add_entries(sums: &mut [u64; 16], entries: &[u32; 4096], from: usize, step: u
     }
 }
 
-// What the tables of a patient's bucket cost together, for each of its beds.
+// What the tables of a patient's bucket cost together, for each of its beds, in sums that were zero.
 pub fn bed_costs(
+    sums: &mut [u64; 16],
     patients: &[u32; 96],
     terms: &[u32; 640],
     entries: &[u32; 4096],
     s: usize,
     count: usize,
     beds: &[u8; 32],
-) -> [u64; 16]
-    requires { ⌜ Asks (now entries) (now patients) (now terms) s count (now beds) ⌝ }
-    ensures { λ sums. ⌜ Gives (now (entries .entry)) (now (patients .entry)) (now (terms .entry)) s count (now (beds .entry)) sums ⌝ }
+)
+    requires { ⌜ Asks (now entries) (now patients) (now terms) s count (now beds) (now sums) ⌝ }
+    ensures { λ _. ⌜ Gives (now (entries .entry)) (now (patients .entry)) (now (terms .entry)) s count (now (beds .entry)) (now (sums .exit)) ⌝ }
 {
-    let mut sums = [0u64; 16];
     let mut k = patients[s * 3 + 2] as usize;
     while k < 64 {
         let places = bed_places(terms, k, s, beds);
-        add_entries(&mut sums, entries, places.first, places.step, count);
+        add_entries(sums, entries, places.first, places.step, count);
         k = terms[k * 10 + 1] as usize;
     }
-    sums
 }
 
 // The cost of one of the beds.

@@ -5,7 +5,7 @@ use native.Mathlib.Omega.{arith}
 use lib.ListN.{set, length-set}
 use lib.Seq.{take-set-lt}
 use borrow.Author.Tests.{eq-eqb}
-use Rattle.definitions.specs.Basics.{ℕ, _+_, _<_, Bool, true, false, not, _&&_, _||_, Option, List, _∷_, map, length, getD, take, sum, eqb, isEmpty, contains, ltb, everyTwo}
+use Rattle.definitions.specs.Basics.{ℕ, _+_, _<_, Bool, true, false, not, _&&_, _||_, Option, List, _∷_, map, length, getD, take, sum, eqb, isEmpty, contains, ltb, everyTwo, replicate}
 use Rattle.definitions.specs.Syntax.{Region, patientAt}
 use Rattle.definitions.specs.Plans.{Plan, bedOf, Row, costOver}
 use Rattle.patient_set.specs.Sets.{inSet, members, first}
@@ -55,9 +55,9 @@ module _ {r : Region} {store patients terms : List ℕ} {v : ℕ} {head : Head} 
   few = omega (arith, known, heads .counted, heads .few)
 
   -- What the costs of the patient's beds ask for.
-  pub asks-beds : Light head → {count : ℕ} → count ≡ bedsAt patients s → Price.Asks store patients terms s count (head .plan .beds)
+  pub asks-beds : Light head → {count : ℕ} → count ≡ bedsAt patients s → Price.Asks store patients terms s count (head .plan .beds) (replicate 16 0)
   asks-beds light counts =
-      record { region = r; prepared = heads .prepared; fits = heads .fits; known = known; few = few; counts = counts; long = light .beds }
+      record { region = r; prepared = heads .prepared; fits = heads .fits; known = known; few = few; counts = counts; long = light .beds; zeros = refl }
 
 -- What is asked for on the way to the head below a bed.
 module _ {store patients terms : List ℕ} {head : Head} {s bed : ℕ} (asks : AsksNext store patients terms head s bed) where

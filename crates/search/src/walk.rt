@@ -95,7 +95,8 @@ pub fn walk(
     let others = rest.left;
     let bound = rest.bound;
     let before = head.plan;
-    let sums = bed_costs(patients, terms, entries, s, count, &before.beds);
+    let mut sums = [0u64; 16];
+    bed_costs(&mut sums, patients, terms, entries, s, count, &before.beds);
     let mut found = n;
     let mut bed: usize = 0;
     while bed < count {

@@ -10,10 +10,10 @@ use Rattle.pricing.proofs.beds.add_entries.Reads as add-entries-reads
 use Rattle.pricing.proofs.beds.bed_places.Reads as bed-places-reads
 
 abbrev Inv-loop : tie.InvT-loop
-Inv-loop patients terms entries s count beds sums₀ k₀ sums k = Sums entries patients terms s count beds sums k
+Inv-loop sums₀ patients terms entries s count beds k₀ sums k = Sums entries patients terms s count beds sums k
 
 abbrev μ-loop : tie.MeasureT-loop
-μ-loop patients terms entries s count beds sums₀ k₀ sums k = 64 - k
+μ-loop sums₀ patients terms entries s count beds k₀ sums k = 64 - k
 
 -- src/beds.rt:83:26
 mul-k : tie.Need-mul-k Inv-loop μ-loop

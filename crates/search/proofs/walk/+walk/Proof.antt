@@ -95,13 +95,13 @@ walk-rest-of-requires t c κs =
     record { few = few (c .before .before .before .before .before .before .pre .1 .heads) lowest; least = least-most (c .before .before .before .before .before .before .pre .1 .heads) lowest }
 
 walk-bed-costs-requires : (t : ℕ) → walk-lts.Need-bed-costs-requires (calls t) (walk-at t) walk.Post walk-Inv-loop walk-μ-loop
-walk-bed-costs-requires t c κs = asks-beds (c .before .before .before .before .before .before .before .before .before .before .before .pre .1 .heads) (lowest-first _ _ (sym (c .before .before .before .before .before .before .before .before .is-empty .ensures) ∙ c .before .before .before .before .before .before .before .if1 .left) (c .before .before .before .before .before .before .lowest .ensures)) (c .before .before .before .before .before .before .before .before .before .before .before .pre .1 .light) (c .before .before .before .before .before .bed-count .ensures)
+walk-bed-costs-requires t c κs = asks-beds (c .before .before .before .before .before .before .before .before .before .before .before .before .pre .1 .heads) (lowest-first _ _ (sym (c .before .before .before .before .before .before .before .before .before .is-empty .ensures) ∙ c .before .before .before .before .before .before .before .before .if1 .left) (c .before .before .before .before .before .before .before .lowest .ensures)) (c .before .before .before .before .before .before .before .before .before .before .before .before .pre .1 .light) (c .before .before .before .before .before .before .bed-count .ensures)
 
 walk-loop-holds : (t : ℕ) → walk-lts.Need-loop-holds (calls t) (walk-at t) walk.Post walk-Inv-loop walk-μ-loop
-walk-loop-holds t c = sofar-start (c .before .before .before .before .before .before .before .before .before .before .before .before .pre .1) (drop 1 (remaining (c .before .before .before .before .before .before .before .before .before .before .before .before .args .head))) (lowest-first _ _ (sym (c .before .before .before .before .before .before .before .before .before .is-empty .ensures) ∙ c .before .before .before .before .before .before .before .before .if1 .left) (c .before .before .before .before .before .before .before .lowest .ensures)) (c .before .before .before .before .before .before .bed-count .ensures)
+walk-loop-holds t c = sofar-start (c .before .before .before .before .before .before .before .before .before .before .before .before .before .pre .1) (drop 1 (remaining (c .before .before .before .before .before .before .before .before .before .before .before .before .before .args .head))) (lowest-first _ _ (sym (c .before .before .before .before .before .before .before .before .before .before .is-empty .ensures) ∙ c .before .before .before .before .before .before .before .before .before .if1 .left) (c .before .before .before .before .before .before .before .before .lowest .ensures)) (c .before .before .before .before .before .before .before .bed-count .ensures)
 
 walk-bed-cost-requires : (t : ℕ) → walk-lts.Need-bed-cost-requires (calls t) (walk-at t) walk.Post walk-Inv-loop walk-μ-loop
-walk-bed-cost-requires t c κs = bed-small (c .before .before .before .before .before .before .before .before .before .before .before .before .before .before .before .pre .1) (c .before .before .loop .inv) (c .before .loop-test .taken)
+walk-bed-cost-requires t c κs = bed-small (c .before .before .before .before .before .before .before .before .before .before .before .before .before .before .before .before .pre .1) (c .before .before .loop .inv) (c .before .loop-test .taken)
 
 walk-enum-known-cost : (t : ℕ) → walk-lts.Need-enum-known-cost (calls t) (walk-at t) walk.Post walk-Inv-loop walk-μ-loop
 walk-enum-known-cost t c = search needs
@@ -109,39 +109,39 @@ walk-enum-known-cost t c = search needs
 walk-add-sum : (t : ℕ) → walk-lts.Need-add-sum (calls t) (walk-at t) walk.Post walk-Inv-loop walk-μ-loop
 walk-add-sum t c =
     let most = c .before .before .before .before .before .before .before .before .bed-costs .ensures .small _ (c .before .before .before .before .before .before .loop-test .taken) _ (sym (c .before .before .before .before .bed-cost .ensures) ∙ ap costIn (c .before .before .cost .given .1)) in
-    let light = c .before .before .before .before .before .before .before .before .before .before .before .before .before .before .before .before .before .before .before .before .pre .1 .light in
+    let light = c .before .before .before .before .before .before .before .before .before .before .before .before .before .before .before .before .before .before .before .before .before .pre .1 .light in
     omega (arith, most, light .cost, light .placed)
 
 walk-add-is-cut : (t : ℕ) → walk-lts.Need-add-is-cut (calls t) (walk-at t) walk.Post walk-Inv-loop walk-μ-loop
 walk-add-is-cut t c =
     let most = c .before .before .before .before .before .before .before .before .before .bed-costs .ensures .small _ (c .before .before .before .before .before .before .before .loop-test .taken) _ (sym (c .before .before .before .before .before .bed-cost .ensures) ∙ ap costIn (c .before .before .before .cost .given .1)) in
-    let light = c .before .before .before .before .before .before .before .before .before .before .before .before .before .before .before .before .before .before .before .before .before .pre .1 .light in
-    omega (arith, most, light .cost, light .placed, light .bound, c .before .before .before .before .before .before .before .before .before .before .before .before .before .before .rest-of .ensures .bound)
+    let light = c .before .before .before .before .before .before .before .before .before .before .before .before .before .before .before .before .before .before .before .before .before .before .pre .1 .light in
+    omega (arith, most, light .cost, light .placed, light .bound, c .before .before .before .before .before .before .before .before .before .before .before .before .before .before .before .rest-of .ensures .bound)
 
 walk-cast-is-cut : (t : ℕ) → walk-lts.Need-cast-is-cut (calls t) (walk-at t) walk.Post walk-Inv-loop walk-μ-loop
-walk-cast-is-cut t c = omega (arith, bed-small (c .before .before .before .before .before .before .before .before .before .before .before .before .before .before .before .before .before .before .before .before .before .pre .1) (c .before .before .before .before .before .before .before .before .loop .inv) (c .before .before .before .before .before .before .before .loop-test .taken))
+walk-cast-is-cut t c = omega (arith, bed-small (c .before .before .before .before .before .before .before .before .before .before .before .before .before .before .before .before .before .before .before .before .before .before .pre .1) (c .before .before .before .before .before .before .before .before .loop .inv) (c .before .before .before .before .before .before .before .loop-test .taken))
 
 walk-is-cut-requires : (t : ℕ) → walk-lts.Need-is-cut-requires (calls t) (walk-at t) walk.Post walk-Inv-loop walk-μ-loop
 walk-is-cut-requires t c κs =
-    let pre = c .before .before .before .before .before .before .before .before .before .before .before .before .before .before .before .before .before .before .before .before .before .pre .1 in
+    let pre = c .before .before .before .before .before .before .before .before .before .before .before .before .before .before .before .before .before .before .before .before .before .before .pre .1 in
     let asks = asks-next pre (c .before .before .before .before .before .before .before .before .loop .inv) (c .before .before .before .before .before .before .before .loop-test .taken) in
     record { room = room-now pre (c .before .before .before .before .before .before .before .before .loop .inv); few = asks-few asks; placed = asks-room asks; beds = pre .light .beds }
 
 walk-cast-place : (t : ℕ) → walk-lts.Need-cast-place (calls t) (walk-at t) walk.Post walk-Inv-loop walk-μ-loop
-walk-cast-place t c = omega (arith, bed-small (c .before .before .before .before .before .before .before .before .before .before .before .before .before .before .before .before .before .before .before .before .before .before .before .pre .1) (c .before .before .before .before .before .before .before .before .before .before .loop .inv) (c .before .before .before .before .before .before .before .before .before .loop-test .taken))
+walk-cast-place t c = omega (arith, bed-small (c .before .before .before .before .before .before .before .before .before .before .before .before .before .before .before .before .before .before .before .before .before .before .before .before .pre .1) (c .before .before .before .before .before .before .before .before .before .before .loop .inv) (c .before .before .before .before .before .before .before .before .before .loop-test .taken))
 
 walk-place-requires : (t : ℕ) → walk-lts.Need-place-requires (calls t) (walk-at t) walk.Post walk-Inv-loop walk-μ-loop
-walk-place-requires t c κs = let asks = asks-next (c .before .before .before .before .before .before .before .before .before .before .before .before .before .before .before .before .before .before .before .before .before .before .before .pre .1) (c .before .before .before .before .before .before .before .before .before .before .loop .inv) (c .before .before .before .before .before .before .before .before .before .loop-test .taken) in (asks-few asks, asks-room asks)
+walk-place-requires t c κs = let asks = asks-next (c .before .before .before .before .before .before .before .before .before .before .before .before .before .before .before .before .before .before .before .before .before .before .before .before .pre .1) (c .before .before .before .before .before .before .before .before .before .before .loop .inv) (c .before .before .before .before .before .before .before .before .before .loop-test .taken) in (asks-few asks, asks-room asks)
 
 walk-walk-requires : (t : ℕ) → walk-lts.Need-walk-requires (calls t) (walk-at t) walk.Post walk-Inv-loop walk-μ-loop
 walk-walk-requires t c κs =
-    let pre = c .before .before .before .before .before .before .before .before .before .before .before .before .before .before .before .before .before .before .before .before .before .before .before .before .before .pre in
+    let pre = c .before .before .before .before .before .before .before .before .before .before .before .before .before .before .before .before .before .before .before .before .before .before .before .before .before .before .pre in
     let inv = c .before .before .before .before .before .before .before .before .before .before .before .before .loop .inv in
     let more = c .before .before .before .before .before .before .before .before .before .before .before .loop-test .taken in
     let costs = c .before .before .before .before .before .before .before .before .before .before .before .before .before .bed-costs .ensures in
     let priced = sym (c .before .before .before .before .before .before .before .before .before .bed-cost .ensures) ∙ ap costIn (c .before .before .before .before .before .before .before .cost .given .1) in
     let placed = c .before .place .ensures in
-    let is = below-head (inv .others) (inv .lowest) (c .before .before .before .before .before .before .before .before .before .before .before .before .before .before .before .before .before .before .rest-of .ensures) (placed .0) (placed .1) (costs .small _ more _ priced) in
+    let is = below-head (inv .others) (inv .lowest) (c .before .before .before .before .before .before .before .before .before .before .before .before .before .before .before .before .before .before .before .rest-of .ensures) (placed .0) (placed .1) (costs .small _ more _ priced) in
     (omega (arith, pre .0, ap length (is .left)), asks-below (pre .1) inv more is (decides (asks-next (pre .1) inv more) costs priced))
 
 walk-enum-told : (t : ℕ) → walk-lts.Need-enum-told (calls t) (walk-at t) walk.Post walk-Inv-loop walk-μ-loop
@@ -155,12 +155,12 @@ walk-loop-less t c = search needs
 
 walk-loop-again : (t : ℕ) → walk-lts.Need-loop-again (calls t) (walk-at t) walk.Post walk-Inv-loop walk-μ-loop
 walk-loop-again t c =
-    let pre = c .before .before .before .before .before .before .before .before .before .before .before .before .before .before .before .before .before .pre .1 in
+    let pre = c .before .before .before .before .before .before .before .before .before .before .before .before .before .before .before .before .before .before .pre .1 in
     let inv = c .before .before .before .before .loop .inv in
     let more = c .before .before .before .loop-test .taken in
     let costs = c .before .before .before .before .before .bed-costs .ensures in
     let price = c .before .bed-cost .ensures in
-    let rest = c .before .before .before .before .before .before .before .before .before .before .rest-of .ensures in
+    let rest = c .before .before .before .before .before .before .before .before .before .before .before .rest-of .ensures in
     ⊎-elim
     (λ w.
     let priced = sym price ∙ ap costIn (w .1 .given .1) in
@@ -176,7 +176,7 @@ walk-same-length-2 : (t : ℕ) → walk-lts.Need-same-length-2 (calls t) (walk-a
 walk-same-length-2 t c = search needs
 
 walk-returns-2 : (t : ℕ) → walk-lts.Need-returns-2 (calls t) (walk-at t) walk.Post walk-Inv-loop walk-μ-loop
-walk-returns-2 t c = sofar-done (c .before .before .before .before .before .before .before .before .before .before .before .before .before .before .pre .1) (c .before .loop .inv) (c .loop-test .left)
+walk-returns-2 t c = sofar-done (c .before .before .before .before .before .before .before .before .before .before .before .before .before .before .before .pre .1) (c .before .loop .inv) (c .loop-test .left)
 
 pub +walk-spec : {M : Type 1} → statement M
 +walk-spec = close μ-walk λ t. walk-lts.spec (calls t)
