@@ -1,6 +1,7 @@
 pub mod Members
 pub mod Orders
 pub mod First
+pub mod Rising
 pub mod Sorting
 pub mod Combining
 pub mod Occurrences

@@ -12,6 +12,8 @@ use Rattle.definitions.specs.Plans.{compareRows}
 use Rattle.row_list.specs.declared.Row.{Row}
 use Rattle.row_list.specs.Rows.{rowOf, rowIn, rowsIn, Stored, Room, Inserted}
 use Rattle.row_list.specs.Laws.{row-words, rows-long, rows-at}
+use Rattle.ranking.specs.Rising.{Rising}
+use Rattle.theorems.specs.List.{rowOrder}
 use Rattle.row_list.specs.Steps.{Place, Moved}
 
 -- A list with one more element at a place.
@@ -84,7 +86,7 @@ module _ (v n m : ℕ) (x : Row) (area shifted after : List ℕ) (p end : ℕ) (
   pub inserted : Inserted v n m x area after (end + 1)
   inserted = record {
     count = omega arith;
-    rows = ext-getD z (rowsIn v (end + 1) after) (take m put) long same ∙ sym (ap (take m) (place .here));
+    rows = λ rising. ext-getD z (rowsIn v (end + 1) after) (take m put) long same ∙ sym (ap (take m) (place .here rising));
     long = stored .long ∙ moved .long;
   }
     where
@@ -112,5 +114,5 @@ not-inserted v n m x area room place = record { count = room .held; rows = same;
     rows : List Said.Row
     rows = rowsIn v n area
 
-    same : rows ≡ take m (insert compareRows (rowOf v x) rows)
-    same = sym (ap (take m) (place .here) ∙ take-at (take m rows) (rowOf v x ∷ drop m rows) m (length-take-le m rows (omega (arith, place .within, rows-long v n area))) ∙ take-all m rows (omega (arith, room .held, rows-long v n area)))
+    same : Rising rowOrder rows → rows ≡ take m (insert compareRows (rowOf v x) rows)
+    same rising = sym (ap (take m) (place .here rising) ∙ take-at (take m rows) (rowOf v x ∷ drop m rows) m (length-take-le m rows (omega (arith, place .within, rows-long v n area))) ∙ take-all m rows (omega (arith, room .held, rows-long v n area)))

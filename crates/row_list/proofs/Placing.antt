@@ -1,67 +1,78 @@
--- The place of a new row among the rows held, looked for from the front. Assumes nothing.
+-- The place of a new row among rows in order, found by halving. Assumes nothing.
 use mathlib.Core.Path.{_≡_, refl, sym, ap, _∙_}
-use native.Mathlib.Numerals.{add-one}
+use mathlib.Core.Bool.{true≢false, false≢true}
 use native.Mathlib.Omega.{arith}
 use Prim.Native.Nat.{_≤_}
-use lib.ListN.{drop, drop-of-length-le}
-use lib.Seq.{drop-cons, take-suc, append-snoc}
-use Rattle.definitions.specs.Basics.{ℕ, suc, _+_, _<_, Ordering, Ordering·lt, Ordering·eq, Ordering·gt, true, false, List, [], _∷_, _++_}
-use Rattle.definitions.specs.Basics.{take, insert}
+use Rattle.definitions.specs.Basics.{ℕ, _+_, _<_, Ordering, Bool, true, false, List, getD}
 use Rattle.definitions.specs.Plans as Said
 use Rattle.definitions.specs.Plans.{compareRows}
-use Rattle.row_list.specs.declared.Row.{Row}
-use Rattle.row_list.specs.Rows.{rowOf, rowIn, rowsIn, beforeOr}
+use Rattle.ranking.specs.Orders.{View, before, equal, after}
+use Rattle.ranking.specs.Rising.{Rising, rising-behind, insert-at}
+use Rattle.theorems.specs.List.{rowOrder}
+use Rattle.row_list.specs.Rows.{rowWith, rowIn, rowsIn, beforeOr}
 use Rattle.row_list.specs.Laws.{rows-long, rows-at}
 use Rattle.row_list.specs.Steps.{Place}
 
--- One step of an insertion, by the test.
-module _ (x y : Said.Row) (l : List Said.Row) where
-  abbrev step : Ordering → List Said.Row
-  step o = elim o [ Ordering·lt ↦ x ∷ y ∷ l | Ordering·eq ↦ x ∷ y ∷ l | Ordering·gt ↦ y ∷ insert compareRows x l ]
+-- By the test, a row comes after another or does not.
+comes-after : (x y : Said.Row) → beforeOr true (compareRows x y) ≡ false → rowOrder .Lt y x
+comes-after x y e = go (rowOrder .view x y) e
+  where
+    go : {o : Ordering} → View (rowOrder .Lt) x y o → beforeOr true o ≡ false → rowOrder .Lt y x
+    go (before t) f = absurd (true≢false f)
+    go (equal s) f = absurd (true≢false f)
+    go (after t) f = t
 
-  in-front : beforeOr true (compareRows x y) ≡ true → insert compareRows x (y ∷ l) ≡ x ∷ y ∷ l
-  in-front h = go (compareRows x y) h
-    where
-      go : (o : Ordering) → beforeOr true o ≡ true → step o ≡ x ∷ y ∷ l
-      go Ordering·lt e = refl
-      go Ordering·eq e = refl
-      go Ordering·gt e = cc
+not-after : (x y : Said.Row) → beforeOr true (compareRows x y) ≡ true → rowOrder .Lt y x → ⊥
+not-after x y e h = go (rowOrder .view x y) e
+  where
+    go : {o : Ordering} → View (rowOrder .Lt) x y o → beforeOr true o ≡ true → ⊥
+    go (before t) f = rowOrder .irrefl {x = x} (rowOrder .trans {x = x} {y = y} {z = x} t h)
+    go (equal s) f = rowOrder .irrefl {x = y} (rw s at h)
+    go (after t) f = false≢true f
 
-  further : beforeOr true (compareRows x y) ≡ false → insert compareRows x (y ∷ l) ≡ y ∷ insert compareRows x l
-  further h = go (compareRows x y) h
-    where
-      go : (o : Ordering) → beforeOr true o ≡ false → step o ≡ y ∷ insert compareRows x l
-      go Ordering·lt e = cc
-      go Ordering·eq e = cc
-      go Ordering·gt e = refl
+-- Where the halving stands: the rows below come before the new one, and those from the other end on do not.
+pub record Between (v n cost : ℕ) (beds area : List ℕ) (low high : ℕ) : Type 0 where
+  pub apart : low ≤ high
+  pub within : high ≤ n
+  pub ahead : Rising rowOrder (rowsIn v n area) → (i : ℕ) → i < low → rowOrder .Lt (rowIn v area i) (rowWith v cost beds)
+  pub stops : Rising rowOrder (rowsIn v n area) → (i : ℕ) → high ≤ i → i < n → rowOrder .Lt (rowIn v area i) (rowWith v cost beds) → ⊥
 
--- The first i rows are passed.
-abbrev pub Passed : ℕ → ℕ → Row → List ℕ → ℕ → Type 0
-Passed v n x area i = take i (rowsIn v n area) ++ insert compareRows (rowOf v x) (drop i (rowsIn v n area)) ≡ insert compareRows (rowOf v x) (rowsIn v n area)
+module _ (v n cost : ℕ) (beds area : List ℕ) where
+  abbrev x : Said.Row
+  x = rowWith v cost beds
 
-module _ (v n : ℕ) (x : Row) (area : List ℕ) where
-  module _ (i : ℕ) (h : i < n) (passed : Passed v n x area i) where
-    here : drop i (rowsIn v n area) ≡ rowIn v area i ∷ drop (suc i) (rowsIn v n area)
-    here = rw (rows-at v n area i (rowIn v area i) h) (drop-cons (rowsIn v n area) i (rowIn v area i) (omega (arith, rows-long v n area)))
+  pub all-between : Between v n cost beds area 0 n
+  all-between = record { apart = omega arith; within = omega arith; ahead = λ rising i h. absurd (omega arith); stops = λ rising i h k. absurd (omega arith) }
 
-    pub found : beforeOr true (compareRows (rowOf v x) (rowIn v area i)) ≡ true → Place v n (x .cost) (x .beds) area i
-    found t = record {
-      within = omega arith;
-      here = sym passed ∙ ap (λ (l : List Said.Row). take i (rowsIn v n area) ++ l) (ap (insert compareRows (rowOf v x)) here ∙ in-front (rowOf v x) (rowIn v area i) (drop (suc i) (rowsIn v n area)) t ∙ ap (λ (l : List Said.Row). rowOf v x ∷ l) (sym here));
+  -- What comes before x by its place among the rows: an earlier row does too.
+  earlier : Rising rowOrder (rowsIn v n area) → (i j : ℕ) → i ≤ j → j < n → rowOrder .Lt (rowIn v area j) x → rowOrder .Lt (rowIn v area i) x
+  earlier rising i j h k t =
+      let d = x in
+      rw (rows-at v n area i d (omega arith))
+      (rising-behind rowOrder x (rowsIn v n area) i j d rising h (omega (arith, rows-long v n area)) (rw (← rows-at v n area j d k) t))
+
+  module _ {low high middle : ℕ} (b : Between v n cost beds area low high) (h : low ≤ middle) (k : middle < high) where
+    pub lower-half : beforeOr true (compareRows x (rowIn v area middle)) ≡ true → Between v n cost beds area low middle
+    lower-half e = record {
+      apart = h;
+      within = omega (arith, b .within);
+      ahead = b .ahead;
+      stops = λ rising i l g t. not-after x (rowIn v area middle) e (earlier rising middle i l g t);
     }
 
-    pub next : beforeOr true (compareRows (rowOf v x) (rowIn v area i)) ≡ false → Passed v n x area (i + 1)
-    next t =
-        let e : take (suc i) (rowsIn v n area) ≡ take i (rowsIn v n area) ++ (rowIn v area i ∷ []) =
-        take-suc (rowsIn v n area) i (rowIn v area i) (omega (arith, rows-long v n area)) ∙ rw (← rows-at v n area i (rowIn v area i) h) in
-        rw (add-one, e, append-snoc (take i (rowsIn v n area)) (rowIn v area i) (insert compareRows (rowOf v x) (drop (suc i) (rowsIn v n area))))
-        (ap (λ (l : List Said.Row). take i (rowsIn v n area) ++ l) (sym (ap (insert compareRows (rowOf v x)) here ∙ further (rowOf v x) (rowIn v area i) (drop (suc i) (rowsIn v n area)) t)) ∙ passed)
+    pub upper-half : beforeOr true (compareRows x (rowIn v area middle)) ≡ false → Between v n cost beds area (middle + 1) high
+    upper-half e = record {
+      apart = omega arith;
+      within = b .within;
+      ahead = λ rising i l. earlier rising i middle (omega arith) (omega (arith, b .within)) (comes-after x (rowIn v area middle) e);
+      stops = b .stops;
+    }
 
-  pub none-passed : Passed v n x area 0
-  none-passed = refl
-
-  pub all-passed : (i : ℕ) → i ≤ n → n ≤ i → Passed v n x area i → Place v n (x .cost) (x .beds) area i
-  all-passed i h k passed = record {
-    within = h;
-    here = (let e : drop i (rowsIn v n area) ≡ [] = drop-of-length-le (rowsIn v n area) {i = i} (omega (arith, rows-long v n area)) in sym passed ∙ rw e);
+  pub place-found : {low high : ℕ} → high ≤ low → Between v n cost beds area low high → Place v n cost beds area low
+  place-found {low} {high} end b = record {
+    within = omega (arith, b .within, b .apart);
+    here = λ rising.
+        insert-at rowOrder x (rowsIn v n area) low x (omega (arith, b .within, b .apart, rows-long v n area))
+        (λ i h. rw (← rows-at v n area i x (omega (arith, b .within, b .apart))) (b .ahead rising i h))
+        (λ h t. b .stops rising low (omega arith) (omega (arith, rows-long v n area)) (rw (rows-at v n area low x (omega (arith, rows-long v n area))) t));
   }

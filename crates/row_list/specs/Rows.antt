@@ -5,6 +5,8 @@ use Rattle.definitions.specs.Basics.{ℕ, _+_, _-_, _*_, _%_, _<_, Ordering, Or
 use Rattle.definitions.specs.Basics.{getD, take, replicate, below, insert}
 use Rattle.definitions.specs.Plans as Said
 use Rattle.definitions.specs.Plans.{compareRows}
+use Rattle.ranking.specs.Rising.{Rising}
+use Rattle.theorems.specs.List.{rowOrder}
 use Rattle.row_list.specs.declared.Row.{Row}
 
 -- The row of a cost and beds, for so many patients; the row that a struct holds.
@@ -62,8 +64,8 @@ pub record Room (v n m : ℕ) (area : List ℕ) : Type 0 where
   pub some : 0 < m
   pub long : 2_176 ≤ length area
 
--- The area after a row was inserted, and how many rows it then holds.
+-- The area after a row was inserted among rows in order, and how many rows it then holds.
 pub record Inserted (v n m : ℕ) (x : Row) (area after : List ℕ) (r : ℕ) : Type 0 where
   pub count : r ≤ m
-  pub rows : rowsIn v r after ≡ take m (insert compareRows (rowOf v x) (rowsIn v n area))
+  pub rows : Rising rowOrder (rowsIn v n area) → rowsIn v r after ≡ take m (insert compareRows (rowOf v x) (rowsIn v n area))
   pub long : length after ≡ length area

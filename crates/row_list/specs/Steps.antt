@@ -3,12 +3,14 @@ use Prim.Native.Nat.{_≤_}
 use lib.ListN.{drop}
 use Rattle.definitions.specs.Basics.{ℕ, _-_, _<_, _≡_, List, _∷_, _++_, length, getD, take, insert}
 use Rattle.definitions.specs.Plans.{compareRows}
+use Rattle.ranking.specs.Rising.{Rising}
+use Rattle.theorems.specs.List.{rowOrder}
 use Rattle.row_list.specs.Rows.{rowWith, rowsIn}
 
--- A row is inserted at this place.
+-- A row is inserted at this place, if the rows are in order.
 pub record Place (v n cost : ℕ) (beds area : List ℕ) (r : ℕ) : Type 0 where
   pub within : r ≤ n
-  pub here : insert compareRows (rowWith v cost beds) (rowsIn v n area) ≡ take r (rowsIn v n area) ++ rowWith v cost beds ∷ drop r (rowsIn v n area)
+  pub here : Rising rowOrder (rowsIn v n area) → insert compareRows (rowWith v cost beds) (rowsIn v n area) ≡ take r (rowsIn v n area) ++ rowWith v cost beds ∷ drop r (rowsIn v n area)
 
 -- The words from one place up to another are those that stood 34 places before, and the words below them are as they were.
 pub record Moved (from to : ℕ) (area after : List ℕ) : Type 0 where

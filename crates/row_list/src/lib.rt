@@ -132,19 +132,22 @@ pub fn is_past(list: &[u32], v: usize, n: usize, m: usize, cost: u64, beds: &[u8
     !comes_before(cost, beds, list, v, m - 1)
 }
 
-// The place of a new row: the first row of the n that it does not come after, or n.
+// The place of a new row among n rows in order, by halving: the first row that it does not come after, or n.
 fn place_of(list: &[u32], v: usize, n: usize, cost: u64, beds: &[u8; 32]) -> usize
     requires { ⌜ (v ≤ 32) × (n * 34 ≤ length (now list)) × (length (now beds) ≡ 32) ⌝ }
     ensures { λ r. ⌜ Place v n cost (now (beds .entry)) (now (list .entry)) r ⌝ }
 {
-    let mut i: usize = 0;
-    while i < n {
-        if precedes(cost, beds, list, v, i, true) {
-            return i;
+    let mut low: usize = 0;
+    let mut high = n;
+    while low < high {
+        let middle = low + (high - low) / 2;
+        if precedes(cost, beds, list, v, middle, true) {
+            high = middle;
+        } else {
+            low = middle + 1;
         }
-        i += 1;
     }
-    i
+    low
 }
 
 // Moves the rows from one on up to another one row further, the last first, so that none is overwritten unread.

@@ -8,6 +8,7 @@ use Rattle.definitions.specs.Plans.{compareRows}
 use Rattle.ranking.specs.Members.{_∈_, _⊆_, here, there, here-or-there, none-in-nil, in-append-left, in-append-right, in-append-cases, Distinct}
 use Rattle.ranking.specs.First.{First, Sorted, sorted-distinct, first-iff}
 use Rattle.ranking.specs.Sorting.{first-of}
+use Rattle.ranking.specs.Rising.{sorted-rising}
 use Rattle.ranking.specs.Combining.{Combined, Injective, cross, cross-enumerates}
 use Rattle.theorems.specs.List.{rowOrder}
 use Rattle.partial_rows.specs.Adding.{addRows}
@@ -64,7 +65,7 @@ pub all-found : (v m a b i n : ℕ) (work now after : List ℕ) → i ≤ a → 
 all-found v m a b i n work now after h k f c = record {
   count = f .count;
   long = c .long ∙ f .kept .long;
-  first = λ s t shows. rw (c .rows, all .sums) (sums-first v m a b (part 0 work) (part 1 work) s t shows);
+  first = λ s t shows. rw (c .rows, all .sums (sorted-rising rowOrder (rowsIn v b (part 1 work)) t)) (sums-first v m a b (part 0 work) (part 1 work) s t shows);
 }
   where
     all : Found v m b a work now n

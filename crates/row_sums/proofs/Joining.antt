@@ -1,5 +1,5 @@
 -- One more sum, and one more row with all of its sums. Assumes nothing.
-use mathlib.Core.Path.{_≡_, refl, sym, ap, ap₂, subst, _∙_}
+use mathlib.Core.Path.{_≡_, refl, sym, ap, ap₂, subst, subst⁻¹, _∙_}
 use native.Mathlib.Numerals.{add-one}
 use native.Mathlib.Omega.{arith}
 use Prim.Native.Nat.{_≤_}
@@ -10,12 +10,14 @@ use Rattle.definitions.specs.Plans.{compareRows}
 use Rattle.ranking.specs.Members.{getD-in}
 use Rattle.ranking.specs.Sorting.{take-insert}
 use Rattle.ranking.specs.Combining.{cross}
+use Rattle.ranking.specs.Rising.{Rising, rising-sort, rising-take}
+use Rattle.theorems.specs.List.{rowOrder}
 use Rattle.partial_rows.specs.Adding.{addRows}
 use Rattle.row_list.specs.declared.Row.{Row}
 use Rattle.row_list.specs.Rows.{rowOf, rowIn, rowsIn, RowRead, Inserted}
 use Rattle.row_list.specs.Laws.{rows-long, rows-at, rows-none}
 use Rattle.row_sums.specs.Sums.{part, SmallRow, Small, Asks}
-use Rattle.row_sums.specs.Steps.{backwards, Kept, AsksRow, GivesRow, Found}
+use Rattle.row_sums.specs.Steps.{backwards, Kept, AsksRow, Joined, GivesRow, Found}
 use Rattle.row_sums.specs.Areas.{replaced, replaced-long, part-new, part-before, part-long}
 
 -- Each row of a small list is small, where the list has stayed as it was.
@@ -28,13 +30,13 @@ none-changed : (work : List ℕ) → Kept work work
 none-changed work = record { first = refl; second = refl; long = refl }
 
 module _ (v m n : ℕ) (x : Row) (work : List ℕ) where
-  pub none-joined : n ≤ m → GivesRow v m n 0 x work work n
+  pub none-joined : n ≤ m → Joined v m n 0 x work work n
   unfolding backwards
   none-joined h = record { count = h; kept = none-changed work; joined = λ sums s. s }
 
-  pub one-joined : (j count r : ℕ) (now new : List ℕ) (y sum : Row) → 6_528 ≤ length now → GivesRow v m n j x work now count → RowRead v j (part 1 now) y
+  pub one-joined : (j count r : ℕ) (now new : List ℕ) (y sum : Row) → 6_528 ≤ length now → Joined v m n j x work now count → RowRead v j (part 1 now) y
       → rowOf v sum ≡ addRows (rowOf v x) (rowOf v y) → Inserted v count m sum (part 2 now) new r
-      → GivesRow v m n (j + 1) x work (replaced 4_352 new now) r
+      → Joined v m n (j + 1) x work (replaced 4_352 new now) r
   unfolding backwards
   one-joined j count r now new y sum h g read added ins = record {
     count = ins .count;
@@ -46,7 +48,7 @@ module _ (v m n : ℕ) (x : Row) (work : List ℕ) where
     joined = λ sums s.
         let l = map f (backwards v j (part 1 work)) ++ sums in
         let e : rowOf v sum ∷ l ≡ map f (backwards v (j + 1) (part 1 work)) ++ sums = rw add-one (ap (λ (z : Said.Row). z ∷ l) sum-is) in
-        ap (rowsIn v r) (part-new 2 now new h long) ∙ ins .rows ∙ ap (λ (k : List Said.Row). take m (insert compareRows (rowOf v sum) k)) (g .joined sums s)
+        ap (rowsIn v r) (part-new 2 now new h long) ∙ ins .rows (subst⁻¹ (Rising rowOrder) (g .joined sums s) (rising-take rowOrder m (sort compareRows l) (rising-sort rowOrder l))) ∙ ap (λ (k : List Said.Row). take m (insert compareRows (rowOf v sum) k)) (g .joined sums s)
         ∙ take-insert compareRows m (rowOf v sum) (sort compareRows l) ∙ ap (λ (k : List Said.Row). take m (sort compareRows k)) e;
   }
     where
@@ -59,10 +61,14 @@ module _ (v m n : ℕ) (x : Row) (work : List ℕ) where
       sum-is : rowOf v sum ≡ f (rowIn v (part 1 work) j)
       sum-is = added ∙ ap f (read .row ∙ ap (λ (p : List ℕ). rowIn v p j) (g .kept .second))
 
+-- With all rows joined, their order does not matter.
+pub all-joined : (v m n b : ℕ) (x : Row) {work after : List ℕ} {r : ℕ} → Joined v m n b x work after r → GivesRow v m n b x work after r
+all-joined v m n b x g = record { count = g .count; kept = g .kept; joined = λ rising. g .joined }
+
 module _ (v m b : ℕ) (work : List ℕ) where
   pub none-found : Found v m b 0 work work 0
   unfolding backwards flatMap
-  none-found = record { count = omega arith; kept = none-changed work; sums = rows-none v (part 2 work) ∙ sym (take-nil m) }
+  none-found = record { count = omega arith; kept = none-changed work; sums = λ rising. rows-none v (part 2 work) ∙ sym (take-nil m) }
 
   pub row-found : (i n r : ℕ) (now after : List ℕ) (x : Row) → Found v m b i work now n → RowRead v i (part 0 now) x → GivesRow v m n b x now after r
       → Found v m b (i + 1) work after r
@@ -70,7 +76,7 @@ module _ (v m b : ℕ) (work : List ℕ) where
   row-found i n r now after x f read g = record {
     count = g .count;
     kept = record { first = g .kept .first ∙ f .kept .first; second = g .kept .second ∙ f .kept .second; long = g .kept .long ∙ f .kept .long };
-    sums = g .joined before (f .sums) ∙ ap (λ (k : List Said.Row). take m (sort compareRows k)) more;
+    sums = λ rising. g .joined (rw (f .kept .second) rising) before (f .sums rising) ∙ ap (λ (k : List Said.Row). take m (sort compareRows k)) more;
   }
     where
       before : List Said.Row

@@ -1,13 +1,12 @@
 // The cheapest sums of a row of one list and a row of another.
 // The work area has three parts of 2,176 words: the list so far, the next list, and their sums.
 ghost use mathlib.Core.Path.{_≡_};
-ghost use mathlib.Core.Bool.{true};
-ghost use Prim.Native.Nat.{_<_, _≤_};
+ghost use Prim.Native.Nat.{ℕ, _<_, _≤_};
 ghost use lib.ListN.{length};
 ghost use Rattle.partial_rows.specs.Adding.{addRows};
 ghost use Rattle.row_list.specs.Rows.{rowOf};
 ghost use Rattle.row_sums.specs.Sums.{Asks, Gives};
-ghost use Rattle.row_sums.specs.Steps.{Fit, Dear, AsksRow, GivesRow, Copied};
+ghost use Rattle.row_sums.specs.Steps.{Fit, isDear, AsksRow, GivesRow, Copied};
 use row_list::Row;
 use row_list::cost_at;
 use row_list::insert;
@@ -39,7 +38,7 @@ fn add_rows(x: Row, y: Row, v: usize) -> Row
 // Is the list full, and does its last row cost less than this?
 fn is_dear(list: &[u32], n: usize, m: usize, cost: u64) -> bool
     requires { ⌜ (0 < m) × (n ≤ m) × (m ≤ 64) × (2_176 ≤ length (now list)) ⌝ }
-    ensures { λ r. ⌜ (r ≡ true → Dear n m cost (now (list .entry))) ⌝ }
+    ensures { λ r. ⌜ ((v : ℕ) → r ≡ isDear v n m cost (now (list .entry))) ⌝ }
 {
     if n < m {
         return false;
@@ -48,7 +47,7 @@ fn is_dear(list: &[u32], n: usize, m: usize, cost: u64) -> bool
 }
 
 // Adds a row to each of the b rows of the next list, and inserts the sums among the n held.
-// A sum that costs more than the last row of a full list is not made.
+// The next list is in order, so that behind a sum that costs more than the last row of a full list there is none that enters.
 fn insert_sums(work: &mut [u32], v: usize, m: usize, n: usize, b: usize, x: Row) -> usize
     requires { ⌜ AsksRow v m n b x (now work) ⌝ }
     ensures { λ r. ⌜ GivesRow v m n b x (now (work .entry)) (now (work .exit)) r ⌝ }
@@ -57,11 +56,12 @@ fn insert_sums(work: &mut [u32], v: usize, m: usize, n: usize, b: usize, x: Row)
     let mut j: usize = 0;
     while j < b {
         let cost = x.cost + cost_at(&work[SECOND..THIRD], j);
-        if !is_dear(&work[THIRD..END], count, m, cost) {
-            let y = row_at(&work[SECOND..THIRD], v, j);
-            let sum = add_rows(x, y, v);
-            count = insert(&mut work[THIRD..END], v, count, m, sum);
+        if is_dear(&work[THIRD..END], count, m, cost) {
+            return count;
         }
+        let y = row_at(&work[SECOND..THIRD], v, j);
+        let sum = add_rows(x, y, v);
+        count = insert(&mut work[THIRD..END], v, count, m, sum);
         j += 1;
     }
     count

@@ -11,6 +11,7 @@ use Rattle.definitions.specs.Syntax.{Region, patientAt}
 use Rattle.definitions.specs.Plans.{Row, costOver, compareRows}
 use Rattle.ranking.specs.Orders.{View, before, equal, after}
 use Rattle.ranking.specs.Growing.{Grown, Ready}
+use Rattle.ranking.specs.Rising.{Rising, sorted-rising}
 use Rattle.theorems.specs.Tests.{both}
 use Rattle.theorems.specs.List.{rowOrder}
 use Rattle.patient_set.specs.Sets.{first}
@@ -48,12 +49,12 @@ pub record Sofar (store patients terms : List ℕ) (v n m : ℕ) (area : List �
 module _ {store patients terms : List ℕ} {v n m : ℕ} {area : List ℕ} {head : Head} where
   -- Nobody is left: the row of the head is inserted.
   pub walk-end : {found : ℕ} {now : List ℕ} → isEmpty (remaining head) ≡ true → found ≤ m → length now ≡ length area
-      → rowsIn v found now ≡ take m (insert compareRows (headRow v head) (rowsIn v n area)) → Gives store patients terms v n m area head now found
+      → (Rising rowOrder (rowsIn v n area) → rowsIn v found now ≡ take m (insert compareRows (headRow v head) (rowsIn v n area))) → Gives store patients terms v n m area head now found
   walk-end nobody few long rows =
       record {
         count = few;
         long = long;
-        grown = λ r heads ready. rw rows (walk-leaf r (leftIn head) (head .plan .beds) (headRow v head) ready (gone (remaining head) nobody) (heads .position .long));
+        grown = λ r heads ready. rw (rows (sorted-rising rowOrder (rowsIn v n area) (ready .sorted))) (walk-leaf r (leftIn head) (head .plan .beds) (headRow v head) ready (gone (remaining head) nobody) (heads .position .long));
       }
     where
       gone : (l : List ℕ) → isEmpty l ≡ true → (s : ℕ) → contains l s ≡ false

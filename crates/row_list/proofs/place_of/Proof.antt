@@ -1,53 +1,59 @@
 use borrow.Author.Needs.{needs}
 use native.Mathlib.Omega.{arith}
 use mathlib.Core.Path.{sym, _∙_}
-use Prim.Native.Nat.{ℕ, _-_, _≤_}
-use mathlib.Core.List.{List}
-use denote.Ref.{now}
-use Rattle.row_list.specs.declared.Row.{Row}
-use Rattle.row_list.proofs.Placing.{Passed, none-passed, found, next, all-passed}
+use Prim.Native.Nat.{_-_}
+use Rattle.row_list.proofs.Placing.{Between, all-between, lower-half, upper-half, place-found}
 use Rattle.row_list.proofs.place_of.Statement.{statement}
 use Rattle.row_list.proofs.place_of.Tie as tie
-
--- The row of what is lent.
-abbrev row : ℕ → List ℕ → Row
-row cost beds = record { cost = cost; beds = beds }
+use Rattle.row_list.proofs.place_of.Reads as reads
+use Rattle.row_list.proofs.place_of.Lts as lts
+use Rattle.row_list.proofs.precedes.Reads as precedes-reads
 
 abbrev Inv-loop : tie.InvT-loop
-Inv-loop list v n cost beds i₀ i = (i ≤ n) × Passed v n (row cost beds) list i
+Inv-loop list v n cost beds low₀ high₀ low high = Between v n cost beds list low high
 
 abbrev μ-loop : tie.MeasureT-loop
-μ-loop list v n cost beds i₀ i = n - i
+μ-loop list v n cost beds low₀ high₀ low high = high - low
 
+-- src/lib.rt:142:5
 loop-holds : tie.Need-loop-holds Inv-loop μ-loop
-loop-holds c = (search needs, none-passed _ _ _ _)
+loop-holds c = all-between _ _ _ _ _
 
+-- src/lib.rt:143:29
+sub-middle : tie.Need-sub-middle Inv-loop μ-loop
+sub-middle c = omega arith
+
+-- src/lib.rt:143:22
+add-middle : tie.Need-add-middle Inv-loop μ-loop
+add-middle c = omega (arith, c .before .loop .inv .within)
+
+-- src/lib.rt:144:12
 precedes-requires : tie.Need-precedes-requires Inv-loop μ-loop
-precedes-requires c κs = search needs
+precedes-requires c κs = (record { patients = omega arith; inside = omega (arith, c .before .loop .inv .within) }, search needs)
 
-returns : tie.Need-returns Inv-loop μ-loop
-returns c =
-    let l = c .before .before .before in
-    let a = l .before .before .args in
-    found (a .v) (a .n) (row (a .cost) (now (a .beds))) _ (l .loop .i) (omega arith) (l .loop .inv .1) (sym (c .before .precedes .ensures) ∙ c .if1 .taken)
-
-add-i : tie.Need-add-i Inv-loop μ-loop
-add-i c = search needs
-
+-- src/lib.rt:142:5
 loop-less : tie.Need-loop-less Inv-loop μ-loop
-loop-less c = search needs
+loop-less c = omega arith
 
+-- src/lib.rt:142:5
 loop-again : tie.Need-loop-again Inv-loop μ-loop
-loop-again c =
-    let l = c .before .before .before in
-    let a = l .before .before .args in
-    (omega arith, next (a .v) (a .n) (row (a .cost) (now (a .beds))) _ (l .loop .i) (omega arith) (l .loop .inv .1) (sym (c .before .precedes .ensures) ∙ c .if1 .left))
+loop-again c = lower-half _ _ _ _ _ (c .before .before .before .loop .inv) (omega arith) (omega arith) (sym (c .before .precedes .ensures) ∙ c .if1 .taken)
 
-returns-2 : tie.Need-returns-2 Inv-loop μ-loop
-returns-2 c =
-    let l = c .before in
-    let a = l .before .before .args in
-    all-passed (a .v) (a .n) (row (a .cost) (now (a .beds))) _ (l .loop .i) (omega arith) (omega arith) (l .loop .inv .1)
+-- src/lib.rt:147:19
+add-low : tie.Need-add-low Inv-loop μ-loop
+add-low c = omega (arith, c .before .before .before .loop .inv .within)
+
+-- src/lib.rt:142:5
+loop-less-2 : tie.Need-loop-less-2 Inv-loop μ-loop
+loop-less-2 c = omega arith
+
+-- src/lib.rt:142:5
+loop-again-2 : tie.Need-loop-again-2 Inv-loop μ-loop
+loop-again-2 c = upper-half _ _ _ _ _ (c .before .before .before .loop .inv) (omega arith) (omega arith) (sym (c .before .precedes .ensures) ∙ c .if1 .left)
+
+-- src/lib.rt:136:1
+returns : tie.Need-returns Inv-loop μ-loop
+returns c = place-found _ _ _ _ _ (c .loop-test .left) (c .before .loop .inv)
 
 pub place-of-spec : {M : Type 1} → statement M
 place-of-spec =
@@ -56,9 +62,12 @@ place-of-spec =
     Inv-loop
     μ-loop
     loop-holds
+    sub-middle
+    add-middle
     precedes-requires
-    returns
-    add-i
     loop-less
     loop-again
-    returns-2)
+    add-low
+    loop-less-2
+    loop-again-2
+    returns)
