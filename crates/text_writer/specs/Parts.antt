@@ -1,7 +1,7 @@
 -- Parts in brackets as they are written: each after the first has a space before it. Assumes nothing.
 use mathlib.Core.Path.{_≡_, refl, sym, ap, _∙_}
 use mathlib.Core.List.{append-assoc}
-use Rattle.definitions.specs.Basics.{ℕ, zero, suc, List, [], _∷_, _++_, flatMap, text}
+use Rattle.definitions.specs.Basics.{ℕ, zero, suc, List, [], _∷_, _++_, flatMap, flatten, text}
 use Rattle.definitions.specs.Spelling.{bracketed}
 
 -- What stands before part i; the parts from part i on, each with what stands before it.
@@ -18,8 +18,8 @@ unfolding flatMap
 later-apart i [] = refl
 later-apart i (p ∷ ps) = ap (λ (l : List ℕ). 32 ∷ (p ++ l)) (later-apart (suc i) ps)
 
-pub bracketed-apart : (ps : List (List ℕ)) → bracketed ps ≡ text "(" ++ (apart 0 ps ++ text ")")
-unfolding flatMap
+pub bracketed-apart : (ps : List (List ℕ)) → bracketed ps ≡ flatten (text "(" ∷ apart 0 ps ∷ text ")" ∷ [])
+unfolding flatMap flatten
 bracketed-apart [] = refl
 bracketed-apart (p ∷ ps) =
     ap (λ (l : List ℕ). 40 ∷ (p ++ (l ++ 41 ∷ []))) (sym (later-apart 0 ps)) ∙ ap (λ (l : List ℕ). 40 ∷ l) (sym (append-assoc p (apart 1 ps) (41 ∷ [])))

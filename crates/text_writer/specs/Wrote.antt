@@ -4,7 +4,7 @@ use native.Mathlib.Omega.{arith}
 use Prim.Native.Nat.{_≤_}
 use lib.ListN.{set, length-append}
 use lib.Seq.{length-sets}
-use Rattle.definitions.specs.Basics.{ℕ, suc, _+_, List, [], _∷_, _++_, length, sets}
+use Rattle.definitions.specs.Basics.{ℕ, suc, _+_, List, [], _∷_, _++_, flatten, length, sets}
 
 -- A text has room at a place.
 abbrev pub Room : List ℕ → ℕ → List ℕ → Type 0
@@ -15,10 +15,10 @@ pub record Wrote (text : List ℕ) (at : ℕ) (out after : List ℕ) (end : ℕ)
   pub bytes : after ≡ sets out at text
   pub next : end ≡ at + length text
 
--- Of a whole text the rest is left: written at the place that was reached, it makes the whole written.
-pub record Left (whole : List ℕ) (at : ℕ) (out rest now : List ℕ) (place : ℕ) : Type 0 where
-  pub makes : sets now place rest ≡ sets out at whole
-  pub ends : place + length rest ≡ at + length whole
+-- Of a whole text these parts are left: written at the place that was reached, they make the whole written.
+pub record Left (whole : List ℕ) (at : ℕ) (out : List ℕ) (parts : List (List ℕ)) (now : List ℕ) (place : ℕ) : Type 0 where
+  pub makes : sets now place (flatten parts) ≡ sets out at whole
+  pub ends : place + length (flatten parts) ≡ at + length whole
   pub long : length now ≡ length out
 
 -- A text and one after it, written in one go.
@@ -28,33 +28,36 @@ sets-both l i (x ∷ a) b =
     let e : suc i + length a ≡ i + suc (length a) = omega arith in
     sets-both (set l i x) (suc i) a b ∙ ap (λ (k : ℕ). sets (sets (set l i x) (suc i) a) k b) e
 
--- Two writings in a row are one.
-pub wrote-both : {a b out mid after : List ℕ} {at place end : ℕ} → Wrote a at out mid place → Wrote b place mid after end → Wrote (a ++ b) at out after end
-wrote-both {a} {b} {out} {mid} {after} {at} {place} {end} v w = record {
-  bytes = w .bytes ∙ (λ i. sets (v .bytes i) (v .next i) b) ∙ sym (sets-both out at a b);
-  next = (let l = length-append a b in omega arith);
-}
-
--- Nothing is written yet: the whole is left, and so is a text that is the same.
-pub none-yet : {whole rest out : List ℕ} {at : ℕ} → whole ≡ rest → Left whole at out rest out at
-none-yet {whole} {rest} {out} {at} same = record { makes = ap (sets out at) (sym same); ends = ap (λ (l : List ℕ). at + length l) (sym same); long = refl }
+-- Nothing is written yet, so all parts are left.
+pub none-yet : {whole out : List ℕ} {at : ℕ} (parts : List (List ℕ)) → whole ≡ flatten parts → Left whole at out parts out at
+none-yet {whole} {out} {at} parts same = record { makes = ap (sets out at) (sym same); ends = ap (λ (l : List ℕ). at + length l) (sym same); long = refl }
 
 module _ {whole out now : List ℕ} {at place : ℕ} where
-  -- The rest has room where the whole had, and so has the first part of it, ..
-  pub room-left : {rest : List ℕ} → Left whole at out rest now place → Room whole at out → Room rest place now
-  room-left left room = omega (arith, left .ends, left .long)
+  -- The first part that is left has room where the whole had, ..
+  pub room-for : {a : List ℕ} {parts : List (List ℕ)} → Left whole at out (a ∷ parts) now place → Room whole at out → Room a place now
+  unfolding flatten
+  room-for {a} {parts} left room = let l = length-append a (flatten parts) in omega (arith, left .ends, left .long)
 
-  pub room-for : (a b : List ℕ) → Left whole at out (a ++ b) now place → Room whole at out → Room a place now
-  room-for a b left room = let l = length-append a b in omega (arith, left .ends, left .long)
-
-  -- .. and what comes after it is left once it is written.
-  pub then-left : (a b : List ℕ) {after : List ℕ} {end : ℕ} → Left whole at out (a ++ b) now place → Wrote a place now after end → Left whole at out b after end
-  then-left a b {after} {end} left w = record {
-    makes = (λ i. sets (w .bytes i) (w .next i) b) ∙ sym (sets-both now place a b) ∙ left .makes;
-    ends = (let l = length-append a b in omega (arith, left .ends, w .next));
+  -- .. and once it is written, the parts after it are left.
+  pub then-left : {a after : List ℕ} {end : ℕ} {parts : List (List ℕ)} → Left whole at out (a ∷ parts) now place → Wrote a place now after end
+      → Left whole at out parts after end
+  unfolding flatten
+  then-left {a} {after} {end} {parts} left w = record {
+    makes = (λ i. sets (w .bytes i) (w .next i) (flatten parts)) ∙ sym (sets-both now place a (flatten parts)) ∙ left .makes;
+    ends = (let l = length-append a (flatten parts) in omega (arith, left .ends, w .next));
     long = ap length (w .bytes) ∙ length-sets now place a ∙ left .long;
   }
 
-  -- Nothing is left: the whole is written.
+  -- No part is left, so the whole is written.
   pub none-left : Left whole at out [] now place → Wrote whole at out now place
+  unfolding flatten
   none-left left = record { bytes = left .makes; next = omega (arith, left .ends) }
+
+  -- Other parts that are the same text together are left too.
+  pub other-parts : {parts : List (List ℕ)} (others : List (List ℕ)) → flatten parts ≡ flatten others → Left whole at out parts now place
+      → Left whole at out others now place
+  other-parts others same left = record {
+    makes = ap (sets now place) (sym same) ∙ left .makes;
+    ends = ap (λ (l : List ℕ). place + length l) (sym same) ∙ left .ends;
+    long = left .long;
+  }

@@ -1,7 +1,9 @@
 use borrow.Author.Needs.{needs}
 use native.Mathlib.Omega.{arith}
+use mathlib.Core.Path.{refl}
 use Prim.Native.Nat.{ℕ, _<_}
-use Rattle.text_writer.proofs.Turns.{digit-room, digit-wrote, tenth-room, last-room, number-wrote}
+use Rattle.text_writer.specs.Wrote.{none-yet, room-for, then-left, none-left}
+use Rattle.text_writer.proofs.Turns.{one-digit, more-digits}
 use borrow.Fn.Kinds.{In}
 use borrow.Fn.PlainCycle.{Measures, is, falls, and}
 use Rattle.text_writer.proofs.write_number.Reads as write-number
@@ -38,20 +40,20 @@ write-number-digit-requires t c κs = search needs
 write-number-write-byte-requires : (t : ℕ) → write-number-lts.Need-write-byte-requires (calls t) (write-number-at t) write-number.Post
 write-number-write-byte-requires t c κs =
     let s = c .before .before .before .before in
-    digit-room (s .args .n) (s .args .at) (s .args .out .now) (c .digit .result) (c .before .before .if1 .taken) (s .pre .1)
+    room-for (none-yet {out = s .args .out .now} {at = s .args .at} _ (one-digit (s .args .n) (c .digit .result) (c .before .before .if1 .taken) (c .digit .ensures))) (s .pre .1)
 
 write-number-same-length : (t : ℕ) → write-number-lts.Need-same-length (calls t) (write-number-at t) write-number.Post
 write-number-same-length t c = search needs
 
 write-number-returns : (t : ℕ) → write-number-lts.Need-returns (calls t) (write-number-at t) write-number.Post
 write-number-returns t c =
-    let s = c .before .before .before .before .before .before .before in
-    digit-wrote (s .args .n) (s .args .at) (s .args .out .now) (c .before .before .before .before .before .if1 .taken) (c .before .before .before .digit .ensures) (c .before .before .write-byte .ensures)
+    let d = c .before .before .before in
+    none-left (then-left (none-yet _ (one-digit _ (d .digit .result) (d .before .before .if1 .taken) (d .digit .ensures))) (c .before .before .write-byte .ensures))
 
 write-number-write-number-requires : (t : ℕ) → write-number-lts.Need-write-number-requires (calls t) (write-number-at t) write-number.Post
 write-number-write-number-requires t c κs =
     let s = c .before .before .before in
-    (omega arith, tenth-room (s .args .n) (s .args .at) (s .args .out .now) (c .before .if1 .left) (s .pre .1))
+    (omega arith, room-for (none-yet {out = s .args .out .now} {at = s .args .at} _ (more-digits (s .args .n) _ (c .before .if1 .left) refl)) (s .pre .1))
 
 write-number-digit-requires-2 : (t : ℕ) → write-number-lts.Need-digit-requires-2 (calls t) (write-number-at t) write-number.Post
 write-number-digit-requires-2 t c κs = search needs
@@ -60,17 +62,17 @@ write-number-write-byte-requires-2 : (t : ℕ) → write-number-lts.Need-write-b
 write-number-write-byte-requires-2 t c κs =
     let w = c .before .before .before .before in
     let s = w .before .before .before .before in
-    last-room (s .args .n) (s .args .at) (s .args .out .now) (c .digit2 .result) (w .before .before .if1 .left) (s .pre .1) (w .write-number .ensures)
+    room-for (then-left (none-yet _ (more-digits (s .args .n) (c .digit2 .result) (w .before .before .if1 .left) (c .digit2 .ensures))) (w .write-number .ensures)) (s .pre .1)
 
 write-number-same-length-2 : (t : ℕ) → write-number-lts.Need-same-length-2 (calls t) (write-number-at t) write-number.Post
 write-number-same-length-2 t c = search needs
 
 write-number-returns-2 : (t : ℕ) → write-number-lts.Need-returns-2 (calls t) (write-number-at t) write-number.Post
 write-number-returns-2 t c =
-    let w = c .before .before .before .before .before .before .before in
-    let s = w .before .before .before .before in
-    number-wrote (s .args .n) (s .args .at) (s .args .out .now) (w .before .before .if1 .left) (c .before .before .before .digit2 .ensures) (w .write-number .ensures)
-    (c .before .before .write-byte2 .ensures)
+    let d = c .before .before .before in
+    let w = d .before .before .before .before in
+    none-left (then-left (then-left (none-yet _ (more-digits _ (d .digit2 .result) (w .before .before .if1 .left) (d .digit2 .ensures))) (w .write-number .ensures))
+    (c .before .before .write-byte2 .ensures))
 
 pub +write-number-spec : {M : Type 1} → statement M
 +write-number-spec = close μ-write-number λ t. write-number-lts.spec (calls t)

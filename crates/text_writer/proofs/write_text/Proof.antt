@@ -1,20 +1,23 @@
 use borrow.Author.Needs.{needs}
-use mathlib.Core.Path.{refl}
+use mathlib.Core.Path.{sym}
+use mathlib.Core.List.{[], _∷_, append-nil}
 use Prim.Native.Nat.{_-_}
 use lib.ListN.{length, drop}
+use Rattle.definitions.specs.Basics.{flatten}
 use Rattle.text_writer.specs.Wrote.{Left, none-yet}
 use Rattle.text_writer.proofs.Turns.{byte-room, byte-next, text-done}
 use Rattle.text_writer.proofs.write_text.Statement.{statement}
 use Rattle.text_writer.proofs.write_text.Tie as tie
 
 abbrev Inv-loop : tie.InvT-loop
-Inv-loop out₀ at text next₀ k₀ out next k = Left text at out₀ (drop k text) out next
+Inv-loop out₀ at text next₀ k₀ out next k = Left text at out₀ (drop k text ∷ []) out next
 
 abbrev μ-loop : tie.MeasureT-loop
 μ-loop out₀ at text next₀ k₀ out next k = length text - k
 
 loop-holds : tie.Need-loop-holds Inv-loop μ-loop
-loop-holds c = none-yet refl
+unfolding flatten
+loop-holds c = none-yet _ (sym (append-nil _))
 
 shared-slice-read-write-byte : tie.Need-shared-slice-read-write-byte Inv-loop μ-loop
 shared-slice-read-write-byte c = search needs
