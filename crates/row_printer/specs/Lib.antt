@@ -1,0 +1,2 @@
+-- Printed rows: what the writers ask.
+pub mod Printing
