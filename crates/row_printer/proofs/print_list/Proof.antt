@@ -1,7 +1,7 @@
 use borrow.Author.Needs.{needs}
 use Rattle.row_list.specs.Rows.{rowsIn}
 use Rattle.text_writer.specs.Wrote.{none-yet, room-for, then-left, none-left}
-use Rattle.row_printer.proofs.Lines.{list-parts}
+use Rattle.row_printer.specs.Lines.{list-parts}
 use Rattle.row_printer.proofs.print_list.Statement.{statement}
 use Rattle.row_printer.proofs.print_list.Tie as tie
 

@@ -1,6 +1,6 @@
 use borrow.Author.Needs.{needs}
 use Rattle.text_writer.specs.Wrote.{none-yet, room-for, then-left, none-left}
-use Rattle.row_printer.proofs.Lines.{refusal-parts}
+use Rattle.row_printer.specs.Lines.{refusal-parts}
 use Rattle.row_printer.proofs.print_refusal.Statement.{statement}
 use Rattle.row_printer.proofs.print_refusal.Tie as tie
 

@@ -5,7 +5,7 @@ use lib.ListN.{length}
 use lib.Seq.{length-take-le}
 use Rattle.row_list.specs.Rows.{rowOf}
 use Rattle.text_writer.specs.Wrote.{none-yet, room-for, then-left, none-left}
-use Rattle.row_printer.proofs.Lines.{row-parts}
+use Rattle.row_printer.specs.Lines.{row-parts}
 use Rattle.row_printer.proofs.print_row.Statement.{statement}
 use Rattle.row_printer.proofs.print_row.Tie as tie
 

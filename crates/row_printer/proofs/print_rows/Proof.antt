@@ -5,7 +5,7 @@ use mathlib.Core.List.{[], _∷_, append-nil}
 use Prim.Native.Nat.{_-_}
 use Rattle.definitions.specs.Basics.{flatten}
 use Rattle.text_writer.specs.Wrote.{Left, none-yet, room-for, then-left, none-left}
-use Rattle.row_printer.proofs.Lines.{rowsFrom, counted-parts, row-left, rows-done}
+use Rattle.row_printer.proofs.Rows.{rowsFrom, counted-parts, row-left, rows-done}
 use Rattle.row_printer.proofs.print_rows.Statement.{statement}
 use Rattle.row_printer.proofs.print_rows.Tie as tie
 

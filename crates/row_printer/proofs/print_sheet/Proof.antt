@@ -1,7 +1,7 @@
 use borrow.Author.Needs.{needs}
 use Rattle.row_list.specs.Rows.{rowsIn}
 use Rattle.text_writer.specs.Wrote.{none-yet, room-for, then-left, none-left}
-use Rattle.row_printer.proofs.Lines.{sheet-parts}
+use Rattle.row_printer.specs.Lines.{sheet-parts}
 use Rattle.row_printer.proofs.print_sheet.Statement.{statement}
 use Rattle.row_printer.proofs.print_sheet.Tie as tie
 
