@@ -2,3 +2,5 @@
 pub mod Printing
 pub mod Lines
 pub mod Sizes
+pub mod Shares
+pub mod Whole

@@ -31,9 +31,10 @@ listMost k = 10 + 64 * rowMost k
 abbrev pub sheetMost : ℕ → ℕ
 sheetMost k = 14 + 64 * rowMost k
 
--- The longest text that is printed: a list of 32 beds a row and 16 sheets with 32 beds a row between them.
+-- The longest text that is printed: a list of 32 beds a row, and 16 sheets that share 32 beds a row:
+-- 10 + 64 × (18 + 3 × 32) for the list, and 16 × (14 + 64 × 18) + 64 × 3 × 32 for the sheets.
 abbrev pub printedMost : ℕ
-printedMost = listMost 32 + (16 * sheetMost 0 + 64 * 3 * 32)
+printedMost = 32_106
 
 -- Parts are together as long as each of them is.
 parts-size : (ps : List (List ℕ)) → length (flatten ps) ≡ sum (map length ps)
@@ -91,6 +92,19 @@ module _ (k : ℕ) (rows : List Row) (wanted : length rows ≤ 64) (small : (w :
       let all = ap length (sheet-parts c rows) ∙ parts-size (text "(sheet " ∷ decimal c ∷ text " " ∷ counted rows ∷ []) in
       let digits = decimal-length c 1 (omega arith) in
       omega (arith, counted-size)
+
+-- Sheets of several clinics, the rows of clinic c having at most k c beds.
+pub sheets-size : (k : ℕ → ℕ) (rows : ℕ → List Row) (cs : List ℕ)
+    → ((c : ℕ) → c ∈ cs → (c < 16) × (length (rows c) ≤ 64) × ((w : Row) → w ∈ rows c → Small (k c) w))
+    → length (flatMap (λ c. printedRows (text "sheet" ∷ decimal c ∷ []) (rows c)) cs) ≤ length cs * sheetMost 0 + 192 * sum (map k cs)
+unfolding flatMap
+sheets-size k rows [] each = omega arith
+sheets-size k rows (c ∷ cs) each =
+    let later = sheets-size k rows cs (λ d i. each d (there i)) in
+    let (low, wanted, small) = each c (here refl) in
+    let first = sheet-size (k c) (rows c) wanted small c low in
+    let both = length-append (printedRows (text "sheet" ∷ decimal c ∷ []) (rows c)) (flatMap (λ c. printedRows (text "sheet" ∷ decimal c ∷ []) (rows c)) cs) in
+    omega arith
 
 pub refusal-size : (q : ℕ) → q ≤ 14 → length (line (text "refused" ∷ decimal q ∷ [])) ≤ 13
 refusal-size q h =
