@@ -6,7 +6,7 @@ use native.Mathlib.Omega.{arith}
 use Prim.Native.Nat.{_≤_}
 use lib.ListN.{drop, drop-of-length-le}
 use lib.Seq.{drop-cons}
-use Rattle.definitions.specs.Basics.{ℕ, suc, _+_, _<_, List, [], _∷_, _++_, flatMap, flatten, length, text}
+use Rattle.definitions.specs.Basics.{ℕ, suc, _+_, _<_, List, [], _∷_, _++_, flatMap, flatten, text}
 use Rattle.definitions.specs.Spelling.{decimal}
 use Rattle.definitions.specs.Plans.{Row}
 use Rattle.definitions.specs.Output.{printedRow}

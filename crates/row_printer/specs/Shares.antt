@@ -1,10 +1,9 @@
 -- Clinics share the patients: what their counts add up to. Assumes nothing.
-use mathlib.Core.Path.{_≡_, refl, sym, ap, _∙_}
-use mathlib.Core.Logic.{inl, inr}
+use mathlib.Core.Path.{_≡_, refl}
 use native.Mathlib.Omega.{arith}
 use borrow.Author.Tests.{eqb-true}
 use Prim.Native.Nat.{_≤_}
-use Rattle.definitions.specs.Basics.{ℕ, suc, _+_, Bool, true, false, cond, List, [], _∷_, map, length, eqb, sum, keep}
+use Rattle.definitions.specs.Basics.{ℕ, _+_, Bool, true, false, cond, List, [], _∷_, map, length, eqb, sum, keep}
 use Rattle.ranking.specs.Members.{_∈_, here, there, Distinct}
 
 -- A sum over the kept elements is at most that over all.

@@ -1,9 +1,9 @@
 -- How long printed lines are, for rows within a region's limits. Assumes nothing.
-use mathlib.Core.Path.{_≡_, refl, sym, ap, _∙_}
+use mathlib.Core.Path.{_≡_, refl, ap, _∙_}
 use native.Mathlib.Nat.{le-trans, mul-le-mul-right}
 use native.Mathlib.Omega.{arith}
 use Prim.Native.Nat.{_≤_}
-use lib.ListN.{length-append, length-map}
+use lib.ListN.{length-append}
 use Rattle.definitions.specs.Basics.{ℕ, zero, suc, _+_, _*_, _<_, List, [], _∷_, _++_, map, flatMap, flatten, length, sum, text}
 use Rattle.definitions.specs.Spelling.{decimal, bracketed, line}
 use Rattle.definitions.specs.Plans.{Row}

@@ -1,33 +1,33 @@
 -- The whole text that is printed for a file is at most `printedMost` bytes. Assumes nothing.
-use mathlib.Core.Path.{_≡_, refl, sym, ap, _∙_}
+use mathlib.Core.Path.{_≡_, refl}
 use mathlib.Core.Logic.{inl, inr}
 use native.Mathlib.Nat.{le-trans, mul-le-mul-right}
 use native.Mathlib.Omega.{arith}
 use borrow.Author.Tests.{eqb-true, leb-true}
 use Prim.Native.Nat.{_≤_}
 use lib.ListN.{length-append, length-map}
-use Rattle.definitions.specs.Basics.{ℕ, zero, suc, _+_, _*_, _<_, Bool, true, _&&_, Option, none, some, Option·getD, List, [], _∷_, _++_, map, flatMap, length, getD}
-use Rattle.definitions.specs.Basics.{eqb, leb, sum, text, below, every, keep, noneOr}
-use Rattle.definitions.specs.Limits.{Field, patientCount, tableCount, plansWanted, clinic, bedCount, entry, limits, within}
-use Rattle.definitions.specs.Syntax.{Patient, Table, Region, patientNumbers, patientAt, patientsOf}
-use Rattle.definitions.specs.Spelling.{decimal, line}
+use Rattle.definitions.specs.Basics.{ℕ, zero, suc, _<_, true, _&&_, Option, none, some, Option·getD, List, [], _∷_, map, flatMap, length, getD}
+use Rattle.definitions.specs.Basics.{eqb, leb, sum, text, below, every, noneOr}
+use Rattle.definitions.specs.Limits.{patientCount, tableCount, plansWanted, clinic, bedCount, entry, limits, within}
+use Rattle.definitions.specs.Syntax.{Patient, Region, patientNumbers, patientAt, patientsOf}
+use Rattle.definitions.specs.Spelling.{decimal}
 use Rattle.definitions.specs.Plans.{Plan, Row, bedOf, costOver, listOf}
 use Rattle.definitions.specs.Sheets.{part, ownTables, ownCost, ownRow, sheetOf}
 use Rattle.definitions.specs.Questions.{regionOf, countsTrue, countsWithin, patientsWithin, entriesWithin, clinicPresent, askedByCheck, askedByList}
 use Rattle.definitions.specs.Isolation.{yieldNumber}
-use Rattle.definitions.specs.Output.{printedRow, printedRows, clinicsPresent, printedAnswer, printed}
+use Rattle.definitions.specs.Output.{printedRows, clinicsPresent, printedAnswer, printed}
 use Rattle.ranking.specs.Members.{_∈_, here, there, here-or-there, none-in-nil, in-map-cases}
 use Rattle.theorems.specs.Tests.{both}
 use Rattle.theorems.specs.Kept.{every-in, every-all, keep-out, keep-short}
 use Rattle.theorems.specs.Below.{below-long}
 use Rattle.theorems.specs.Refusals.{list-found}
 use Rattle.theorems.specs.Accepted.{accepted, at-most, cost-most, total-most}
-use Rattle.theorems.specs.List.{Fits, Allowed, list-first, numbers-enumerate}
+use Rattle.theorems.specs.List.{Fits, list-first, numbers-enumerate}
 use Rattle.theorems.specs.Isolation.{fits-length}
 use Rattle.theorems.specs.Yields.{yields}
 use Rattle.theorems.specs.SheetRows.{sheet-rows}
 use Rattle.theorems.specs.SheetAreas.{rows-few, row-wide}
-use Rattle.row_printer.specs.Sizes.{Small, sheetMost, listMost, printedMost, list-size, sheets-size, refusal-size}
+use Rattle.row_printer.specs.Sizes.{Small, sheetMost, printedMost, list-size, sheets-size, refusal-size}
 use Rattle.row_printer.specs.Shares.{sum-keep, shares}
 
 -- A plan's beds are below its patients' counts, so below what all counts are at most.

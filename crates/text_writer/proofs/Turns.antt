@@ -9,7 +9,7 @@ use lib.Seq.{drop-cons}
 use Rattle.definitions.specs.Basics.{ℕ, zero, suc, _+_, _*_, _/_, _%_, _<_, List, [], _∷_, _++_, map, flatten, length, getD, text}
 use Rattle.definitions.specs.Spelling.{decimal, bracketed}
 use Rattle.theorems.specs.Numbers.{digits-one, decimal-more}
-use Rattle.text_writer.specs.Wrote.{Room, Wrote, Left, none-yet, room-for, then-left, none-left, other-parts}
+use Rattle.text_writer.specs.Wrote.{Room, Wrote, Left, room-for, then-left, none-left, other-parts}
 use Rattle.text_writer.specs.Parts.{gap, apart, bracketed-apart}
 
 -- A text of which the bytes from byte k on are left.
