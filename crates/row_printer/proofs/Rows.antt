@@ -20,6 +20,7 @@ module _ (v n : ℕ) (list : List ℕ) where
   unfoldable pub rowsFrom : ℕ → List ℕ
   rowsFrom i = flatMap printedRow (drop i (rowsIn v n list))
 
+  -- The count, the line's end, and all rows.
   pub counted-parts : counted (rowsIn v n list) ≡ flatten (decimal n ∷ text ")\n" ∷ rowsFrom 0 ∷ [])
   unfolding counted flatten rowsFrom
   counted-parts =
@@ -27,6 +28,7 @@ module _ (v n : ℕ) (list : List ℕ) where
       ∙ ap (λ (l : List ℕ). decimal n ++ (text ")\n" ++ l)) (sym (append-nil (rowsFrom 0)))
 
   module _ (i : ℕ) {whole out now : List ℕ} {at place : ℕ} (left : Left whole at out (rowsFrom i ∷ []) now place) where
+    -- Row i is next; after row n - 1 nothing is left.
     pub row-left : i < n → Left whole at out (printedRow (rowIn v list i) ∷ rowsFrom (i + 1) ∷ []) now place
     unfolding rowsFrom flatten flatMap
     row-left h =

@@ -8,6 +8,7 @@ use Rattle.definitions.specs.Output.{printedRow, printedRows}
 use Rattle.theorems.specs.Forms.{line-spelt}
 use Rattle.row_printer.specs.Printing.{counted}
 
+-- The line of a refusal, and that of a row.
 pub refusal-parts : (q : ℕ) → line (text "refused" ∷ decimal q ∷ []) ≡ flatten (text "(refused " ∷ decimal q ∷ text ")\n" ∷ [])
 unfolding flatten
 refusal-parts q = sym (append-nil (line (text "refused" ∷ decimal q ∷ []))) ∙ line-spelt (text "refused") (decimal q ∷ []) []
@@ -17,6 +18,7 @@ pub row-parts : (row : Row)
 unfolding printedRow flatten
 row-parts row = sym (append-nil (printedRow row)) ∙ line-spelt (text "row") (decimal (row .cost) ∷ bracketed (map decimal (row .beds)) ∷ []) []
 
+-- A list and a sheet: the title up to the row count, and what follows it.
 pub list-parts : (rows : List Row) → printedRows (text "list" ∷ []) rows ≡ flatten (text "(list " ∷ counted rows ∷ [])
 unfolding printedRows counted flatten
 list-parts rows =

@@ -42,6 +42,7 @@ unfolding flatten
 parts-size [] = refl
 parts-size (p ∷ ps) = length-append p (flatten ps) ∙ ap (λ n. length p + n) (parts-size ps)
 
+-- Two digits and a space for each number; with the brackets, the beds of a row.
 gap-size : (i : ℕ) → length (gap i) ≤ 1
 gap-size zero = omega arith
 gap-size (suc i) = omega arith
@@ -73,7 +74,7 @@ rows-size k (w ∷ rows) small =
     let later = rows-size k rows (λ v i. small v (there i)) in
     omega (arith, length-append (printedRow w) (flatMap printedRow rows), row-size w (small w (here refl)))
 
--- A list, a sheet and a refusal.
+-- A list and a sheet.
 module _ (k : ℕ) (rows : List Row) (wanted : length rows ≤ 64) (small : (w : Row) → w ∈ rows → Small k w) where
   counted-size : length (counted rows) ≤ 4 + 64 * rowMost k
   unfolding counted
@@ -106,6 +107,7 @@ sheets-size k rows (c ∷ cs) each =
     let both = length-append (printedRows (text "sheet" ∷ decimal c ∷ []) (rows c)) (flatMap (λ c. printedRows (text "sheet" ∷ decimal c ∷ []) (rows c)) cs) in
     omega arith
 
+-- A refusal, by a question of one or two digits.
 pub refusal-size : (q : ℕ) → q ≤ 14 → length (line (text "refused" ∷ decimal q ∷ [])) ≤ 13
 refusal-size q h =
     let all = ap length (refusal-parts q) ∙ parts-size (text "(refused " ∷ decimal q ∷ text ")\n" ∷ []) in

@@ -56,6 +56,7 @@ cost-or-none (some t) n h = h t refl
 -- A region with the true counts, within the limits.
 module _ (r : Region) (counted : countsTrue r ≡ true) (countsFit : countsWithin r ≡ true) (patientsFit : patientsWithin r ≡ true)
     (entriesFit : entriesWithin r ≡ true) where
+  -- How many patients, plans and tables there are at most.
   few-patients : length (r .patients) ≤ 32
   unfolding countsTrue countsWithin limits
   few-patients =
@@ -74,6 +75,7 @@ module _ (r : Region) (counted : countsTrue r ≡ true) (countsFit : countsWithi
       let fits = both (within patientCount (r .patientCount)) (both (within patientCount (r .patientCount) && within tableCount (r .tableCount)) countsFit .0) .1 in
       omega (arith, at-most tableCount (r .tableCount) fits)
 
+  -- Every row of the list is small, ..
   row-low : (w : Row) → w ∈ listOf r → (b : ℕ) → b ∈ w .beds → b < 16
   unfolding patientsWithin
   row-low w k = fits-low (r .patients) (w .beds) patientsFit (list-first r .sound k .fits)
@@ -89,6 +91,7 @@ module _ (r : Region) (counted : countsTrue r ≡ true) (countsFit : countsWithi
         cheap = total-most r (w .beds) (w .cost) counted countsFit entriesFit (allowed .priced);
       }
 
+  -- .. and so is every row of a sheet, with as many beds as the clinic has patients.
   own-cheap : (c : ℕ) (w : Row) → ownCost r c w ≤ 64_000_000
   unfolding ownCost ownTables entriesWithin limits
   own-cheap c w = cost-or-none (costOver (ownTables r c) r (w .beds)) 64_000_000 (λ t e.
@@ -108,11 +111,11 @@ module _ (r : Region) (counted : countsTrue r ≡ true) (countsFit : countsWithi
         cheap = rw (← e) (own-cheap c w);
       }
 
+  -- The clinics that have patients are numbered below 16 and share the patients.
   present-low : (c : ℕ) → c ∈ clinicsPresent r → c < 16
   unfolding clinicsPresent limits
   present-low c k = numbers-enumerate 0 16 .only c (keep-out (clinicPresent r) (below 16) k .0) .1
 
-  -- The clinics share the patients.
   beds-shared : sum (map (λ c. length (patientsOf r c)) (clinicsPresent r)) ≤ 32
   unfolding clinicsPresent limits patientsOf
   beds-shared =
@@ -124,6 +127,7 @@ module _ (r : Region) (counted : countsTrue r ≡ true) (countsFit : countsWithi
   unfolding clinicsPresent limits
   few-clinics = keep-short (clinicPresent r) (below 16)
 
+  -- So the list and all sheets have room in that many bytes.
   answer-size : length (printedAnswer 0 r) ≤ printedMost
   answer-size =
       let list = list-size 32 (listOf r) (le-trans (list-first r .short) few-plans) row-small in
@@ -137,6 +141,7 @@ refused-low : (file : List ℕ) → yieldNumber file ≤ 14
 unfolding askedByList askedByCheck
 refused-low file = leb-true (yieldNumber file) 14 (every-in (λ n. leb n 14) _ refl (list-found file true .own))
 
+-- For any file at all, refused or not.
 pub printed-size : (file : List ℕ) → length (printed file) ≤ printedMost
 unfolding printed
 printed-size file = go (yieldNumber file) refl

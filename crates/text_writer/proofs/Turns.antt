@@ -52,6 +52,7 @@ one-gap (suc i) h = refl
 unfoldable pub numbersFrom : List ℕ → ℕ → List ℕ
 numbersFrom ns i = apart i (map decimal (drop i ns))
 
+-- They stand between the brackets; number i comes next, and after the last nothing is left.
 pub numbers-parts : (ns : List ℕ) → bracketed (map decimal ns) ≡ flatten (text "(" ∷ numbersFrom ns 0 ∷ text ")" ∷ [])
 unfolding numbersFrom
 numbers-parts ns = bracketed-apart (map decimal ns)

@@ -13,6 +13,7 @@ abbrev pub apart : ℕ → List (List ℕ) → List ℕ
 apart i [] = []
 apart i (p ∷ ps) = gap i ++ (p ++ apart (suc i) ps)
 
+-- After the first part each has a space; so parts in brackets are these between two bytes.
 later-apart : (i : ℕ) (ps : List (List ℕ)) → apart (suc i) ps ≡ flatMap (λ q. 32 ∷ q) ps
 unfolding flatMap
 later-apart i [] = refl
