@@ -34,9 +34,9 @@ use Rattle.row_printer.specs.Shares.{sum-keep, shares}
 fits-low : (ps : List Patient) (plan : Plan) → every (λ p. within clinic (p .clinic) && within bedCount (p .bedCount)) ps ≡ true
     → Fits (map (λ p. p .bedCount) ps) plan → (b : ℕ) → b ∈ plan → b < 16
 unfolding limits
-fits-low [] [] within f b k = absurd (none-in-nil k)
-fits-low [] (x ∷ plan) within f b k = absurd f
-fits-low (p ∷ ps) [] within f b k = absurd f
+fits-low [] [] h f b k = absurd (none-in-nil k)
+fits-low [] (x ∷ plan) h f b k = absurd f
+fits-low (p ∷ ps) [] h f b k = absurd f
 fits-low (p ∷ ps) (x ∷ plan) h f b k =
     let (first, later) = both (within clinic (p .clinic) && within bedCount (p .bedCount)) h in
     let most = at-most bedCount (p .bedCount) (both (within clinic (p .clinic)) first .1) in
