@@ -14,7 +14,7 @@ use Rattle.theorems.specs.Numbers.{digit-bounds, decimal-digits, number-
 use Rattle.theorems.specs.Items.{someAll, inItem, items-reads}
 
 -- A line from the left, as a reader meets it: the word, each part after a space, the closing bracket and the line end.
-abbrev fromLeft : List (List ℕ) → List ℕ → List ℕ
+abbrev pub fromLeft : List (List ℕ) → List ℕ → List ℕ
 fromLeft [] rest = rest
 fromLeft (p ∷ ps) rest = 32 ∷ (p ++ fromLeft ps rest)
 
@@ -24,7 +24,7 @@ parts-spelt [] rest = refl
 parts-spelt (p ∷ ps) rest =
     append-assoc (32 ∷ p) (flatMap (λ q. 32 ∷ q) ps) rest ∙ ap (λ (l : List ℕ). 32 ∷ (p ++ l)) (parts-spelt ps rest)
 
-line-spelt : (word : List ℕ) (ps : List (List ℕ)) (rest : List ℕ) → line (word ∷ ps) ++ rest ≡ 40 ∷ (word ++ fromLeft ps (41 ∷ 10 ∷ rest))
+pub line-spelt : (word : List ℕ) (ps : List (List ℕ)) (rest : List ℕ) → line (word ∷ ps) ++ rest ≡ 40 ∷ (word ++ fromLeft ps (41 ∷ 10 ∷ rest))
 line-spelt word ps rest =
     let parts = flatMap (λ q. 32 ∷ q) ps in
     ap (λ (l : List ℕ). 40 ∷ l) (append-assoc (word ++ (parts ++ text ")")) (text "\n") rest

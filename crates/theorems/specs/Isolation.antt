@@ -28,7 +28,7 @@ use Rattle.ranking.specs.Parts.{parts-first}
 use Rattle.theorems.specs.Places.{alone, alone-fits, alone-allowed, byPlaces, cost-alone}
 
 -- A plan has as many beds as there are patients.
-fits-length : (ds : List ℕ) (plan : Plan) → Fits ds plan → length ds ≡ length plan
+pub fits-length : (ds : List ℕ) (plan : Plan) → Fits ds plan → length ds ≡ length plan
 fits-length [] [] f = refl
 fits-length [] (b ∷ plan) f = absurd f
 fits-length (d ∷ ds) [] f = absurd f

@@ -20,7 +20,7 @@ use Rattle.theorems.specs.Every.{every-append}
 use Rattle.theorems.specs.Readers.{Reads, Stops, then-only, then-each, cond-only, gives-same, gives-only, passing-reads, word-reads}
 
 -- One digit; the last of more digits, and those before it.
-digits-one : (k n : ℕ) → n < 10 → digitsWithin (suc k) n ≡ (48 + n) ∷ []
+pub digits-one : (k n : ℕ) → n < 10 → digitsWithin (suc k) n ≡ (48 + n) ∷ []
 unfolding digitsWithin
 digits-one k n h = rw (lt-ltb n 10 h, digitsWithin)
 
@@ -55,7 +55,7 @@ same-within = digits-induction (λ n ds. (j : ℕ) → n < j → ds ≡ digitsWi
     more n ds h before zero g = absurd (omega arith)
     more n ds h before (suc j) g = ap (λ (l : List ℕ). l ++ (48 + n % 10) ∷ []) (before j (omega arith)) ∙ sym (digits-more j n h)
 
-decimal-more : (v d : ℕ) → 1 ≤ v → d < 10 → decimal (v * 10 + d) ≡ decimal v ++ (48 + d) ∷ []
+pub decimal-more : (v d : ℕ) → 1 ≤ v → d < 10 → decimal (v * 10 + d) ≡ decimal v ++ (48 + d) ∷ []
 decimal-more v d h g =
     let n = v * 10 + d in
     let quotient : n / 10 ≡ v = omega arith in
@@ -87,7 +87,7 @@ decimal-value = decimal-induction (λ n ds. valueFrom 0 ds ≡ n) (λ n h. omega
 length-more : (ds : List ℕ) (d : ℕ) → length (ds ++ d ∷ []) ≡ suc (length ds)
 length-more ds d = let e = length-append ds (d ∷ []) in omega arith
 
-decimal-length : (n k : ℕ) → n < 10 ^ suc k → length (decimal n) ≤ suc k
+pub decimal-length : (n k : ℕ) → n < 10 ^ suc k → length (decimal n) ≤ suc k
 decimal-length = decimal-induction (λ n ds. (k : ℕ) → n < 10 ^ suc k → length ds ≤ suc k) (λ n h k g. omega arith) more
   where
     more : (n : ℕ) (ds : List ℕ) → 10 ≤ n → ((k : ℕ) → n / 10 < 10 ^ suc k → length ds ≤ suc k)

@@ -67,7 +67,7 @@ occurrences-short {A} alike seen (x ∷ l) = go (any (alike x) seen) (occurrence
     go false h k = omega arith
 
 module _ (region : Region) (c : ℕ) where
-  rows-few : length (sheetOf region c) ≤ region .plansWanted
+  pub rows-few : length (sheetOf region c) ≤ region .plansWanted
   unfolding sheetOf
   rows-few = le-trans (occurrences-short sameBeds [] (map (ownRow region c) (listOf region)))
       (omega (arith, length-map (listOf region) (ownRow region c), list-first region .short))
@@ -76,7 +76,7 @@ module _ (region : Region) (c : ℕ) where
   unfolding patientsOf
   patients-few = le-trans (keep-short _ (patientNumbers region)) (omega (arith, below-long (length (region .patients))))
 
-  row-wide : (v : Row) → v ∈ sheetOf region c → length (v .beds) ≡ length (patientsOf region c)
+  pub row-wide : (v : Row) → v ∈ sheetOf region c → length (v .beds) ≡ length (patientsOf region c)
   unfolding ownRow part
   row-wide v k = let (w, i, e) = sheet-rows region c v k in ap (λ (x : Row). length (x .beds)) (sym e) ∙ length-map (patientsOf region c) _
 

@@ -1,0 +1,45 @@
+-- What is left of a list's rows, one by one. Assumes nothing.
+use mathlib.Core.Path.{_≡_, sym, ap, _∙_}
+use mathlib.Core.List.{append-assoc, append-nil}
+use native.Mathlib.Numerals.{add-one}
+use native.Mathlib.Omega.{arith}
+use Prim.Native.Nat.{_≤_}
+use lib.ListN.{drop, drop-of-length-le}
+use lib.Seq.{drop-cons}
+use Rattle.definitions.specs.Basics.{ℕ, suc, _+_, _<_, List, [], _∷_, _++_, flatMap, flatten, text}
+use Rattle.definitions.specs.Spelling.{decimal}
+use Rattle.definitions.specs.Plans.{Row}
+use Rattle.definitions.specs.Output.{printedRow}
+use Rattle.row_list.specs.Rows.{rowIn, rowsIn}
+use Rattle.row_list.specs.Laws.{rows-long, rows-at}
+use Rattle.text_writer.specs.Wrote.{Wrote, Left, none-left, other-parts}
+use Rattle.row_printer.specs.Printing.{counted}
+
+-- The rows of an area from row i on.
+module _ (v n : ℕ) (list : List ℕ) where
+  unfoldable pub rowsFrom : ℕ → List ℕ
+  rowsFrom i = flatMap printedRow (drop i (rowsIn v n list))
+
+  -- The count, the line's end, and all rows.
+  pub counted-parts : counted (rowsIn v n list) ≡ flatten (decimal n ∷ text ")\n" ∷ rowsFrom 0 ∷ [])
+  unfolding counted flatten rowsFrom
+  counted-parts =
+      ap (λ (k : ℕ). decimal k ++ (text ")\n" ++ rowsFrom 0)) (rows-long v n list)
+      ∙ ap (λ (l : List ℕ). decimal n ++ (text ")\n" ++ l)) (sym (append-nil (rowsFrom 0)))
+
+  module _ (i : ℕ) {whole out now : List ℕ} {at place : ℕ} (left : Left whole at out (rowsFrom i ∷ []) now place) where
+    -- Row i is next; after row n - 1 nothing is left.
+    pub row-left : i < n → Left whole at out (printedRow (rowIn v list i) ∷ rowsFrom (i + 1) ∷ []) now place
+    unfolding rowsFrom flatten flatMap
+    row-left h =
+        let rows = rowsIn v n list in
+        let row = rowIn v list i in
+        let first : drop i rows ≡ row ∷ drop (suc i) rows = drop-cons rows i row (omega (arith, rows-long v n list)) ∙ rw (← rows-at v n list i row h) in
+        rw (add-one i) (other-parts (printedRow row ∷ rowsFrom (suc i) ∷ [])
+        (ap (λ (l : List Row). flatMap printedRow l ++ []) first ∙ append-assoc (printedRow row) (rowsFrom (suc i)) []) left)
+
+    pub rows-done : n ≤ i → Wrote whole at out now place
+    unfolding rowsFrom flatten flatMap
+    rows-done h =
+        let none : drop i (rowsIn v n list) ≡ [] = drop-of-length-le (rowsIn v n list) {i = i} (omega (arith, rows-long v n list)) in
+        none-left (other-parts [] (ap (λ (l : List Row). flatMap printedRow l ++ []) none) left)
