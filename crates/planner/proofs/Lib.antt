@@ -1,2 +1,3 @@
 pub mod Prices
+pub mod Areas
 pub mod Lists

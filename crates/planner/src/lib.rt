@@ -4,7 +4,8 @@ pub mod loaded;
 ghost use mathlib.Core.Path.{_≡_};
 ghost use Rattle.definitions.specs.Questions.{checkOf};
 ghost use Rattle.definitions.specs.Outcomes.{listOutcome, priceOutcome};
-ghost use Rattle.planner.specs.Answers.{checkedNumber, refusalNumber, listedNumber, listedRows, listedOutcome, notAllowed, pricedOutcome, valuesOf};
+ghost use Rattle.planner.specs.Answers.{checkedNumber, refusalNumber, listedNumber, listedRows, listedOutcome};
+ghost use Rattle.planner.specs.Answers.{sheetedNumber, sheetedRows, notAllowed, pricedOutcome, valuesOf};
 use held_region::Judged;
 use held_region::Refusal;
 use loaded::list_loaded;
@@ -85,6 +86,39 @@ pub fn listed_rows(answer: Listed) -> usize
         Listed::Short => 0,
         Listed::Nothing => 0,
         Listed::Rows(n) => n,
+    }
+}
+
+// Sheet's answer, with the row count. Absent: question 11 is answered no.
+pub enum Sheeted {
+    Refused(Refusal),
+    Absent,
+    Short,
+    Nothing,
+    Rows(usize),
+}
+
+pub fn sheeted_number(answer: Sheeted) -> u64
+    ensures { λ r. ⌜ r ≡ sheetedNumber answer ⌝ }
+{
+    match answer {
+        Sheeted::Refused(refusal) => refusal_number(refusal),
+        Sheeted::Absent => 11,
+        Sheeted::Short => 12,
+        Sheeted::Nothing => 13,
+        Sheeted::Rows(_) => 0,
+    }
+}
+
+pub fn sheeted_rows(answer: Sheeted) -> usize
+    ensures { λ r. ⌜ r ≡ sheetedRows answer ⌝ }
+{
+    match answer {
+        Sheeted::Refused(_) => 0,
+        Sheeted::Absent => 0,
+        Sheeted::Short => 0,
+        Sheeted::Nothing => 0,
+        Sheeted::Rows(n) => n,
     }
 }
 

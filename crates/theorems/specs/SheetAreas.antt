@@ -67,12 +67,12 @@ occurrences-short {A} alike seen (x ∷ l) = go (any (alike x) seen) (occurrence
     go false h k = omega arith
 
 module _ (region : Region) (c : ℕ) where
-  rows-few : length (sheetOf region c) ≤ region .plansWanted
+  pub rows-few : length (sheetOf region c) ≤ region .plansWanted
   unfolding sheetOf
   rows-few = le-trans (occurrences-short sameBeds [] (map (ownRow region c) (listOf region)))
       (omega (arith, length-map (listOf region) (ownRow region c), list-first region .short))
 
-  patients-few : length (patientsOf region c) ≤ length (region .patients)
+  pub patients-few : length (patientsOf region c) ≤ length (region .patients)
   unfolding patientsOf
   patients-few = le-trans (keep-short _ (patientNumbers region)) (omega (arith, below-long (length (region .patients))))
 
