@@ -30,12 +30,15 @@ use Rattle.planner.proofs.Areas.{question, all-long, rows-counted, narr
 
 -- Where at least one plan is wanted, question 13 asks whether the list has a row.
 module _ (r : Said.Region) (answered : Answered r) {n : ℕ} (count : n ≡ length (listOf r)) where
-  pub list-none : n ≡ 0 → planAllowed r ≡ false
-  list-none none-found = list-empty r (plans-wanted r answered .0) .0 (no-rows (listOf r) (sym count ∙ none-found))
+  pub no-list : n ≡ 0 → listOf r ≡ []
+  no-list none-found = no-rows (listOf r) (sym count ∙ none-found)
     where
       no-rows : (l : List Row) → length l ≡ 0 → l ≡ []
       no-rows [] e = refl
       no-rows (x ∷ l) e = absurd (omega arith)
+
+  pub list-none : n ≡ 0 → planAllowed r ≡ false
+  list-none none-found = list-empty r (plans-wanted r answered .0) .0 (no-list none-found)
 
   pub list-some : (n ≡ 0 → ⊥) → planAllowed r ≡ true
   list-some some-found = not-false-true (λ e. some-found (count ∙ ap length (list-empty r (plans-wanted r answered .0) .1 e)))

@@ -4,7 +4,6 @@ use Prim.Native.Nat.{_≤_}
 use Rattle.definitions.specs.Basics.{ℕ, suc, _*_, _≡_, refl, Bool, true, false, List, _∷_, length}
 use Rattle.definitions.specs.Syntax as Said
 use Rattle.definitions.specs.Syntax.{patientsOf}
-use Rattle.definitions.specs.Plans.{listOf}
 use Rattle.definitions.specs.Sheets.{sheetOf}
 use Rattle.definitions.specs.Questions.{Asked, firstNo, regionOf, clinicPresent, areasLongEnough, askedBySheet}
 use Rattle.definitions.specs.Outcomes.{foundBy, sheetFound, outcomeOf}
@@ -13,7 +12,7 @@ use Rattle.patient_set.specs.Sets.{members}
 use Rattle.held_region.specs.declared.Region.{Region}
 use Rattle.held_region.specs.Held.{Holds}
 use Rattle.buckets.specs.Terms.{Answered}
-use Rattle.row_sums.specs.Sums.{listAt}
+use Rattle.sheets.specs.Sheets.{Given, Asks}
 use Rattle.planner.specs.declared.Sheeted.{Sheeted}
 use Rattle.planner.specs.declared.Sheeted.the-variants.{Rows}
 use Rattle.planner.specs.Answers.{sheetedOutcome}
@@ -26,6 +25,19 @@ lateAsked r clinic long = (11, clinicPresent r clinic) ∷ lastAsked r long
 -- A set holds the patients of a clinic, whatever file the held region holds.
 abbrev pub HoldsClinic : Region → ℕ → ℕ → Type 0
 HoldsClinic h clinic set = (r : Said.Region) → Holds h r → Answered r → members set ≡ patientsOf r clinic
+
+-- The list lies in the work area, a set holds a clinic's patients, and the areas have room for m rows of V beds.
+pub record AsksSheet (h : Region) (n set : ℕ) (beds costs work : List ℕ) : Type 0 where
+  pub asks : Asks h n set work
+  pub count : n ≤ h .m
+  pub bedsLong : h .m * h .v ≤ length beds
+  pub costsLong : h .m ≤ length costs
+
+-- The sheet of each such clinic is written out.
+abbrev pub SheetWritten : Region → ℕ → ℕ → List ℕ → List ℕ → List ℕ → ℕ → List ℕ → List ℕ → List ℕ → Type 0
+SheetWritten h n set beds costs work k bedsAfter costsAfter workAfter =
+    (r : Said.Region) (clinic : ℕ) → Given h r clinic n set work
+    → sheetedOutcome (Rows k) bedsAfter costsAfter workAfter ≡ outcomeWith (length (patientsOf r clinic)) (sheetOf r clinic) beds costs work 0
 
 -- What sheet gives, of the file that a held region holds, once questions 1 to 10 are answered yes.
 abbrev pub RegionSheeted : Region → ℕ → List ℕ → List ℕ → List ℕ → Sheeted → List ℕ → List ℕ → List ℕ → Type 0
