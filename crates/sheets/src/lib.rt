@@ -100,10 +100,10 @@ fn has_come_before(sheet: &[u32], k: usize, n: usize, row: Row) -> bool
     requires { ⌜ (k ≤ 32) × (n * 34 ≤ length (now sheet)) ⌝ }
     ensures { λ r. ⌜ r ≡ any (sameBeds (rowOf k row)) (rowsIn k n (now (sheet .entry))) ⌝ }
 {
-    let beds = row.beds;
     let mut i: usize = 0;
     while i < n {
         let kept = row_at(sheet, k, i);
+        let beds = row.beds;
         let before = kept.beds;
         let repeats = same_beds(beds, before, k);
         if repeats {
