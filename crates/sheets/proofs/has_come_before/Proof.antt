@@ -21,11 +21,11 @@ loop-holds c = refl
 row-at-requires : tie.Need-row-at-requires Inv-loop μ-loop
 row-at-requires c κs = search needs
 
-same-beds-requires : tie.Need-same-beds-requires Inv-loop μ-loop
-same-beds-requires c κs = search needs
+repeats-requires : tie.Need-repeats-requires Inv-loop μ-loop
+repeats-requires c κs = search needs
 
 returns : tie.Need-returns Inv-loop μ-loop
-returns c = row-found _ _ _ _ _ (c .before .before .before .before .before .before .loop .inv) (c .before .before .before .before .before .loop-test .taken) _ (c .before .before .before .before .row-at .ensures) (c .before .same-beds .ensures) (c .if1 .taken)
+returns c = row-found _ _ _ _ _ (c .before .before .before .before .loop .inv) (c .before .before .before .loop-test .taken) _ (c .before .before .row-at .ensures) (c .before .repeats .ensures) (c .if1 .taken)
 
 add-i : tie.Need-add-i Inv-loop μ-loop
 add-i c = search needs
@@ -34,7 +34,7 @@ loop-less : tie.Need-loop-less Inv-loop μ-loop
 loop-less c = search needs
 
 loop-again : tie.Need-loop-again Inv-loop μ-loop
-loop-again c = row-other _ _ _ _ _ (c .before .before .before .before .before .before .loop .inv) (c .before .before .before .before .before .loop-test .taken) _ (c .before .before .before .before .row-at .ensures) (c .before .same-beds .ensures) (c .if1 .left)
+loop-again c = row-other _ _ _ _ _ (c .before .before .before .before .loop .inv) (c .before .before .before .loop-test .taken) _ (c .before .before .row-at .ensures) (c .before .repeats .ensures) (c .if1 .left)
 
 returns-2 : tie.Need-returns-2 Inv-loop μ-loop
 returns-2 c = rows-done _ _ _ _ _ (c .before .loop .inv) (c .loop-test .left)
@@ -47,7 +47,7 @@ has-come-before-spec =
     μ-loop
     loop-holds
     row-at-requires
-    same-beds-requires
+    repeats-requires
     returns
     add-i
     loop-less
