@@ -34,6 +34,7 @@ among r P = record {
 
 -- ---- its questions
 
+-- Fewer tables have no more entries together.
 entries-keep : (f : Table → Bool) (tables : List Table) → entriesOf (keep f tables) ≤ entriesOf tables
 entries-keep f [] = omega arith
 entries-keep f (t ∷ tables) = go (f t) (entries-keep f tables)
@@ -43,6 +44,7 @@ entries-keep f (t ∷ tables) = go (f t) (entries-keep f tables)
     go false h = omega arith
 
 module _ (r : Region) (P : ℕ → Bool) where
+  -- Parents are those of the patients, so ancestors stay as they are.
   following-same : (steps : ℕ) (parent : Option ℕ) → following (among r P) steps parent ≡ following r steps parent
   unfolding following patientAt
   following-same zero parent = refl
@@ -54,6 +56,7 @@ module _ (r : Region) (P : ℕ → Bool) where
   ancestors-same s = following-same (length (r .patients)) (patientAt r s .parent)
 
   module _ (a : Answered r) where
+    -- Questions 5, 8 and 10, and then all.
     counts-among : countsWithin (among r P) ≡ true
     unfolding countsWithin within limits
     counts-among =
@@ -99,11 +102,11 @@ term-among r P store terms k t term =
 
 -- ---- sets
 
+-- Nobody of one set is left outside another where all of the one are in the other.
 outside-asked : (w of m : ℕ) → ((q : ℕ) → inSet m q ≡ (inSet w q && not (inSet of q))) → isEmpty (members m) ≡ every (inSet of) (members w)
 unfolding members
 outside-asked w of m is = ap (λ f. isEmpty (keep f (below 32))) (fun-ext is) ∙ none-left (inSet w) (inSet of) (below 32)
 
--- Nobody of one set is left outside another where all of the one are in the other.
 pub none-outside : (w of m : ℕ) → of < 2 ^ 32 → ((q : ℕ) → inSet m q ≡ (inSet w q && not (inSet of q))) → isEmpty (members m) ≡ every (contains (members of)) (members w)
 none-outside w of m fits is = outside-asked w of m is ∙ ap (λ f. every f (members w)) (fun-ext (λ q. sym (member of q fits)))
 
@@ -141,5 +144,6 @@ among-all r a = λ i. record {
     count : length (keep (allAmong everybody) (r .tables)) ≡ r .tableCount
     count = ap length all ∙ eqb-true (length (r .tables)) (r .tableCount) (both (eqb (length (r .patients)) (r .patientCount)) (a .counted) .1)
 
+-- So their buckets are those of the whole region.
 pub prepared-all : (r : Region) → Answered r → {store patients terms : List ℕ} → Prepared (among r everybody) store patients terms → Prepared r store patients terms
 prepared-all r a {store} {patients} {terms} p = subst (λ x. Prepared x store patients terms) (among-all r a) p

@@ -29,6 +29,7 @@ module _ {A : Type 0} (alike : A → A → Bool) where
       go true false e old new = cc
       go false true e old new = cc
 
+-- A row that is tested last is tested as well as one that is tested first.
 any-last : {A : Type 0} (f : A → Bool) (x : A) (l : List A) → any f (x ∷ l) ≡ any f (l ++ x ∷ [])
 any-last f x [] = refl
 any-last f x (y ∷ l) =

@@ -30,6 +30,7 @@ listed-fits r w beds a e s h =
     omega arith
 
 module _ {r : Region} {clinic : ℕ} {store patients terms : List ℕ} {v set : ℕ} (own : Own r clinic store patients terms v set) where
+  -- The region with only the own tables has the same patients, so its price may be asked.
   among-fits : (beds : List ℕ) → Fitting r beds → Fitting (among r (contains (members set))) beds
   unfolding patientAt
   among-fits beds fits s h = fits s h
@@ -44,6 +45,7 @@ module _ {r : Region} {clinic : ℕ} {store patients terms : List ℕ} {v set : 
       every-keep (λ s. ltb s v) _ (below (length (r .patients)))
       (every-all (λ s. ltb s v) (below (length (r .patients))) (λ s k. lt-ltb s v (omega (arith, own .all, numbers-enumerate 0 (length (r .patients)) .only s k .1))))
 
+  -- The beds, the cost, and the row.
   own-beds : (beds taken : List ℕ) → PartTaken beds (members set) taken → take (length (members set)) taken ≡ part r clinic (take v beds)
   unfolding part
   own-beds beds taken is =

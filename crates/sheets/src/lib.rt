@@ -95,18 +95,25 @@ fn same_beds(a: [u8; 32], b: [u8; 32], k: usize) -> bool
     true
 }
 
-// Have a row's beds come before, in one of the n rows of the sheet? Costs do not count.
+// Has a row the beds of one that is kept? Costs do not count.
+fn repeats(row: Row, kept: Row, k: usize) -> bool
+    requires { ⌜ k ≤ 32 ⌝ }
+    ensures { λ r. ⌜ r ≡ sameBeds (rowOf k row) (rowOf k kept) ⌝ }
+{
+    let beds = row.beds;
+    let before = kept.beds;
+    same_beds(beds, before, k)
+}
+
+// Have a row's beds come before, in one of the n rows of the sheet?
 fn has_come_before(sheet: &[u32], k: usize, n: usize, row: Row) -> bool
     requires { ⌜ (k ≤ 32) × (n * 34 ≤ length (now sheet)) ⌝ }
     ensures { λ r. ⌜ r ≡ any (sameBeds (rowOf k row)) (rowsIn k n (now (sheet .entry))) ⌝ }
 {
-    let beds = row.beds;
     let mut i: usize = 0;
     while i < n {
         let kept = row_at(sheet, k, i);
-        let before = kept.beds;
-        let repeats = same_beds(beds, before, k);
-        if repeats {
+        if repeats(row, kept, k) {
             return true;
         }
         i += 1;
