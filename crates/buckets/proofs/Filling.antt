@@ -7,7 +7,7 @@ use native.Mathlib.Omega.{arith}
 use borrow.Author.Tests.{eq-eqb, ne-eqb}
 use lib.ListN.{drop, replicate, drop-of-length-le}
 use lib.Seq.{drop-cons}
-use Rattle.definitions.specs.Basics.{ℕ, suc, _+_, _-_, _*_, _<_, Bool, true, not, _&&_, cond, List, [], _∷_, map, length, getD, eqb, ltb, sum, keep}
+use Rattle.definitions.specs.Basics.{ℕ, suc, _+_, _-_, _*_, _<_, Bool, true, false, not, _&&_, cond, List, [], _∷_, map, length, getD, eqb, ltb, sum, every, keep}
 use Rattle.definitions.specs.Syntax as Said
 use Rattle.definitions.specs.Syntax.{patientAt}
 use Rattle.partial_rows.specs.Sets.{only}
@@ -15,8 +15,8 @@ use Rattle.partial_rows.specs.Rows.{holds, decidedTables}
 use Rattle.partial_rows.specs.Bounds.{leastEntry}
 use Rattle.held_region.specs.declared.Table.{Table}
 use Rattle.held_region.specs.declared.Region.{Region}
-use Rattle.held_region.specs.Held.{Holds, tableAt}
-use Rattle.held_region.specs.Outline.{outline, tableIn}
+use Rattle.held_region.specs.Held.{Holds, tableAt, storeOf}
+use Rattle.held_region.specs.Outline.{outline, tableIn, membersOf}
 use Rattle.held_region.specs.Sound.{Sound}
 use Rattle.held_region.specs.Entries.{countsMatch, entryTotal, counts-match}
 use Rattle.held_region.specs.Faithful.{patient-lines, total-told, sound-told, entry-counts-told}
@@ -26,36 +26,37 @@ use Rattle.buckets.specs.Places.{strideOf, stride-same}
 use Rattle.buckets.specs.Stores.{startOf, start-next, start-all, start-most}
 use Rattle.buckets.specs.Right.{in-bucket, patients-few, tables-few, entries-few, beds-few}
 use Rattle.buckets.specs.Chains.{term-right, chain-kept, chain-lower}
+use Rattle.buckets.specs.Among.{allAmong, among, answered-among, term-among}
 use Rattle.buckets.specs.Written.{PatientsWritten, lastOf, TermKnown, TermAdded}
 use Rattle.buckets.proofs.Writing.{zeros}
 use Rattle.buckets.proofs.Held.{held-lines, least-fits, held-place, held-right, members-same, entries-same, count-same}
 use Rattle.buckets.proofs.Held.{first-same, last-same, last-known, least-told, least-one}
 
--- Is s the highest member? The tables from place i on of which it is.
+-- Is s the highest member? The tables among some patients, from place i on, of which it is.
 abbrev inBucket : ℕ → Said.Table → Bool
 inBucket s t = holds (only s) t && not (holds (ltb s) t)
 
-abbrev pub bucketFrom : Said.Region → ℕ → ℕ → List Said.Table
-bucketFrom r i s = keep (inBucket s) (drop i (r .tables))
+abbrev pub bucketFrom : (ℕ → Bool) → Said.Region → ℕ → ℕ → List Said.Table
+bucketFrom P r i s = keep (inBucket s) (keep (allAmong P) (drop i (r .tables)))
 
--- The words say the buckets of the tables from place i on.
-pub record Filled (r : Said.Region) (store : List ℕ) (i start : ℕ) (patients terms : List ℕ) : Type 0 where
+-- The words say the buckets of the tables among some patients from place i on.
+pub record Filled (P : ℕ → Bool) (r : Said.Region) (store : List ℕ) (i start : ℕ) (patients terms : List ℕ) : Type 0 where
   pub starts : start ≡ startOf (r .tables) i
   pub beds : (s : ℕ) → s < length (r .patients) → bedsAt patients s ≡ patientAt r s .bedCount
-  pub least : (s : ℕ) → s < length (r .patients) → leastAt patients s ≡ sum (map leastEntry (bucketFrom r i s))
-  pub bucket : (s : ℕ) → s < length (r .patients) → Chain r store terms i (firstAt patients s) (bucketFrom r i s)
+  pub least : (s : ℕ) → s < length (r .patients) → leastAt patients s ≡ sum (map leastEntry (bucketFrom P r i s))
+  pub bucket : (s : ℕ) → s < length (r .patients) → Chain (among r P) store terms i (firstAt patients s) (bucketFrom P r i s)
 
-module _ (h : Region) (r : Said.Region) (held : Holds h r) (a : Answered r) where
+module _ (h : Region) (P : ℕ → Bool) (r : Said.Region) (held : Holds h r) (a : Answered r) where
   -- No table yet.
   pub filled-none : (start : ℕ) (words terms : List ℕ) → PatientsWritten (h .patients) (h .v) words → start ≡ entryTotal (outline h)
-      → Filled r (h .entries) (h .t) start words terms
+      → Filled P r (h .entries) (h .t) start words terms
   unfolding Chain
   filled-none start words terms w total =
       record {
         starts = total ∙ total-told h r held (a .counted) ∙ sym (start-all (r .tables)) ∙ ap (startOf (r .tables)) (held-lines h r held a);
         beds = λ s l. w .beds s (known s l) ∙ ap (λ p. p .bedCount) (held .patients s l);
-        least = λ s l. w .least s ∙ sym (ap (λ ts. sum (map leastEntry (keep (inBucket s) ts))) none-left);
-        bucket = λ s l. subst (λ ts. Chain r (h .entries) terms (h .t) (firstAt words s) (keep (inBucket s) ts)) (sym none-left) (w .first s (known s l));
+        least = λ s l. w .least s ∙ sym (ap (λ ts. sum (map leastEntry (keep (inBucket s) (keep (allAmong P) ts)))) none-left);
+        bucket = λ s l. subst (λ ts. Chain (among r P) (h .entries) terms (h .t) (firstAt words s) (keep (inBucket s) (keep (allAmong P) ts))) (sym none-left) (w .first s (known s l));
       }
     where
       known : (s : ℕ) → s < length (r .patients) → s < h .v
@@ -65,12 +66,12 @@ module _ (h : Region) (r : Said.Region) (held : Holds h r) (a : Answered r) wher
       none-left = drop-of-length-le (r .tables) {i = h .t} (omega (arith, held-lines h r held a))
 
   -- All tables.
-  pub filled-all : (start : ℕ) (patients terms : List ℕ) → Filled r (h .entries) 0 start patients terms → Prepared r (h .entries) patients terms
-  unfolding bucketOf leastIn decidedTables
-  filled-all start patients terms f = record { answered = a; beds = f .beds; least = f .least; bucket = f .bucket }
+  pub filled-all : (start : ℕ) (patients terms : List ℕ) → Filled P r (h .entries) 0 start patients terms → Prepared (among r P) (h .entries) patients terms
+  unfolding bucketOf leastIn decidedTables patientAt
+  filled-all start patients terms f = record { answered = answered-among r P a; beds = f .beds; least = f .least; bucket = f .bucket }
 
   -- One more table.
-  module _ (i : ℕ) (l : i < h .t) (start : ℕ) (patients terms : List ℕ) (f : Filled r (h .entries) (suc i) start patients terms) where
+  module _ (i : ℕ) (l : i < h .t) (start : ℕ) (patients terms : List ℕ) (f : Filled P r (h .entries) (suc i) start patients terms) where
     abbrev table : Table
     table = tableIn h i
 
@@ -91,6 +92,10 @@ module _ (h : Region) (r : Said.Region) (held : Holds h r) (a : Answered r) wher
 
     least-is : leastNumber (h .entries) from (from + table .entries) ≡ leastEntry t
     least-is = ap (λ n. leastNumber (h .entries) n (n + table .entries)) from-is ∙ least-told h r held a i l
+
+    next-table : (s : ℕ) → bucketFrom P r i s
+        ≡ keep (inBucket s) (cond (allAmong P t) (t ∷ keep (allAmong P) (drop (suc i) (r .tables))) (keep (allAmong P) (drop (suc i) (r .tables))))
+    next-table s = ap (λ ts. keep (inBucket s) (keep (allAmong P) ts)) (drop-cons (r .tables) i (record { members = []; entries = [] }) (held-place h r held a i l))
 
     member-known : (j : ℕ) → j < table .members → getD (table .first) j 0 < length (r .patients)
     member-known j m =
@@ -120,64 +125,80 @@ module _ (h : Region) (r : Said.Region) (held : Holds h r) (a : Answered r) wher
                 arith,
                 least-is,
                 least-one h r held a i l,
-                least-fits h r held a _ (suc i) _ (f .least (lastOf table) (last-known h r held a i l)),
+                least-fits h r held a _ (allAmong P) (suc i) _ (f .least (lastOf table) (last-known h r held a i l)),
               );
         }
 
-    module _ (blank : (p : ℕ) → p < suc i * 10 → getD terms p 0 ≡ 0) {counted after : List ℕ} (w : TermAdded (h .entries) table i from patients counted terms after) where
-      term-there : Term r (h .entries) after i t
+    -- A table that is not among the patients is passed over.
+    pub filled-over : every P (t .members) ≡ false → Filled P r (h .entries) i from patients terms
+    filled-over out =
+        record {
+          starts = from-is;
+          beds = f .beds;
+          least = λ s m. f .least s m ∙ sym (ap (λ ts. sum (map leastEntry ts)) (over s));
+          bucket = λ s m.
+              subst (λ ts. Chain (among r P) (h .entries) terms i (firstAt patients s) ts) (sym (over s))
+              (chain-lower (among r P) (h .entries) terms (suc i) i (firstAt patients s) (bucketFrom P r (suc i) s) (omega arith) (f .bucket s m));
+        }
+      where
+        over : (s : ℕ) → bucketFrom P r i s ≡ bucketFrom P r (suc i) s
+        over s = next-table s ∙ ap (λ b. keep (inBucket s) (cond b (t ∷ keep (allAmong P) (drop (suc i) (r .tables))) (keep (allAmong P) (drop (suc i) (r .tables))))) out
+
+    module _ (own : every P (t .members) ≡ true) (blank : (p : ℕ) → p < suc i * 10 → getD terms p 0 ≡ 0) {counted after : List ℕ} (w : TermAdded (h .entries) table i from patients counted terms after) where
+      term-there : Term (among r P) (h .entries) after i t
       term-there =
-          subst (λ store. Term r store after i t) (sym (held .entries))
+          subst (λ store. Term (among r P) store after i t) (sym (held .entries))
+          (term-among r P (storeOf (r .tables)) after i t
           (term-right r a i (held-place h r held a i l) after (w .starts ∙ from-is)
           (λ j m. w .members .members (λ q n. blank _ (omega arith)) j m ∙ ap (λ ms. getD ms j 0) (members-same h r held a i l))
           (λ j m.
           w .members .strides (λ q n. blank _ (omega arith)) j m ∙ ap (λ ms. strideOf (bedsAt patients) ms j) (members-same h r held a i l)
-          ∙ stride-same (bedsAt patients) (λ s. patientAt r s .bedCount) (t .members) (λ q n. f .beds _ (held-right h r held a i l .known q n)) j))
+          ∙ stride-same (bedsAt patients) (λ s. patientAt r s .bedCount) (t .members) (λ q n. f .beds _ (held-right h r held a i l .known q n)) j)))
 
-      kept : (s : ℕ) → s < length (r .patients) → Chain r (h .entries) after (suc i) (firstAt patients s) (bucketFrom r (suc i) s)
-      kept s m = chain-kept r (h .entries) terms after (suc i) (firstAt patients s) (bucketFrom r (suc i) s) (λ q n. w .members .others .higher q (omega arith)) (f .bucket s m)
+      kept : (s : ℕ) → s < length (r .patients) → Chain (among r P) (h .entries) after (suc i) (firstAt patients s) (bucketFrom P r (suc i) s)
+      kept s m = chain-kept (among r P) (h .entries) terms after (suc i) (firstAt patients s) (bucketFrom P r (suc i) s) (λ q n. w .members .others .higher q (omega arith)) (f .bucket s m)
 
-      one-more : (s : ℕ) → bucketFrom r i s ≡ cond (eqb s (lastOf table)) (t ∷ bucketFrom r (suc i) s) (bucketFrom r (suc i) s)
+      one-more : (s : ℕ) → bucketFrom P r i s ≡ cond (eqb s (lastOf table)) (t ∷ bucketFrom P r (suc i) s) (bucketFrom P r (suc i) s)
       one-more s =
-          ap (keep (inBucket s)) (drop-cons (r .tables) i (record { members = []; entries = [] }) (held-place h r held a i l))
-          ∙ ap (λ b. cond b (t ∷ bucketFrom r (suc i) s) (bucketFrom r (suc i) s))
+          next-table s ∙ ap (λ b. keep (inBucket s) (cond b (t ∷ keep (allAmong P) (drop (suc i) (r .tables))) (keep (allAmong P) (drop (suc i) (r .tables))))) own
+          ∙ ap (λ b. cond b (t ∷ bucketFrom P r (suc i) s) (bucketFrom P r (suc i) s))
           (in-bucket s t (held-right h r held a i l .some) (held-right h r held a i l .rising) ∙ ap (eqb s) (sym (last-same h r held a i l)))
 
-      put : (s : ℕ) → s ≡ lastOf table → bucketFrom r i s ≡ t ∷ bucketFrom r (suc i) s
-      put s e = one-more s ∙ ap (λ b. cond b (t ∷ bucketFrom r (suc i) s) (bucketFrom r (suc i) s)) (eq-eqb s (lastOf table) e)
+      put : (s : ℕ) → s ≡ lastOf table → bucketFrom P r i s ≡ t ∷ bucketFrom P r (suc i) s
+      put s e = one-more s ∙ ap (λ b. cond b (t ∷ bucketFrom P r (suc i) s) (bucketFrom P r (suc i) s)) (eq-eqb s (lastOf table) e)
 
-      passed : (s : ℕ) → (s ≡ lastOf table → ⊥) → bucketFrom r i s ≡ bucketFrom r (suc i) s
-      passed s n = one-more s ∙ ap (λ b. cond b (t ∷ bucketFrom r (suc i) s) (bucketFrom r (suc i) s)) (ne-eqb s (lastOf table) n)
+      passed : (s : ℕ) → (s ≡ lastOf table → ⊥) → bucketFrom P r i s ≡ bucketFrom P r (suc i) s
+      passed s n = one-more s ∙ ap (λ b. cond b (t ∷ bucketFrom P r (suc i) s) (bucketFrom P r (suc i) s)) (ne-eqb s (lastOf table) n)
 
       -- The bucket of the table's last member, and the others.
-      least-last : leastAt counted (lastOf table) ≡ sum (map leastEntry (bucketFrom r i (lastOf table)))
+      least-last : leastAt counted (lastOf table) ≡ sum (map leastEntry (bucketFrom P r i (lastOf table)))
       least-last =
           w .least ∙ ap₂ (λ x y. x + y) (f .least (lastOf table) (last-known h r held a i l)) least-is ∙ add-comm _ _
           ∙ sym (ap (λ ts. sum (map leastEntry ts)) (put (lastOf table) refl))
 
-      bucket-last : Chain r (h .entries) after i (firstAt counted (lastOf table)) (bucketFrom r i (lastOf table))
+      bucket-last : Chain (among r P) (h .entries) after i (firstAt counted (lastOf table)) (bucketFrom P r i (lastOf table))
       unfolding Chain
       bucket-last =
-          subst (λ ts. Chain r (h .entries) after i (firstAt counted (lastOf table)) ts) (sym (put (lastOf table) refl))
-          (subst (λ p. Chain r (h .entries) after i p (t ∷ bucketFrom r (suc i) (lastOf table))) (sym (w .first)) (
+          subst (λ ts. Chain (among r P) (h .entries) after i (firstAt counted (lastOf table)) ts) (sym (put (lastOf table) refl))
+          (subst (λ p. Chain (among r P) (h .entries) after i p (t ∷ bucketFrom P r (suc i) (lastOf table))) (sym (w .first)) (
             le-refl i,
             omega (arith, held-place h r held a i l, tables-few r a),
             term-there,
-            subst (λ p. Chain r (h .entries) after (suc i) p (bucketFrom r (suc i) (lastOf table))) (sym (w .next)) (kept (lastOf table) (last-known h r held a i l)),
+            subst (λ p. Chain (among r P) (h .entries) after (suc i) p (bucketFrom P r (suc i) (lastOf table))) (sym (w .next)) (kept (lastOf table) (last-known h r held a i l)),
           ))
 
-      least-of : (s : ℕ) → s < length (r .patients) → Dec (s ≡ lastOf table) → leastAt counted s ≡ sum (map leastEntry (bucketFrom r i s))
+      least-of : (s : ℕ) → s < length (r .patients) → Dec (s ≡ lastOf table) → leastAt counted s ≡ sum (map leastEntry (bucketFrom P r i s))
       least-of s m (yes e) = rw e least-last
       least-of s m (no n) = w .otherLeast s n ∙ f .least s m ∙ sym (ap (λ ts. sum (map leastEntry ts)) (passed s n))
 
-      bucket-of : (s : ℕ) → s < length (r .patients) → Dec (s ≡ lastOf table) → Chain r (h .entries) after i (firstAt counted s) (bucketFrom r i s)
+      bucket-of : (s : ℕ) → s < length (r .patients) → Dec (s ≡ lastOf table) → Chain (among r P) (h .entries) after i (firstAt counted s) (bucketFrom P r i s)
       bucket-of s m (yes e) = rw e bucket-last
       bucket-of s m (no n) =
-          subst (λ ts. Chain r (h .entries) after i (firstAt counted s) ts) (sym (passed s n))
-          (subst (λ p. Chain r (h .entries) after i p (bucketFrom r (suc i) s)) (sym (w .otherFirst s n))
-          (chain-lower r (h .entries) after (suc i) i (firstAt patients s) (bucketFrom r (suc i) s) (omega arith) (kept s m)))
+          subst (λ ts. Chain (among r P) (h .entries) after i (firstAt counted s) ts) (sym (passed s n))
+          (subst (λ p. Chain (among r P) (h .entries) after i p (bucketFrom P r (suc i) s)) (sym (w .otherFirst s n))
+          (chain-lower (among r P) (h .entries) after (suc i) i (firstAt patients s) (bucketFrom P r (suc i) s) (omega arith) (kept s m)))
 
-      pub filled-more : Filled r (h .entries) i from counted after
+      pub filled-more : Filled P r (h .entries) i from counted after
       filled-more =
           record {
             starts = from-is;
@@ -188,14 +209,14 @@ module _ (h : Region) (r : Said.Region) (held : Holds h r) (a : Answered r) wher
 
 -- ---- the loop
 
--- At place i: the terms below it are blank, and of every region that is held the tables from it on are in their buckets.
-pub record Filling (h : Region) (i start : ℕ) (patients terms : List ℕ) : Type 0 where
+-- At place i: the terms below it are blank, and of every region that is held the tables among the patients from it on are in their buckets.
+pub record Filling (h : Region) (P : ℕ → Bool) (i start : ℕ) (patients terms : List ℕ) : Type 0 where
   pub wide : length patients ≡ 96
   pub termsWide : length terms ≡ 640
   pub left : i ≤ h .t
   pub few : i ≤ 64
   pub blank : (p : ℕ) → p < i * 10 → getD terms p 0 ≡ 0
-  pub each : (r : Said.Region) → Holds h r → Answered r → Filled r (h .entries) i start patients terms
+  pub each : (r : Said.Region) → Holds h r → Answered r → Filled P r (h .entries) i start patients terms
 
 module _ (h : Region) where
   -- What the functions that are called ask for.
@@ -205,52 +226,69 @@ module _ (h : Region) where
   pub counts-held : Planned h → countsMatch (outline h) ≡ true
   counts-held p = counts-match (outline h) (entry-counts-told h (p .region) (p .holds) (p .answered .counted) (p .answered .membersFit) ∙ p .answered .entryCountsFit)
 
-  pub filling-none : (start : ℕ) (words : List ℕ) → h .t ≤ 64
-      → PatientsWritten (h .patients) (h .v) words → start ≡ entryTotal (outline h) → Filling h (h .t) start words (replicate 640 0)
-  filling-none start words few w total =
-      record {
-        wide = w .wide;
-        termsWide = refl;
-        left = omega arith;
-        few = few;
-        blank = λ p l. zeros 640 p;
-        each = λ r held a. filled-none h r held a start words (replicate 640 0) w total;
-      }
-
-  pub filling-all : (start i : ℕ) (patients terms : List ℕ) → i ≤ 0 → Filling h i start patients terms
-      → (r : Said.Region) → Holds h r → Answered r → Prepared r (h .entries) patients terms
-  filling-all start i patients terms done f r held a =
-      let none-left : i ≡ 0 = omega arith in
-      filled-all h r held a start patients terms (rw none-left at (f .each r held a))
-
-  module _ (i start : ℕ) (patients terms : List ℕ) (more : 0 < i) (f : Filling h i start patients terms) where
-    abbrev k : ℕ
-    k = i - 1
-
-    place : k < h .t
-    place = omega (arith, f .left)
-
-    next-place : i ≡ suc k
-    next-place = omega arith
-
-    filled : (r : Said.Region) → Holds h r → Answered r → Filled r (h .entries) (suc k) start patients terms
-    filled r held a = subst (λ n. Filled r (h .entries) n start patients terms) next-place (f .each r held a)
-
-    pub filling-start : Planned h → tableIn h k .entries ≤ start
-    filling-start p = start-enough h (p .region) (p .holds) (p .answered) k place start patients terms (filled (p .region) (p .holds) (p .answered))
-
-    pub filling-known : Planned h → TermKnown (h .entries) (tableIn h k) k (start - tableIn h k .entries) patients terms
-    filling-known p =
-        term-known h (p .region) (p .holds) (p .answered) k place start patients terms (filled (p .region) (p .holds) (p .answered)) (f .wide) (f .termsWide)
-
-    pub filling-more : {counted after : List ℕ} → TermAdded (h .entries) (tableIn h k) k (start - tableIn h k .entries) patients counted terms after
-        → Filling h k (start - tableIn h k .entries) counted after
-    filling-more {counted} {after} w =
+  module _ (P : ℕ → Bool) where
+    pub filling-none : (start : ℕ) (words : List ℕ) → h .t ≤ 64
+        → PatientsWritten (h .patients) (h .v) words → start ≡ entryTotal (outline h) → Filling h P (h .t) start words (replicate 640 0)
+    filling-none start words few w total =
         record {
           wide = w .wide;
-          termsWide = w .members .others .wide ∙ f .termsWide;
-          left = omega (arith, f .left);
-          few = omega (arith, f .few);
-          blank = λ p l. w .members .others .lower p l ∙ f .blank p (omega arith);
-          each = λ r held a. filled-more h r held a k place start patients terms (filled r held a) (λ p l. f .blank p (omega arith)) w;
+          termsWide = refl;
+          left = omega arith;
+          few = few;
+          blank = λ p l. zeros 640 p;
+          each = λ r held a. filled-none h P r held a start words (replicate 640 0) w total;
         }
+
+    pub filling-all : (start i : ℕ) (patients terms : List ℕ) → i ≤ 0 → Filling h P i start patients terms
+        → (r : Said.Region) → Holds h r → Answered r → Prepared (among r P) (h .entries) patients terms
+    filling-all start i patients terms done f r held a =
+        let none-left : i ≡ 0 = omega arith in
+        filled-all h P r held a start patients terms (rw none-left at (f .each r held a))
+
+    module _ (i start : ℕ) (patients terms : List ℕ) (more : 0 < i) (f : Filling h P i start patients terms) where
+      abbrev k : ℕ
+      k = i - 1
+
+      pub filling-place : k < h .t
+      filling-place = omega (arith, f .left)
+
+      next-place : i ≡ suc k
+      next-place = omega arith
+
+      filled : (r : Said.Region) → Holds h r → Answered r → Filled P r (h .entries) (suc k) start patients terms
+      filled r held a = subst (λ n. Filled P r (h .entries) n start patients terms) next-place (f .each r held a)
+
+      pub filling-start : Planned h → tableIn h k .entries ≤ start
+      filling-start p = start-enough h P (p .region) (p .holds) (p .answered) k filling-place start patients terms (filled (p .region) (p .holds) (p .answered))
+
+      pub filling-known : Planned h → TermKnown (h .entries) (tableIn h k) k (start - tableIn h k .entries) patients terms
+      filling-known p =
+          term-known h P (p .region) (p .holds) (p .answered) k filling-place start patients terms (filled (p .region) (p .holds) (p .answered)) (f .wide) (f .termsWide)
+
+      -- The test of the held table is that of the table said.
+      said : (r : Said.Region) → Holds h r → Answered r → {b : Bool} → b ≡ every P (membersOf (tableIn h k)) → every P (tableAt r k .members) ≡ b
+      said r held a e = sym (e ∙ ap (every P) (members-same h r held a k filling-place))
+
+      pub filling-over : {b : Bool} → b ≡ every P (membersOf (tableIn h k)) → b ≡ false → Filling h P k (start - tableIn h k .entries) patients terms
+      filling-over e out =
+          record {
+            wide = f .wide;
+            termsWide = f .termsWide;
+            left = omega (arith, f .left);
+            few = omega (arith, f .few);
+            blank = λ p l. f .blank p (omega arith);
+            each = λ r held a. filled-over h P r held a k filling-place start patients terms (filled r held a) (said r held a e ∙ out);
+          }
+
+      pub filling-more : {b : Bool} → b ≡ every P (membersOf (tableIn h k)) → b ≡ true → {counted after : List ℕ}
+          → TermAdded (h .entries) (tableIn h k) k (start - tableIn h k .entries) patients counted terms after
+          → Filling h P k (start - tableIn h k .entries) counted after
+      filling-more e own {counted} {after} w =
+          record {
+            wide = w .wide;
+            termsWide = w .members .others .wide ∙ f .termsWide;
+            left = omega (arith, f .left);
+            few = omega (arith, f .few);
+            blank = λ p l. w .members .others .lower p l ∙ f .blank p (omega arith);
+            each = λ r held a. filled-more h P r held a k filling-place start patients terms (filled r held a) (said r held a e ∙ own) (λ p l. f .blank p (omega arith)) w;
+          }

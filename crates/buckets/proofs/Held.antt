@@ -11,6 +11,7 @@ use Rattle.definitions.specs.Syntax as Said
 use Rattle.theorems.specs.Tests.{both}
 use Rattle.theorems.specs.Every.{every-weaken}
 use Rattle.theorems.specs.Accepted.{at-most}
+use Rattle.patient_set.specs.Lists.{length-keep, every-keep}
 use Rattle.partial_rows.specs.Bounds.{smaller, leastOf, leastEntry}
 use Rattle.held_region.specs.declared.Table.{Table}
 use Rattle.held_region.specs.declared.Region.{Region}
@@ -68,10 +69,17 @@ module _ (h : Region) (r : Said.Region) (holds : Holds h r) (a : Answered r) whe
   held-lines = table-lines h r holds (a .counted)
 
   -- The sum of some tables' least numbers, and one more, fits.
-  pub least-fits : (f : Said.Table → Bool) (i n : ℕ) → n ≡ sum (map leastEntry (keep f (drop i (r .tables)))) → n ≤ 64_000_000
+  pub least-fits : (f g : Said.Table → Bool) (i n : ℕ) → n ≡ sum (map leastEntry (keep f (keep g (drop i (r .tables))))) → n ≤ 64_000_000
   unfolding entriesWithin
-  least-fits f i n is =
-      omega (arith, sum-small f (drop i (r .tables)) (every-drop fitting i (r .tables) (a .entriesFit)), length-drop i (r .tables), tables-few r a)
+  least-fits f g i n is =
+      let tables = drop i (r .tables) in
+      omega (
+        arith,
+        sum-small f (keep g tables) (every-keep fitting g tables (every-drop fitting i (r .tables) (a .entriesFit))),
+        length-keep g tables,
+        length-drop i (r .tables),
+        tables-few r a,
+      )
 
   module _ (i : ℕ) (l : i < h .t) where
     abbrev table : Table

@@ -5,3 +5,4 @@ pub mod Written
 pub mod Stores
 pub mod Right
 pub mod Chains
+pub mod Among

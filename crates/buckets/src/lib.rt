@@ -4,10 +4,17 @@ use held_region::FORBIDDEN;
 use held_region::Patient;
 use held_region::Region;
 use held_region::Table;
+use patient_set::PatientSet;
+use region_sets::member_set;
 ghost use mathlib.Core.Path.{_≡_};
 ghost use Prim.Native.Nat.{_≤_, _<_};
 ghost use Rattle.definitions.specs.Syntax as Said;
+ghost use Rattle.definitions.specs.Basics.{every, contains};
+ghost use Rattle.patient_set.specs.Sets.{members};
 ghost use Rattle.held_region.specs.Held.{Holds};
+ghost use Rattle.held_region.specs.Outline.{membersOf};
+ghost use Rattle.held_region.specs.Related as Related;
+ghost use Rattle.buckets.specs.Among.{among};
 ghost use Rattle.buckets.specs.Terms.{Answered, Planned, Prepared};
 ghost use Rattle.buckets.specs.Least.{leastNumber};
 ghost use Rattle.buckets.specs.Written.{PatientsWritten, MembersKnown, MembersWritten, LastKnown, lastOf, TermKnown, TermAdded};
@@ -102,10 +109,19 @@ fn add_term(
     patients[s * 3 + 2] = k as u32;
 }
 
-// Every table as a term in the bucket of its highest member. From the last table on, so that each bucket has the order of the file.
-pub fn prepare(region: Region) -> Buckets
+// Are all members of a table in the set?
+fn is_among(table: Table, of: PatientSet) -> bool
+    requires { ⌜ Related.MembersKnown table ⌝ }
+    ensures { λ a. ⌜ a ≡ every (contains (members (of .0))) (membersOf table) ⌝ }
+{
+    member_set(table).minus(of).is_empty()
+}
+
+// Every table among the patients of a set as a term in the bucket of its highest member.
+// From the last table on, so that each bucket has the order of the file.
+pub fn prepare_within(region: Region, of: PatientSet) -> Buckets
     requires { ⌜ Planned region ⌝ }
-    ensures { λ b. ⌜ ((r : Said.Region) → Holds region r → Answered r → Prepared r (region .entries) (b .patients) (b .terms)) ⌝ }
+    ensures { λ b. ⌜ ((r : Said.Region) → Holds region r → Answered r → Prepared (among r (contains (members (of .0)))) (region .entries) (b .patients) (b .terms)) ⌝ }
 {
     let held = region.patients;
     let mut patients = patient_words(held, region.v);
@@ -116,10 +132,20 @@ pub fn prepare(region: Region) -> Buckets
         i -= 1;
         let table = region.tables[i];
         start -= table.entries;
-        add_term(&mut patients, &mut terms, &region.entries, table, i, start);
+        if is_among(table, of) {
+            add_term(&mut patients, &mut terms, &region.entries, table, i, start);
+        }
     }
     Buckets {
         patients: patients,
         terms: terms,
     }
+}
+
+// Every table as a term.
+pub fn prepare(region: Region) -> Buckets
+    requires { ⌜ Planned region ⌝ }
+    ensures { λ b. ⌜ ((r : Said.Region) → Holds region r → Answered r → Prepared r (region .entries) (b .patients) (b .terms)) ⌝ }
+{
+    prepare_within(region, PatientSet::FULL)
 }

@@ -38,7 +38,7 @@ unfolding members
 set-members w l up known is = ap (λ f. keep f (below 32)) (fun-ext is) ∙ kept-below 32 l up known
 
 -- No patient is left of those that pass one test and not another where all that pass the one pass the other.
-none-left : (f g : ℕ → Bool) (l : List ℕ) → isEmpty (keep (λ q. f q && not (g q)) l) ≡ every g (keep f l)
+pub none-left : (f g : ℕ → Bool) (l : List ℕ) → isEmpty (keep (λ q. f q && not (g q)) l) ≡ every g (keep f l)
 none-left f g [] = refl
 none-left f g (x ∷ l) = step (f x) (g x) refl (none-left f g l)
   where

@@ -1,2 +1,5 @@
 pub mod Prices
+pub mod Areas
 pub mod Lists
+pub mod Clinics
+pub mod Sheets

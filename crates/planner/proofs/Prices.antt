@@ -11,17 +11,15 @@ use Rattle.definitions.specs.Outcomes.{priced}
 use Rattle.theorems.specs.Tests.{both}
 use Rattle.held_region.specs.declared.Region.{Region}
 use Rattle.held_region.specs.Held.{Holds}
-use Rattle.held_region.specs.Faithful.{patient-lines, fits-told}
+use Rattle.held_region.specs.Faithful.{patient-lines}
 use Rattle.buckets.specs.Terms.{Answered, Planned, Prepared}
 use Rattle.pricing.specs.declared.Cost.{Cost}
 use Rattle.pricing.specs.Pricing.{costIn, AsksAll, GivesAll, PlanAsked}
 use Rattle.planner.specs.declared.Priced.{Priced}
 use Rattle.planner.specs.declared.Priced.the-variants.{Misfit}
 use Rattle.planner.specs.Answers.{pricedOutcome}
+use Rattle.planner.specs.Counts.{few-patients}
 use Rattle.planner.specs.Prices.{RegionPriced, fitting}
-
-pub few-patients : (h : Region) → Planned h → h .v ≤ 32
-few-patients h pre = fits-told h (pre .region) (pre .holds) (pre .answered .counted) (pre .answered .countsFit) .patients
 
 module _ {h : Region} {words terms : List ℕ} (plan : List ℕ) (pre : Planned h)
     (prepared : (r : Said.Region) → Holds h r → Answered r → Prepared r (h .entries) words terms) {answer : Bool} (asked : PlanAsked words (h .v) plan answer) where

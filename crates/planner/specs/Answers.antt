@@ -7,6 +7,9 @@ use Rattle.held_region.specs.Refusals.{questionOf, numberOf}
 use Rattle.planner.specs.declared.Listed.{Listed}
 use Rattle.planner.specs.declared.Listed.the-variants as Lists
 use Rattle.planner.specs.declared.Listed.the-variants.{Short, Nothing, Rows}
+use Rattle.planner.specs.declared.Sheeted.{Sheeted}
+use Rattle.planner.specs.declared.Sheeted.the-variants as Sheets
+use Rattle.planner.specs.declared.Sheeted.the-variants.{Absent}
 use Rattle.planner.specs.declared.PriceValues.{PriceValues}
 use Rattle.planner.specs.declared.Priced.{Priced}
 use Rattle.planner.specs.declared.Priced.the-variants.{Refused, Misfit, Forbidden, Allowed}
@@ -34,6 +37,24 @@ listedRows (Rows n) = n
 
 abbrev pub listedOutcome : Listed → List ℕ → List ℕ → List ℕ → ListOutcome
 listedOutcome answer beds costs work = record { number = listedNumber answer; rows = listedRows answer; beds = beds; costs = costs; work = work }
+
+-- Sheet's answer, in the same way.
+abbrev pub sheetedNumber : Sheeted → ℕ
+sheetedNumber (Sheets.Refused refusal) = refusalNumber refusal
+sheetedNumber Absent = 11
+sheetedNumber Sheets.Short = 12
+sheetedNumber Sheets.Nothing = 13
+sheetedNumber (Sheets.Rows n) = 0
+
+abbrev pub sheetedRows : Sheeted → ℕ
+sheetedRows (Sheets.Refused refusal) = 0
+sheetedRows Absent = 0
+sheetedRows Sheets.Short = 0
+sheetedRows Sheets.Nothing = 0
+sheetedRows (Sheets.Rows n) = n
+
+abbrev pub sheetedOutcome : Sheeted → List ℕ → List ℕ → List ℕ → ListOutcome
+sheetedOutcome answer beds costs work = record { number = sheetedNumber answer; rows = sheetedRows answer; beds = beds; costs = costs; work = work }
 
 -- Price's answer: the number, whether the plan is allowed, and its total.
 abbrev pub notAllowed : ℕ → PriceOutcome

@@ -1,5 +1,8 @@
 pub mod Answers
 pub mod Later
 pub mod Loaded
+pub mod Counts
+pub mod Found
 pub mod Lists
+pub mod Sheets
 pub mod Prices

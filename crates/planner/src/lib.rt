@@ -1,10 +1,13 @@
 // The entries.
+pub mod clinic_sheet;
 pub mod loaded;
 
 ghost use mathlib.Core.Path.{_≡_};
 ghost use Rattle.definitions.specs.Questions.{checkOf};
-ghost use Rattle.definitions.specs.Outcomes.{listOutcome, priceOutcome};
-ghost use Rattle.planner.specs.Answers.{checkedNumber, refusalNumber, listedNumber, listedRows, listedOutcome, notAllowed, pricedOutcome, valuesOf};
+ghost use Rattle.definitions.specs.Outcomes.{listOutcome, sheetOutcome, priceOutcome};
+ghost use Rattle.planner.specs.Answers.{checkedNumber, refusalNumber, listedNumber, listedRows, listedOutcome};
+ghost use Rattle.planner.specs.Answers.{sheetedNumber, sheetedRows, sheetedOutcome, notAllowed, pricedOutcome, valuesOf};
+use clinic_sheet::sheet_loaded;
 use held_region::Judged;
 use held_region::Refusal;
 use loaded::list_loaded;
@@ -85,6 +88,57 @@ pub fn listed_rows(answer: Listed) -> usize
         Listed::Short => 0,
         Listed::Nothing => 0,
         Listed::Rows(n) => n,
+    }
+}
+
+// Sheet's answer, with the row count. Absent: question 11 is answered no.
+pub enum Sheeted {
+    Refused(Refusal),
+    Absent,
+    Short,
+    Nothing,
+    Rows(usize),
+}
+
+// Questions 1 to 10, 11, 12 and 13, then the clinic's sheet.
+pub fn sheet(
+    file: &[u8],
+    clinic: u64,
+    beds: &mut [u8],
+    costs: &mut [u32],
+    work: &mut [u32],
+) -> Sheeted
+    ensures { λ r. ⌜ sheetedOutcome r (now (beds .exit)) (now (costs .exit)) (now (work .exit)) ≡ sheetOutcome (now (file .entry)) clinic (now (beds .entry)) (now (costs .entry)) (now (work .entry)) ⌝ }
+{
+    let read = load(file);
+    let answer = read.answer;
+    match answer {
+        Judged::Refused(refusal) => Sheeted::Refused(refusal),
+        Judged::Fine => sheet_loaded(read.region, clinic, beds, costs, work),
+    }
+}
+
+pub fn sheeted_number(answer: Sheeted) -> u64
+    ensures { λ r. ⌜ r ≡ sheetedNumber answer ⌝ }
+{
+    match answer {
+        Sheeted::Refused(refusal) => refusal_number(refusal),
+        Sheeted::Absent => 11,
+        Sheeted::Short => 12,
+        Sheeted::Nothing => 13,
+        Sheeted::Rows(_) => 0,
+    }
+}
+
+pub fn sheeted_rows(answer: Sheeted) -> usize
+    ensures { λ r. ⌜ r ≡ sheetedRows answer ⌝ }
+{
+    match answer {
+        Sheeted::Refused(_) => 0,
+        Sheeted::Absent => 0,
+        Sheeted::Short => 0,
+        Sheeted::Nothing => 0,
+        Sheeted::Rows(n) => n,
     }
 }
 

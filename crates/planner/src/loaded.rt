@@ -36,7 +36,7 @@ pub fn price_region(region: Region, plan: &[u8]) -> Priced
 }
 
 // 12. Have the areas room for m rows of v beds, and the work area its 16,384 numbers?
-fn long_enough(v: usize, m: usize, beds: usize, costs: usize, work: usize) -> bool
+pub fn long_enough(v: usize, m: usize, beds: usize, costs: usize, work: usize) -> bool
     requires { ⌜ (v ≤ 32) × (m ≤ 64) ⌝ }
     ensures { λ a. ⌜ a ≡ longEnough v m beds costs work ⌝ }
 {

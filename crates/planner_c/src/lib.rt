@@ -3,7 +3,7 @@ ghost use mathlib.Core.Path.{_≡_};
 ghost use Rattle.definitions.specs.Basics.{false};
 ghost use Rattle.definitions.specs.Plans.{Plan};
 ghost use Rattle.definitions.specs.Outcomes.{priceFound};
-ghost use Rattle.definitions.specs.Boundary.{checkCall, listCall, priceCall};
+ghost use Rattle.definitions.specs.Boundary.{checkCall, listCall, sheetCall, priceCall};
 ghost use Rattle.planner_c.specs.Room.{costRoom};
 ghost use Rattle.planner.specs.Answers.{notAllowed};
 use byte_areas::store_costs;
@@ -16,6 +16,12 @@ use planner::listed_number;
 use planner::listed_rows;
 use planner::price;
 use planner::price_values;
+use planner::sheet;
+use planner::sheeted_number;
+use planner::sheeted_rows;
+
+// How many numbers of work area list and sheet ask for.
+const WORK: usize = 16_384;
 
 #[no_mangle]
 pub extern "C" fn rigbasen_check(file: &[u8]) -> u64
@@ -47,12 +53,33 @@ pub extern "C" fn rigbasen_list(
 {
     let room = cost_room(costs.len(), result.len());
     let mut held = [0u32; 64];
-    let mut work = [0u32; 16_384];
+    let mut work = [0u32; WORK];
     let answer = list(file, beds, &mut held[0..room], &mut work);
     let rows = listed_rows(answer);
     store_costs(costs, &held, rows);
     store_count(result, rows as u64);
     listed_number(answer)
+}
+
+// As for list, of the clinic's sheet.
+#[no_mangle]
+pub extern "C" fn rigbasen_sheet(
+    file: &[u8],
+    clinic: u64,
+    beds: &mut [u8],
+    costs: &mut [u8],
+    result: &mut [u8],
+) -> u64
+    ensures { λ n. ⌜ record { number = n; beds = now (beds .exit); costs = now (costs .exit); result = now (result .exit) } ≡ sheetCall (now (file .entry)) clinic (now (beds .entry)) (now (costs .entry)) (now (result .entry)) ⌝ }
+{
+    let room = cost_room(costs.len(), result.len());
+    let mut held = [0u32; 64];
+    let mut work = [0u32; WORK];
+    let answer = sheet(file, clinic, beds, &mut held[0..room], &mut work);
+    let rows = sheeted_rows(answer);
+    store_costs(costs, &held, rows);
+    store_count(result, rows as u64);
+    sheeted_number(answer)
 }
 
 // Price's number where the result area is too short: 12, unless one of the questions before it is answered no.

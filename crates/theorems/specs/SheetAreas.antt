@@ -72,7 +72,7 @@ module _ (region : Region) (c : ℕ) where
   rows-few = le-trans (occurrences-short sameBeds [] (map (ownRow region c) (listOf region)))
       (omega (arith, length-map (listOf region) (ownRow region c), list-first region .short))
 
-  patients-few : length (patientsOf region c) ≤ length (region .patients)
+  pub patients-few : length (patientsOf region c) ≤ length (region .patients)
   unfolding patientsOf
   patients-few = le-trans (keep-short _ (patientNumbers region)) (omega (arith, below-long (length (region .patients))))
 

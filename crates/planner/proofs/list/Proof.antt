@@ -1,12 +1,11 @@
 use borrow.Author.Needs.{needs}
 use mathlib.Core.Path.{ap, sym, _∙_}
 use denote.Ref.{now}
-use Rattle.definitions.specs.Questions.{regionOf}
-use Rattle.definitions.specs.Outcomes.{outcomeOf, listOutcome}
+use Rattle.definitions.specs.Questions.{regionOf, askedByList}
+use Rattle.definitions.specs.Outcomes.{listFound, listOutcome}
 use Rattle.planner.specs.Answers.{checkedNumber}
-use Rattle.planner.specs.Later.{refusal-number}
 use Rattle.planner.specs.Loaded.{answered, accepted-fine, planned-fine}
-use Rattle.planner.specs.Lists.{foundWith, list-accepted, list-refused, refused-outcome}
+use Rattle.planner.specs.Found.{refused-entry, accepted-entry}
 use Rattle.planner.proofs.list.Statement.{statement}
 use Rattle.planner.proofs.list.Tie as tie
 
@@ -23,13 +22,12 @@ list-loaded-requires : tie.Need-list-loaded-requires
 list-loaded-requires c κs = planned-fine (now (c .before .before .before .before .before .before .before .before .before .before .args .file)) (c .before .before .before .before .before .load .result) (c .before .before .before .before .before .load .ensures) (c .before .before .before .enum-told .given .1)
 
 returns : tie.Need-returns
-unfolding listOutcome
+unfolding listOutcome listFound askedByList
 returns c =
     let a = c .before .before .before .before .before .before .before .before .args in
     let refusal = c .before .answer .given in
     let number = ap checkedNumber (sym (refusal .1)) ∙ c .before .before .before .load .ensures .number in
-    sym (ap (λ f. outcomeOf f (now (a .beds)) (now (a .costs)) (now (a .work))) (list-refused (now (a .file)) _ _ (sym number ∙ refusal-number (refusal .0 .0)) ∙ ap (foundWith (regionOf (now (a .file)))) (sym number))
-    ∙ refused-outcome (regionOf (now (a .file))) (now (a .beds)) (now (a .costs)) (now (a .work)) (refusal .0 .0))
+    refused-entry _ _ (now (a .beds)) (now (a .costs)) (now (a .work)) (now (a .file)) _ (refusal .0 .0) number
 
 same-length : tie.Need-same-length
 same-length c = search needs
@@ -41,14 +39,14 @@ same-length-3 : tie.Need-same-length-3
 same-length-3 c = search needs
 
 returns-2 : tie.Need-returns-2
-unfolding listOutcome
+unfolding listOutcome listFound askedByList
 returns-2 c =
     let a = c .before .before .before .before .before .before .before .before .before .before .before .before .before .before .before .before .before .args in
     let read = c .before .before .before .before .before .before .before .before .before .before .before .before in
     let fine = c .before .before .before .before .before .before .before .before .before .before .enum-told .given .1 in
     let checked = accepted-fine (now (a .file)) (read .load .result) (read .load .ensures) fine in
     c .before .before .before .before .before .before .list-loaded .ensures (regionOf (now (a .file))) (read .load .ensures .holds fine) (answered (now (a .file)) checked)
-    ∙ ap (λ f. outcomeOf f (now (a .beds)) (now (a .costs)) (now (a .work))) (sym (list-accepted (now (a .file)) _ checked))
+    ∙ accepted-entry _ _ (now (a .beds)) (now (a .costs)) (now (a .work)) (now (a .file)) _ checked
 
 pub list-spec : {M : Type 1} → statement M
 list-spec =

@@ -1,18 +1,20 @@
 use borrow.Author.Needs.{needs}
 use denote.Ref.{now}
 use borrow.Author.Tests.{not-true, not-false}
-use Rattle.planner.proofs.Lists.{counts-few, listed-short, asks-list, writable, listed-nothing, listed-rows}
+use Rattle.planner.specs.Counts.{counts-few}
+use Rattle.planner.proofs.Areas.{asks-list}
+use Rattle.planner.proofs.Lists.{listed-short, writable, listed-nothing, listed-rows}
 use Rattle.planner.proofs.loaded.list_loaded.Statement.{statement}
 use Rattle.planner.proofs.loaded.list_loaded.Tie as tie
 
 long-enough-requires : tie.Need-long-enough-requires
-long-enough-requires c κs = counts-few _ _ (c .before .before .before .pre .holds) (c .before .before .before .pre .answered)
+long-enough-requires c κs = counts-few _ (c .before .before .before .pre)
 
 returns : tie.Need-returns
 returns c = listed-short _ (c .before .before .before .before .before .pre) (now (c .before .before .before .before .before .args .beds)) (now (c .before .before .before .before .before .args .costs)) (now (c .before .before .before .before .before .args .work)) (c .before .long-enough .ensures) (not-true _ (c .if1 .taken))
 
 list-region-requires : tie.Need-list-region-requires
-list-region-requires c κs = asks-list _ (c .before .before .before .before .before .before .pre) (now (c .before .before .before .before .before .before .args .beds)) (now (c .before .before .before .before .before .before .args .costs)) (now (c .before .before .before .before .before .before .args .work)) (c .before .before .long-enough .ensures) (not-false _ (c .before .if1 .left))
+list-region-requires c κs = asks-list _ (now (c .before .before .before .before .before .before .args .beds)) (now (c .before .before .before .before .before .before .args .costs)) (now (c .before .before .before .before .before .before .args .work)) (c .before .before .long-enough .ensures) (not-false _ (c .before .if1 .left)) (c .before .before .before .before .before .before .pre)
 
 clear-requires : tie.Need-clear-requires
 clear-requires c κs = search needs

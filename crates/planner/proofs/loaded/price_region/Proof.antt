@@ -5,7 +5,8 @@ use denote.Ref.{now}
 use Rattle.definitions.specs.Outcomes.{priced}
 use Rattle.pricing.specs.Pricing.{costIn}
 use Rattle.planner.specs.declared.Priced.the-variants.{Forbidden, Allowed}
-use Rattle.planner.proofs.Prices.{few-patients, misfit-priced, plan-short, asks-all, fit-priced}
+use Rattle.planner.specs.Counts.{few-patients}
+use Rattle.planner.proofs.Prices.{misfit-priced, plan-short, asks-all, fit-priced}
 use Rattle.planner.proofs.loaded.price_region.Statement.{statement}
 use Rattle.planner.proofs.loaded.price_region.Tie as tie
 

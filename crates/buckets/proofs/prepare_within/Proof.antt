@@ -1,0 +1,88 @@
+use borrow.Author.Needs.{needs}
+use Rattle.definitions.specs.Basics.{contains}
+use Rattle.patient_set.specs.Sets.{members}
+use Rattle.held_region.specs.Related.{members-known}
+use Rattle.buckets.proofs.Filling.{Filling, sound-held, counts-held, filling-none, filling-all, filling-start, filling-known, filling-place, filling-over, filling-more}
+use Rattle.buckets.proofs.prepare_within.Statement.{statement}
+use Rattle.buckets.proofs.prepare_within.Tie as tie
+
+abbrev Inv-loop : tie.InvT-loop
+Inv-loop of region patients₀ terms₀ start₀ i₀ patients terms start i = Filling region (contains (members (of .0))) i start patients terms
+
+abbrev μ-loop : tie.MeasureT-loop
+μ-loop of region patients₀ terms₀ start₀ i₀ patients terms start i = i
+
+patient-words-requires : tie.Need-patient-words-requires Inv-loop μ-loop
+patient-words-requires c κs = sound-held _ (c .before .pre) .fits .patients
+
+entry-total-requires : tie.Need-entry-total-requires Inv-loop μ-loop
+entry-total-requires c κs = (sound-held _ (c .before .before .pre), counts-held _ (c .before .before .pre))
+
+loop-holds : tie.Need-loop-holds Inv-loop μ-loop
+loop-holds c = filling-none _ _ _ _ (sound-held _ (c .before .before .before .pre) .fits .tables) (c .before .patient-words .ensures) (c .entry-total .ensures)
+
+sub-i : tie.Need-sub-i Inv-loop μ-loop
+sub-i c = search needs
+
+mul-table : tie.Need-mul-table Inv-loop μ-loop
+mul-table c = search needs
+
+element-copy-out-table : tie.Need-element-copy-out-table Inv-loop μ-loop
+element-copy-out-table c = search needs
+
+sub-start : tie.Need-sub-start Inv-loop μ-loop
+sub-start c =
+    let turn = c .before .before in
+    filling-start _ _ _ _ _ _ (turn .loop-test .taken) (turn .before .loop .inv) (turn .before .before .before .before .before .pre)
+
+is-among-requires : tie.Need-is-among-requires Inv-loop μ-loop
+is-among-requires c κs =
+    let turn = c .before .before in
+    let start = turn .before .before .before .before .before in
+    members-known _ (sound-held _ (start .pre)) _ (filling-place _ _ _ _ _ _ (turn .loop-test .taken) (turn .before .loop .inv))
+
+add-term-requires : tie.Need-add-term-requires Inv-loop μ-loop
+add-term-requires c κs =
+    let turn = c .before .before .before .before .before .before .before .before in
+    filling-known _ _ _ _ _ _ (turn .loop-test .taken) (turn .before .loop .inv) (turn .before .before .before .before .before .pre)
+
+loop-less : tie.Need-loop-less Inv-loop μ-loop
+loop-less c = search needs
+
+loop-again : tie.Need-loop-again Inv-loop μ-loop
+loop-again c =
+    let asked = c .before .before .before .before .before .before in
+    let turn = asked .before .before .before in
+    filling-more _ _ _ _ _ _ (turn .loop-test .taken) (turn .before .loop .inv) (asked .is-among .ensures) (c .before .before .before .before .before .if1 .taken) (c .add-term .ensures)
+
+loop-less-2 : tie.Need-loop-less-2 Inv-loop μ-loop
+loop-less-2 c = search needs
+
+loop-again-2 : tie.Need-loop-again-2 Inv-loop μ-loop
+loop-again-2 c =
+    let turn = c .before .before .before .before in
+    filling-over _ _ _ _ _ _ (turn .loop-test .taken) (turn .before .loop .inv) (c .before .is-among .ensures) (c .if1 .left)
+
+returns : tie.Need-returns Inv-loop μ-loop
+returns c = filling-all _ _ _ _ _ _ (c .loop-test .left) (c .before .loop .inv)
+
+pub prepare-within-spec : {M : Type 1} → statement M
+prepare-within-spec =
+    tie.close
+    (tie.spec
+    Inv-loop
+    μ-loop
+    patient-words-requires
+    entry-total-requires
+    loop-holds
+    sub-i
+    mul-table
+    element-copy-out-table
+    sub-start
+    is-among-requires
+    add-term-requires
+    loop-less
+    loop-again
+    loop-less-2
+    loop-again-2
+    returns)

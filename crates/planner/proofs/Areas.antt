@@ -1,0 +1,74 @@
+-- The lent areas of list and sheet: how long they are, and what is written to them. Assumes nothing.
+use mathlib.Core.Path.{_≡_, sym, ap, ap₂, _∙_}
+use mathlib.Core.Bool.{and-assoc}
+use Prim.Native.Nat.{_≤_}
+use native.Mathlib.Nat.{mul-one}
+use native.Mathlib.Omega.{arith}
+use borrow.Author.Tests.{leb-true}
+use Rattle.definitions.specs.Basics.{ℕ, _*_, _<_, Bool, true, _&&_, List, [], _∷_, length, getD, replicate, leb}
+use Rattle.definitions.specs.Syntax as Said
+use Rattle.definitions.specs.Plans.{Row}
+use Rattle.definitions.specs.Questions.{roomForRows, areasLongEnough}
+use Rattle.definitions.specs.Outcomes.{written, outcomeOf}
+use Rattle.ranking.specs.Members.{_∈_, getD-in}
+use Rattle.theorems.specs.Tests.{both}
+use Rattle.held_region.specs.declared.Region.{Region}
+use Rattle.held_region.specs.Held.{Holds}
+use Rattle.buckets.specs.Terms.{Planned}
+use Rattle.row_list.specs.Rows.{rowIn, rowsIn}
+use Rattle.row_list.specs.Laws.{rows-long, rows-at}
+use Rattle.row_writer.specs.Writing.{RowsWritten}
+use Rattle.search.specs.Trees.{AsksRegion}
+use Rattle.planner.specs.Lists.{longEnough}
+use Rattle.planner.specs.Found.{outcomeWith}
+
+-- Question 12 of the areas is that of their lengths.
+asked-same : (h : Region) (r : Said.Region) → Holds h r → (beds costs work : List ℕ)
+    → longEnough (h .v) (h .m) (length beds) (length costs) (length work) ≡ areasLongEnough r beds costs work
+unfolding areasLongEnough roomForRows
+asked-same h r holds beds costs work =
+    ap₂ (λ v m. longEnough v m (length beds) (length costs) (length work)) (holds .patientCount) (holds .plansWanted)
+    ∙ ap (λ m. leb (r .plansWanted * r .patientCount) (length beds) && (leb m (length costs) && leb 16_384 (length work))) (sym (mul-one (r .plansWanted)))
+    ∙ sym (and-assoc (leb (r .plansWanted * r .patientCount) (length beds)) (leb (r .plansWanted * 1) (length costs)) (leb 16_384 (length work)))
+
+-- What question 12's yes says of each area.
+areas-long : (v m beds costs work : ℕ) → longEnough v m beds costs work ≡ true → (m * v ≤ beds) × (m ≤ costs) × (16_384 ≤ work)
+areas-long v m beds costs work long =
+    let (first, others) = both (leb (m * v) beds) long in
+    let (second, third) = both (leb m costs) others in
+    (leb-true (m * v) beds first, leb-true m costs second, leb-true 16_384 work third)
+
+module _ (h : Region) {long : Bool} (beds costs work : List ℕ) (asked : long ≡ longEnough (h .v) (h .m) (length beds) (length costs) (length work)) where
+  pub question : (r : Said.Region) → Holds h r → {answer : Bool} → long ≡ answer → areasLongEnough r beds costs work ≡ answer
+  question r holds e = sym (asked-same h r holds beds costs work) ∙ sym asked ∙ e
+
+  module _ (yes-twelve : long ≡ true) where
+    pub all-long : (h .m * h .v ≤ length beds) × (h .m ≤ length costs) × (16_384 ≤ length work)
+    all-long = areas-long (h .v) (h .m) (length beds) (length costs) (length work) (sym asked ∙ yes-twelve)
+
+    pub asks-list : Planned h → AsksRegion h work
+    asks-list planned = record { planned = planned; long = omega (arith, all-long .2) }
+
+-- Rows that lie in an area.
+module _ (v n : ℕ) (area : List ℕ) {rows : List Row} (is : rowsIn v n area ≡ rows) where
+  pub rows-counted : n ≡ length rows
+  rows-counted = sym (rows-long v n area) ∙ ap length is
+
+  -- Costs of at most 64,000,000 fit the 32 bits that they get.
+  pub narrow : ((z : Row) → z ∈ rows → z .cost ≤ 64_000_000) → (i : ℕ) → i < n → rowIn v area i .cost < 4_294_967_296
+  narrow small i l =
+      let d : Row = record { cost = 0; beds = [] } in
+      let row : rowIn v area i ≡ getD rows i d = rows-at v n area i d l ∙ ap (λ z. getD z i d) is in
+      let most = small (getD rows i d) (getD-in rows i d (omega (arith, rows-counted))) in
+      omega (arith, ap (λ (z : Row). z .cost) row, most)
+
+  -- They are written out, and the work area is cleared.
+  pub written-out : (width : ℕ) (beds costs work : List ℕ) {bedsAfter costsAfter after : List ℕ} → v ≡ width → RowsWritten v n area beds costs bedsAfter costsAfter
+      → after ≡ replicate (length work) 0
+      → record { number = 0; rows = n; beds = bedsAfter; costs = costsAfter; work = after } ≡ outcomeWith width rows beds costs work 0
+  unfolding outcomeOf
+  written-out width beds costs work {bedsAfter} {costsAfter} {after} wide rows-out zeros =
+      let beds-same : bedsAfter ≡ written 0 width (λ row. row .beds) rows beds =
+      rows-out .eachBed ∙ ap₂ (λ w l. written 0 w (λ row. row .beds) l beds) wide is in
+      let costs-same : costsAfter ≡ written 0 1 (λ row. row .cost ∷ []) rows costs = rows-out .eachCost ∙ ap (λ l. written 0 1 (λ row. row .cost ∷ []) l costs) is in
+      λ i. record { number = 0; rows = rows-counted i; beds = beds-same i; costs = costs-same i; work = zeros i }

@@ -1,0 +1,88 @@
+-- The patients of a clinic: question 11, clinic numbers that no clinic can have, and what the clinic's own rows cost. Assumes nothing.
+use mathlib.Core.Path.{_≡_, refl, sym, ap, ap₂, _∙_}
+use mathlib.Core.Bool.{true≢false}
+use Prim.Native.Nat.{_≤_}
+use native.Mathlib.Nat.{le-trans, mul-le-mul-right}
+use native.Mathlib.Omega.{arith}
+use borrow.Author.Tests.{eqb-true}
+use Rattle.definitions.specs.Basics.{ℕ, _<_, Bool, true, false, not, _||_, cond, Option, none, some, Option·getD, List, [], _∷_, map, length, eqb, every, any, keep, isEmpty, noneOr}
+use Rattle.definitions.specs.Limits.{limits, within, clinic, bedCount, entry}
+use Rattle.definitions.specs.Syntax as Said
+use Rattle.definitions.specs.Syntax.{patientNumbers, patientAt, patientsOf}
+use Rattle.definitions.specs.Plans.{Row, costOver}
+use Rattle.definitions.specs.Sheets.{ownTables, ownCost, ownRow, sheetOf}
+use Rattle.definitions.specs.Questions.{patientsWithin, entriesWithin, clinicPresent}
+use Rattle.ranking.specs.Members.{_∈_}
+use Rattle.theorems.specs.Tests.{both}
+use Rattle.theorems.specs.Kept.{every-in, any-out, keep-short}
+use Rattle.theorems.specs.Below.{by-number}
+use Rattle.theorems.specs.Accepted.{at-most, cost-most}
+use Rattle.theorems.specs.SheetRows.{sheet-rows}
+use Rattle.patient_set.specs.Lists.{every-keep}
+use Rattle.patient_set.specs.Sets.{members}
+use Rattle.patient_set.specs.Laws.{members-empty}
+use Rattle.held_region.specs.declared.Region.{Region}
+use Rattle.held_region.specs.Held.{Holds}
+use Rattle.held_region.specs.Outline.{outline}
+use Rattle.held_region.specs.Faithful.{clinic-told, table-lines, fits-told}
+use Rattle.buckets.specs.Terms.{Answered}
+use Rattle.planner.specs.Sheets.{HoldsClinic}
+
+-- Some element passes where something is kept.
+any-kept : {A : Type 0} (f : A → Bool) (g : ℕ → A) (l : List ℕ) → any f (map g l) ≡ not (isEmpty (keep (λ s. f (g s)) l))
+any-kept f g [] = refl
+any-kept f g (x ∷ l) = go (f (g x)) (any-kept f g l)
+  where
+    go : (b : Bool) → any f (map g l) ≡ not (isEmpty (keep (λ s. f (g s)) l))
+        → (b || any f (map g l)) ≡ not (isEmpty (cond b (x ∷ keep (λ s. f (g s)) l) (keep (λ s. f (g s)) l)))
+    go true e = refl
+    go false e = e
+
+module _ (r : Said.Region) (c : ℕ) where
+  -- Question 11 asks whether the clinic has patients.
+  pub present-asked : clinicPresent r c ≡ not (isEmpty (patientsOf r c))
+  unfolding clinicPresent patientsOf patientAt
+  present-asked =
+      let asked : Said.Patient → Bool = λ p. eqb (p .clinic) c in
+      ap (any asked) (sym (by-number (r .patients) _)) ∙ any-kept asked (patientAt r) (patientNumbers r)
+
+  -- A number beyond the limits of clinics has none.
+  no-patients : Answered r → within clinic c ≡ false → patientsOf r c ≡ []
+  unfolding patientsWithin clinicPresent
+  no-patients answered outside = go (patientsOf r c) refl
+    where
+      go : (l : List ℕ) → patientsOf r c ≡ l → l ≡ []
+      go [] e = refl
+      go (s ∷ l) e =
+          let asked : clinicPresent r c ≡ true = present-asked ∙ ap (λ m. not (isEmpty m)) e in
+          let (p, k, same) = any-out (λ p. eqb (p .clinic) c) (r .patients) asked in
+          let fits = both (within clinic (p .clinic)) (every-in _ (r .patients) (answered .patientsFit) k) .0 in
+          absurd (true≢false (sym fits ∙ ap (within clinic) (eqb-true (p .clinic) c same) ∙ outside))
+
+module _ (h : Region) (c : ℕ) where
+  pub nobody-held : within clinic c ≡ false → HoldsClinic h c 0
+  nobody-held outside r holds answered = members-empty ∙ sym (no-patients r c answered outside)
+
+  pub outline-held : (set : ℕ) → members set ≡ patientsOf (outline h) c → HoldsClinic h c set
+  outline-held set is r holds answered = is ∙ clinic-told h r holds (answered .counted) c
+
+-- A clinic's number is a 32-bit number.
+pub clinic-narrow : (c : ℕ) → within clinic c ≡ true → c < 4_294_967_296
+unfolding limits
+clinic-narrow c inside = omega (arith, at-most clinic c inside)
+
+-- Each own cost is at most 64,000,000.
+pub own-costs-small : (h : Region) (r : Said.Region) → Holds h r → Answered r → (c : ℕ) (z : Row) → z ∈ sheetOf r c → z .cost ≤ 64_000_000
+unfolding ownRow ownCost ownTables entriesWithin limits
+own-costs-small h r holds answered c z k =
+    let (w, i, e) = sheet-rows r c z k in
+    let most = go (w .beds) (costOver (ownTables r c) r (w .beds)) refl in
+    omega (arith, most, ap (λ (x : Row). x .cost) e)
+  where
+    few : length (ownTables r c) ≤ 64
+    few = le-trans (keep-short _ (r .tables)) (omega (arith, table-lines h r holds (answered .counted), fits-told h r holds (answered .counted) (answered .countsFit) .tables))
+
+    go : (plan : List ℕ) (o : Option ℕ) → costOver (ownTables r c) r plan ≡ o → Option·getD o 0 ≤ 64_000_000
+    go plan none e = omega arith
+    go plan (some t) e =
+        le-trans (cost-most r plan (ownTables r c) t (every-keep _ _ (r .tables) (answered .entriesFit)) e) (mul-le-mul-right (limits entry .highest) few)

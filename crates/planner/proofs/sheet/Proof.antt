@@ -1,0 +1,63 @@
+use borrow.Author.Needs.{needs}
+use mathlib.Core.Path.{ap, sym, _∙_}
+use denote.Ref.{now}
+use Rattle.definitions.specs.Questions.{regionOf, askedBySheet}
+use Rattle.definitions.specs.Outcomes.{sheetFound, sheetOutcome}
+use Rattle.planner.specs.Answers.{checkedNumber}
+use Rattle.planner.specs.Loaded.{answered, accepted-fine, planned-fine}
+use Rattle.planner.specs.Found.{refused-entry, accepted-entry}
+use Rattle.planner.proofs.sheet.Statement.{statement}
+use Rattle.planner.proofs.sheet.Tie as tie
+
+load-requires : tie.Need-load-requires
+load-requires c κs = search needs
+
+enum-known-answer : tie.Need-enum-known-answer
+enum-known-answer c = search needs
+
+enum-told : tie.Need-enum-told
+enum-told c = search needs
+
+sheet-loaded-requires : tie.Need-sheet-loaded-requires
+sheet-loaded-requires c κs = planned-fine (now (c .before .before .before .before .before .before .before .before .before .before .args .file)) (c .before .before .before .before .before .load .result) (c .before .before .before .before .before .load .ensures) (c .before .before .before .enum-told .given .1)
+
+returns : tie.Need-returns
+unfolding sheetOutcome sheetFound askedBySheet
+returns c =
+    let a = c .before .before .before .before .before .before .before .before .args in
+    let refusal = c .before .answer .given in
+    let number = ap checkedNumber (sym (refusal .1)) ∙ c .before .before .before .load .ensures .number in
+    refused-entry _ _ (now (a .beds)) (now (a .costs)) (now (a .work)) (now (a .file)) _ (refusal .0 .0) number
+
+same-length : tie.Need-same-length
+same-length c = search needs
+
+same-length-2 : tie.Need-same-length-2
+same-length-2 c = search needs
+
+same-length-3 : tie.Need-same-length-3
+same-length-3 c = search needs
+
+returns-2 : tie.Need-returns-2
+unfolding sheetOutcome sheetFound askedBySheet
+returns-2 c =
+    let a = c .before .before .before .before .before .before .before .before .before .before .before .before .before .before .before .before .before .args in
+    let read = c .before .before .before .before .before .before .before .before .before .before .before .before in
+    let fine = c .before .before .before .before .before .before .before .before .before .before .enum-told .given .1 in
+    let checked = accepted-fine (now (a .file)) (read .load .result) (read .load .ensures) fine in
+    c .before .before .before .before .before .before .sheet-loaded .ensures (regionOf (now (a .file))) (read .load .ensures .holds fine) (answered (now (a .file)) checked)
+    ∙ accepted-entry _ _ (now (a .beds)) (now (a .costs)) (now (a .work)) (now (a .file)) _ checked
+
+pub sheet-spec : {M : Type 1} → statement M
+sheet-spec =
+    tie.close
+    (tie.spec
+    load-requires
+    enum-known-answer
+    enum-told
+    sheet-loaded-requires
+    returns
+    same-length
+    same-length-2
+    same-length-3
+    returns-2)

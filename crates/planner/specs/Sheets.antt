@@ -1,0 +1,67 @@
+-- What sheet gives of a loaded file.
+use mathlib.Core.Path.{ap, _∙_}
+use Prim.Native.Nat.{_≤_}
+use Rattle.definitions.specs.Basics.{ℕ, suc, _*_, _≡_, refl, Bool, true, false, List, _∷_, length}
+use Rattle.definitions.specs.Syntax as Said
+use Rattle.definitions.specs.Syntax.{patientsOf}
+use Rattle.definitions.specs.Sheets.{sheetOf}
+use Rattle.definitions.specs.Questions.{Asked, firstNo, regionOf, clinicPresent, areasLongEnough, askedBySheet}
+use Rattle.definitions.specs.Outcomes.{foundBy, sheetFound, outcomeOf}
+use Rattle.theorems.specs.SheetAreas.{rows-few}
+use Rattle.patient_set.specs.Sets.{members}
+use Rattle.held_region.specs.declared.Region.{Region}
+use Rattle.held_region.specs.Held.{Holds}
+use Rattle.buckets.specs.Terms.{Answered}
+use Rattle.sheets.specs.Sheets.{Given, Asks}
+use Rattle.planner.specs.declared.Sheeted.{Sheeted}
+use Rattle.planner.specs.declared.Sheeted.the-variants.{Rows}
+use Rattle.planner.specs.Answers.{sheetedOutcome}
+use Rattle.planner.specs.Found.{lastAsked, outcomeWith, AsksTwelve, asks-twelve}
+
+-- The questions that sheet asks after check's.
+abbrev pub lateAsked : Said.Region → ℕ → Bool → Asked
+lateAsked r clinic long = (11, clinicPresent r clinic) ∷ lastAsked r long
+
+-- A set holds the patients of a clinic, whatever file the held region holds.
+abbrev pub HoldsClinic : Region → ℕ → ℕ → Type 0
+HoldsClinic h clinic set = (r : Said.Region) → Holds h r → Answered r → members set ≡ patientsOf r clinic
+
+-- The list lies in the work area, a set holds a clinic's patients, and the areas have room for m rows of V beds.
+pub record AsksSheet (h : Region) (n set : ℕ) (beds costs work : List ℕ) : Type 0 where
+  pub asks : Asks h n set work
+  pub count : n ≤ h .m
+  pub bedsLong : h .m * h .v ≤ length beds
+  pub costsLong : h .m ≤ length costs
+
+-- The sheet of each such clinic is written out.
+abbrev pub SheetWritten : Region → ℕ → ℕ → List ℕ → List ℕ → List ℕ → ℕ → List ℕ → List ℕ → List ℕ → Type 0
+SheetWritten h n set beds costs work k bedsAfter costsAfter workAfter =
+    (r : Said.Region) (clinic : ℕ) → Given h r clinic n set work
+    → sheetedOutcome (Rows k) bedsAfter costsAfter workAfter ≡ outcomeWith (length (patientsOf r clinic)) (sheetOf r clinic) beds costs work 0
+
+-- What sheet gives, of the file that a held region holds, once questions 1 to 10 are answered yes.
+abbrev pub RegionSheeted : Region → ℕ → List ℕ → List ℕ → List ℕ → Sheeted → List ℕ → List ℕ → List ℕ → Type 0
+RegionSheeted h clinic beds costs work answer bedsAfter costsAfter workAfter =
+    (r : Said.Region) → Holds h r → Answered r
+    → sheetedOutcome answer bedsAfter costsAfter workAfter
+    ≡ outcomeOf (foundBy (lateAsked r clinic (areasLongEnough r beds costs work)) (length (patientsOf r clinic)) (sheetOf r clinic)) beds costs work
+
+-- The number, by the answer to 11.
+module _ (r : Said.Region) (clinic : ℕ) (long : Bool) where
+  pub no-eleven : clinicPresent r clinic ≡ false → firstNo (lateAsked r clinic long) ≡ 11
+  no-eleven e = ap (λ b. firstNo ((11, b) ∷ lastAsked r long)) e
+
+  pub yes-eleven : clinicPresent r clinic ≡ true → firstNo (lateAsked r clinic long) ≡ firstNo (lastAsked r long)
+  yes-eleven e = ap (λ b. firstNo ((11, b) ∷ lastAsked r long)) e
+
+-- What sheet finds, by the answer to 12.
+pub sheet-twelve : (file : List ℕ) (clinic : ℕ) → AsksTwelve file (sheetFound file clinic)
+unfolding sheetFound askedBySheet
+sheet-twelve file clinic =
+    let r = regionOf file in
+    let (q, refused) = refuses (clinicPresent r clinic) in
+    asks-twelve file (lateAsked r clinic) (length (patientsOf r clinic)) (sheetOf r clinic) (rows-few r clinic) q refused
+  where
+    refuses : (present : Bool) → (q : ℕ) × (firstNo ((11, present) ∷ lastAsked (regionOf file) false) ≡ suc q)
+    refuses true = (11, refl)
+    refuses false = (10, refl)

@@ -1,0 +1,75 @@
+// The sheet of a clinic, over the region of an accepted file.
+ghost use Rattle.buckets.specs.Terms.{Planned};
+ghost use Rattle.planner.specs.Sheets.{HoldsClinic, AsksSheet, SheetWritten, RegionSheeted};
+use crate::Sheeted;
+use crate::loaded::long_enough;
+use held_region::Region;
+use held_region::limits::Field;
+use held_region::limits::within;
+use patient_set::PatientSet;
+use region_sets::clinic_set;
+use row_writer::clear;
+use row_writer::write_rows;
+use search::list_region;
+use sheets::sheet_rows;
+
+// Where the sheet's rows lie in the work area.
+const SHEET: usize = 2_176;
+
+const SHEET_END: usize = 4_352;
+
+// The patients of a clinic. A number that no clinic can have is compared as it is, and has none.
+fn clinic_patients(region: Region, clinic: u64) -> PatientSet
+    requires { ⌜ Planned region ⌝ }
+    ensures { λ set. ⌜ HoldsClinic region clinic (set .0) ⌝ }
+{
+    if !within(Field::Clinic, clinic as usize) {
+        return PatientSet::EMPTY;
+    }
+    clinic_set(region, clinic as u32)
+}
+
+// The sheet of the list that lies in the work area, written out. The work area is cleared behind it.
+fn write_sheet(
+    region: Region,
+    n: usize,
+    clinic: PatientSet,
+    beds: &mut [u8],
+    costs: &mut [u32],
+    work: &mut [u32],
+) -> usize
+    requires { ⌜ AsksSheet region n (clinic .0) (now beds) (now costs) (now work) ⌝ }
+    ensures { λ k. ⌜ SheetWritten region n (clinic .0) (now (beds .entry)) (now (costs .entry)) (now (work .entry)) k (now (beds .exit)) (now (costs .exit)) (now (work .exit)) ⌝ }
+{
+    let rows = sheet_rows(work, region, n, clinic);
+    let k = clinic.size() as usize;
+    write_rows(&work[SHEET..SHEET_END], k, rows, beds, costs);
+    clear(work);
+    rows
+}
+
+// Questions 11, 12 and 13, then the clinic's sheet, written out.
+pub fn sheet_loaded(
+    region: Region,
+    clinic: u64,
+    beds: &mut [u8],
+    costs: &mut [u32],
+    work: &mut [u32],
+) -> Sheeted
+    requires { ⌜ Planned region ⌝ }
+    ensures { λ r. ⌜ RegionSheeted region clinic (now (beds .entry)) (now (costs .entry)) (now (work .entry)) r (now (beds .exit)) (now (costs .exit)) (now (work .exit)) ⌝ }
+{
+    let set = clinic_patients(region, clinic);
+    if set.is_empty() {
+        return Sheeted::Absent;
+    }
+    if !long_enough(region.v, region.m, beds.len(), costs.len(), work.len()) {
+        return Sheeted::Short;
+    }
+    let n = list_region(work, region);
+    let rows = write_sheet(region, n, set, beds, costs, work);
+    if n == 0 {
+        return Sheeted::Nothing;
+    }
+    Sheeted::Rows(rows)
+}

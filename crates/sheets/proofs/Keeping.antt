@@ -1,0 +1,74 @@
+-- The rows kept so far, and the first occurrences of the rest, are the whole sheet. Assumes nothing.
+use mathlib.Core.Path.{_≡_, refl, sym, ap, ap₂, _∙_}
+use mathlib.Core.Bool.{or-assoc, or-comm}
+use mathlib.Core.List.{append-assoc, append-nil}
+use Prim.Native.Nat.{_≤_}
+use native.Mathlib.Numerals.{add-one}
+use native.Mathlib.Omega.{arith}
+use Rattle.definitions.specs.Basics.{ℕ, _+_, Bool, true, false, _||_, cond, List, [], _∷_, _++_, any, firstOccurrences}
+use Rattle.definitions.specs.Plans as Said
+use Rattle.definitions.specs.Sheets.{sameBeds}
+use Rattle.row_list.specs.declared.Row.{Row}
+use Rattle.row_list.specs.Below.{below-same}
+use Rattle.row_list.specs.Rows.{rowOf, rowIn, rowsIn, Stored}
+use Rattle.row_list.specs.Laws.{rows-more}
+use Rattle.sheets.specs.Steps.{withNew, Kept}
+
+-- Of those that came before, only who they are counts, and not their order.
+module _ {A : Type 0} (alike : A → A → Bool) where
+  before-order : (s t xs : List A) → ((y : A) → any (alike y) s ≡ any (alike y) t) → firstOccurrences alike s xs ≡ firstOccurrences alike t xs
+  before-order s t [] same = refl
+  before-order s t (x ∷ xs) same =
+      go (any (alike x) s) (any (alike x) t) (same x) (before-order s t xs same) (before-order (x ∷ s) (x ∷ t) xs (λ y. ap (λ b. alike y x || b) (same y)))
+    where
+      go : (a b : Bool) → a ≡ b → firstOccurrences alike s xs ≡ firstOccurrences alike t xs → firstOccurrences alike (x ∷ s) xs ≡ firstOccurrences alike (x ∷ t) xs
+          → _≡_ {A = List A} (elim a [ true ↦ firstOccurrences alike s xs | false ↦ x ∷ firstOccurrences alike (x ∷ s) xs ])
+          (elim b [ true ↦ firstOccurrences alike t xs | false ↦ x ∷ firstOccurrences alike (x ∷ t) xs ])
+      go true true e old new = old
+      go false false e old new = ap {B = List A} (λ l. x ∷ l) new
+      go true false e old new = cc
+      go false true e old new = cc
+
+-- A row that is tested last is tested as well as one that is tested first.
+any-last : {A : Type 0} (f : A → Bool) (x : A) (l : List A) → any f (x ∷ l) ≡ any f (l ++ x ∷ [])
+any-last f x [] = refl
+any-last f x (y ∷ l) =
+    sym (or-assoc (f x) (f y) (any f l)) ∙ ap (λ b. b || any f l) (or-comm (f x) (f y)) ∙ or-assoc (f y) (f x) (any f l) ∙ ap (λ b. f y || b) (any-last f x l)
+
+-- The rows kept so far, and then the first occurrences of the rest.
+abbrev pub sheetFrom : List Said.Row → List Said.Row → List Said.Row
+sheetFrom rows rest = rows ++ firstOccurrences sameBeds rows rest
+
+-- One more row, and no more.
+pub from-next : (x : Said.Row) (rest rows : List Said.Row) → sheetFrom rows (x ∷ rest) ≡ sheetFrom (withNew x rows) rest
+from-next x rest rows = go (any (sameBeds x) rows)
+  where
+    go : (b : Bool) → rows ++ elim b [ true ↦ firstOccurrences sameBeds rows rest | false ↦ x ∷ firstOccurrences sameBeds (x ∷ rows) rest ]
+        ≡ sheetFrom (cond b rows (rows ++ x ∷ [])) rest
+    go true = refl
+    go false =
+        ap (λ l. rows ++ x ∷ l) (before-order sameBeds (x ∷ rows) (rows ++ x ∷ []) rest (λ y. any-last (sameBeds y) x rows))
+        ∙ sym (append-assoc rows (x ∷ []) (firstOccurrences sameBeds (rows ++ x ∷ []) rest))
+
+pub from-done : (rows : List Said.Row) → sheetFrom rows [] ≡ rows
+from-done rows = append-nil rows
+
+-- A row that has come before, and one that has not.
+module _ (k n : ℕ) (row : Row) (sheet : List ℕ) {come : Bool} (is : come ≡ any (sameBeds (rowOf k row)) (rowsIn k n sheet)) where
+  decided : {b : Bool} → come ≡ b → withNew (rowOf k row) (rowsIn k n sheet) ≡ cond b (rowsIn k n sheet) (rowsIn k n sheet ++ rowOf k row ∷ [])
+  decided e = ap (λ b. cond b (rowsIn k n sheet) (rowsIn k n sheet ++ rowOf k row ∷ [])) (sym is ∙ e)
+
+  pub kept-old : come ≡ true → Kept k n row sheet sheet n
+  kept-old e = record { count = omega arith; rows = sym (decided e); long = refl }
+
+  rows-before : (after : List ℕ) → k ≤ 32 → Stored k n row sheet after → rowsIn k n after ≡ rowsIn k n sheet
+  unfolding rowsIn
+  rows-before after few s = below-same (rowIn k after) (rowIn k sheet) n (λ j l. s .others k j few (λ q. omega arith))
+
+  pub kept-new : (after : List ℕ) → k ≤ 32 → Stored k n row sheet after → come ≡ false → Kept k n row sheet after (n + 1)
+  kept-new after few s e =
+      record {
+        count = omega arith;
+        rows = rw add-one (rows-more k n after ∙ ap₂ (λ l (z : Said.Row). l ++ z ∷ []) (rows-before after few s) (s .row) ∙ sym (decided e));
+        long = s .long;
+      }

@@ -1,0 +1,3 @@
+-- The rows of a clinic's sheet.
+pub mod Steps
+pub mod Sheets
