@@ -1,12 +1,12 @@
 -- The patients of a clinic: question 11, clinic numbers that no clinic can have, and what the clinic's own rows cost. Assumes nothing.
-use mathlib.Core.Path.{_≡_, refl, sym, ap, ap₂, _∙_}
+use mathlib.Core.Path.{_≡_, refl, sym, ap, _∙_}
 use mathlib.Core.Bool.{true≢false}
 use Prim.Native.Nat.{_≤_}
 use native.Mathlib.Nat.{le-trans, mul-le-mul-right}
 use native.Mathlib.Omega.{arith}
 use borrow.Author.Tests.{eqb-true}
-use Rattle.definitions.specs.Basics.{ℕ, _<_, Bool, true, false, not, _||_, cond, Option, none, some, Option·getD, List, [], _∷_, map, length, eqb, every, any, keep, isEmpty, noneOr}
-use Rattle.definitions.specs.Limits.{limits, within, clinic, bedCount, entry}
+use Rattle.definitions.specs.Basics.{ℕ, _<_, Bool, true, false, not, _||_, cond, Option, none, some, Option·getD, List, [], _∷_, map, length, eqb, any, keep, isEmpty}
+use Rattle.definitions.specs.Limits.{limits, within, clinic, entry}
 use Rattle.definitions.specs.Syntax as Said
 use Rattle.definitions.specs.Syntax.{patientNumbers, patientAt, patientsOf}
 use Rattle.definitions.specs.Plans.{Row, costOver}
@@ -59,6 +59,7 @@ module _ (r : Said.Region) (c : ℕ) where
           let fits = both (within clinic (p .clinic)) (every-in _ (r .patients) (answered .patientsFit) k) .0 in
           absurd (true≢false (sym fits ∙ ap (within clinic) (eqb-true (p .clinic) c same) ∙ outside))
 
+-- The set of such a clinic is empty; that of any other is found from the held region.
 module _ (h : Region) (c : ℕ) where
   pub nobody-held : within clinic c ≡ false → HoldsClinic h c 0
   nobody-held outside r holds answered = members-empty ∙ sym (no-patients r c answered outside)

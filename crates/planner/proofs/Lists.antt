@@ -1,10 +1,9 @@
 -- The list of a loaded region: whether it has rows, what is written of it, and the answer. Assumes nothing.
 use mathlib.Core.Path.{_≡_, refl, sym, ap, _∙_}
-use mathlib.Core.Bool.{true≢false}
 use Prim.Native.Nat.{_≤_}
 use native.Mathlib.Nat.{le-trans, mul-le-mul-right}
 use native.Mathlib.Omega.{arith}
-use Rattle.definitions.specs.Basics.{ℕ, _*_, Bool, true, false, List, [], _∷_, length, replicate}
+use Rattle.definitions.specs.Basics.{ℕ, Bool, true, false, List, [], _∷_, length, replicate}
 use Rattle.definitions.specs.Limits.{limits}
 use Rattle.definitions.specs.Syntax as Said
 use Rattle.definitions.specs.Plans.{Row, listOf}
@@ -18,7 +17,7 @@ use Rattle.held_region.specs.Held.{Holds}
 use Rattle.buckets.specs.Terms.{Answered, Planned}
 use Rattle.row_list.specs.Rows.{rowsIn}
 use Rattle.row_list.specs.Laws.{rows-take}
-use Rattle.row_sums.specs.Sums.{part, listAt}
+use Rattle.row_sums.specs.Sums.{part}
 use Rattle.row_writer.specs.Writing.{Writable, RowsWritten}
 use Rattle.search.specs.Trees.{GivesRegion}
 use Rattle.planner.specs.declared.Listed.the-variants.{Short, Nothing, Rows}

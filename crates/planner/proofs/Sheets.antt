@@ -3,7 +3,7 @@ use mathlib.Core.Path.{_≡_, sym, ap, _∙_}
 use Prim.Native.Nat.{_≤_}
 use native.Mathlib.Nat.{le-trans, mul-le-mul}
 use native.Mathlib.Omega.{arith}
-use Rattle.definitions.specs.Basics.{ℕ, _*_, Bool, true, false, not, List, [], _∷_, map, length, replicate, isEmpty, firstOccurrences}
+use Rattle.definitions.specs.Basics.{ℕ, Bool, true, false, not, List, [], _∷_, map, length, replicate, isEmpty, firstOccurrences}
 use Rattle.definitions.specs.Syntax as Said
 use Rattle.definitions.specs.Syntax.{patientsOf}
 use Rattle.definitions.specs.Sheets.{sameBeds, ownRow, sheetOf}
@@ -35,6 +35,7 @@ use Rattle.planner.proofs.Clinics.{present-asked, own-costs-small}
 -- A sheet whose rows lie in the second part of the work area, as rows of k beds.
 module _ (h : Region) {n set k count : ℕ} (beds costs work : List ℕ) {area : List ℕ} (asks : AsksSheet h n set beds costs work) (wide : k ≡ length (members set))
     (gives : Gives h n set work area count) where
+  -- They are the sheet of every clinic that the set holds.
   rows : (r : Said.Region) (clinic : ℕ) → Given h r clinic n set work → rowsIn k count (part 1 area) ≡ sheetOf r clinic
   rows r clinic given = ap (λ w. rowsIn w count (part 1 area)) wide ∙ gives .sheet r clinic given
 

@@ -35,9 +35,10 @@ module _ (r : Region) {long : Bool} where
 
 module _ (width : ℕ) (rows : List Row) (beds costs work : List ℕ) where
   -- A refusal that hands back no rows and leaves this in the work area.
-  abbrev pub refusedWith : ℕ → List ℕ → ListOutcome
+  abbrev refusedWith : ℕ → List ℕ → ListOutcome
   refusedWith number after = record { number = number; rows = 0; beds = beds; costs = costs; work = after }
 
+  -- What the areas hold after a number.
   abbrev pub outcomeWith : ℕ → ListOutcome
   outcomeWith number = outcomeOf (foundWith width rows number) beds costs work
 
@@ -77,10 +78,12 @@ pub record AsksTwelve (file : List ℕ) (found : Bool → Found) : Type 0 where
   pub most : (long : Bool) → length (found long .rows) ≤ regionOf file .plansWanted
   pub short : found false .rows ≡ []
 
+-- A refusal hands back no more rows than there are.
 unless-short : (n : ℕ) (rows : List Row) → length (rowsUnlessRefused n rows) ≤ length rows
 unless-short zero rows = omega arith
 unless-short (suc n) rows = omega arith
 
+-- So it is where later questions refuse on a no to 12.
 pub asks-twelve : (file : List ℕ) (late : Bool → Asked) (width : ℕ) (rows : List Row) → length rows ≤ regionOf file .plansWanted
     → (q : ℕ) → firstNo (late false) ≡ suc q → AsksTwelve file (λ long. foundBy (askedByCheck file ++ late long) width rows)
 asks-twelve file late width rows few q refused =

@@ -1,5 +1,5 @@
 -- What sheet gives of a loaded file.
-use mathlib.Core.Path.{ap, _∙_}
+use mathlib.Core.Path.{ap}
 use Prim.Native.Nat.{_≤_}
 use Rattle.definitions.specs.Basics.{ℕ, suc, _*_, _≡_, refl, Bool, true, false, List, _∷_, length}
 use Rattle.definitions.specs.Syntax as Said

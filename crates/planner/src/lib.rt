@@ -69,6 +69,7 @@ pub fn list(file: &[u8], beds: &mut [u8], costs: &mut [u32], work: &mut [u32]) -
     }
 }
 
+// The number of list's answer.
 pub fn listed_number(answer: Listed) -> u64
     ensures { λ r. ⌜ r ≡ listedNumber answer ⌝ }
 {
@@ -80,6 +81,7 @@ pub fn listed_number(answer: Listed) -> u64
     }
 }
 
+// How many rows list wrote.
 pub fn listed_rows(answer: Listed) -> usize
     ensures { λ r. ⌜ r ≡ listedRows answer ⌝ }
 {
@@ -118,6 +120,7 @@ pub fn sheet(
     }
 }
 
+// The number of sheet's answer.
 pub fn sheeted_number(answer: Sheeted) -> u64
     ensures { λ r. ⌜ r ≡ sheetedNumber answer ⌝ }
 {
@@ -130,6 +133,7 @@ pub fn sheeted_number(answer: Sheeted) -> u64
     }
 }
 
+// How many rows sheet wrote.
 pub fn sheeted_rows(answer: Sheeted) -> usize
     ensures { λ r. ⌜ r ≡ sheetedRows answer ⌝ }
 {
