@@ -5,7 +5,7 @@ use Prim.Native.Nat.{_≤_}
 use native.Mathlib.Omega.{arith}
 use borrow.Author.Tests.{ltb-true, lt-ltb, le-ltb, eqb-true}
 use Rattle.definitions.specs.Basics.{ℕ, zero, suc, _-_, _<_, _≡_, refl, Bool, true, false, not, _&&_, _||_, Option, none, some, noneOr, List, [], _∷_, length, getD, eqb, ltb, product, every, everyTwo, any}
-use Rattle.definitions.specs.Limits.{limits, within, patientCount, tableCount, clinic, bedCount, memberCount, entry, entryCount}
+use Rattle.definitions.specs.Limits.{limits, within, patientCount, tableCount, plansWanted, clinic, bedCount, memberCount, entry, entryCount}
 use Rattle.definitions.specs.Syntax.{Table, Region, patientAt, bedCounts}
 use Rattle.definitions.specs.Questions.{countsTrue, countsWithin, patientsWithin, membersRight, entryCountsRight, entriesWithin}
 use Rattle.theorems.specs.Tests.{both}
@@ -36,6 +36,13 @@ module _ (r : Region) (a : Answered r) where
   patients-few =
       let two = both (within patientCount (r .patientCount) && within tableCount (r .tableCount)) (a .countsFit) .0 in
       omega (arith, patients-counted, at-most patientCount (r .patientCount) (both (within patientCount (r .patientCount)) two .0))
+
+  -- From 1 to 64 plans are wanted.
+  pub plans-wanted : (0 < r .plansWanted) × (r .plansWanted ≤ 64)
+  unfolding countsWithin limits
+  plans-wanted =
+      let fits = both (within patientCount (r .patientCount) && within tableCount (r .tableCount)) (a .countsFit) .1 in
+      (at-least plansWanted (r .plansWanted) fits, at-most plansWanted (r .plansWanted) fits)
 
   pub tables-few : length (r .tables) ≤ 64
   unfolding countsTrue countsWithin limits

@@ -14,7 +14,7 @@ use Rattle.definitions.specs.Syntax.{Patient, Table, Region, patientNumbers, pa
 use Rattle.definitions.specs.Questions.{parentsSmaller, following, ancestors, membersRelated}
 use Rattle.ranking.specs.Members.{_∈_, here, there, here-or-there, none-in-nil}
 use Rattle.ranking.specs.Orders.{View, before, equal, after, ℕ-view}
-use Rattle.theorems.specs.Tests.{both}
+use Rattle.theorems.specs.Tests.{both, same-answer}
 use Rattle.theorems.specs.Kept.{every-in, any-out, contains-in, contains-out}
 use Rattle.theorems.specs.Below.{below-in}
 use Rattle.partial_rows.specs.Sets.{Patients, Part, first, second, neither, Splits}
@@ -37,12 +37,7 @@ treeOf region r s = eqb (rootOf region s) r
 abbrev pub rootsBelow : Region → ℕ → Patients
 rootsBelow region k s = ltb (rootOf region s) k
 
--- Two tests with the same answer; one of two tests is passed; so is a test of any two elements, in one order or the other.
-same-answer : {a b : Bool} → (a ≡ true → b ≡ true) → (b ≡ true → a ≡ true) → a ≡ b
-same-answer {a = true} {b} f g = sym (f refl)
-same-answer {a = false} {b = true} f g = g refl
-same-answer {a = false} {b = false} f g = refl
-
+-- One of two tests is passed; so is a test of any two elements, in one order or the other.
 either : (a : Bool) {b : Bool} → (a || b) ≡ true → (a ≡ true) ⊎ (b ≡ true)
 either true e = inl refl
 either false e = inr e

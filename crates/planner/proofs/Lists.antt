@@ -22,7 +22,8 @@ use Rattle.row_writer.specs.Writing.{Writable, RowsWritten}
 use Rattle.search.specs.Trees.{GivesRegion}
 use Rattle.planner.specs.declared.Listed.the-variants.{Short, Nothing, Rows}
 use Rattle.planner.specs.Answers.{listedOutcome}
-use Rattle.planner.specs.Counts.{plans-wanted, counts-few}
+use Rattle.buckets.specs.Right.{plans-wanted}
+use Rattle.planner.specs.Counts.{counts-few}
 use Rattle.planner.specs.Found.{lastAsked, no-twelve, no-thirteen, no-refusal, asked-outcome}
 use Rattle.planner.specs.Lists.{longEnough, RegionListed}
 use Rattle.planner.proofs.Areas.{question, all-long, rows-counted, narrow, written-out}

@@ -8,15 +8,12 @@ use held_region::limits::Field;
 use held_region::limits::within;
 use patient_set::PatientSet;
 use region_sets::clinic_set;
+use row_sums::SECOND;
+use row_sums::THIRD;
 use row_writer::clear;
 use row_writer::write_rows;
 use search::list_region;
 use sheets::sheet_rows;
-
-// Where the sheet's rows lie in the work area.
-const SHEET: usize = 2_176;
-
-const SHEET_END: usize = 4_352;
 
 // The patients of a clinic. A number that no clinic can have is compared as it is, and has none.
 fn clinic_patients(region: Region, clinic: u64) -> PatientSet
@@ -43,7 +40,7 @@ fn write_sheet(
 {
     let rows = sheet_rows(work, region, n, clinic);
     let k = clinic.size() as usize;
-    write_rows(&work[SHEET..SHEET_END], k, rows, beds, costs);
+    write_rows(&work[SECOND..THIRD], k, rows, beds, costs);
     clear(work);
     rows
 }

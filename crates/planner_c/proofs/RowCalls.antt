@@ -16,7 +16,7 @@ use Rattle.definitions.specs.Boundary.{bytesOf, resultAfter, callAreasLongEnoug
 use Rattle.theorems.specs.Tests.{both}
 use Rattle.byte_areas.specs.Costs.{held-costs, stored-costs}
 use Rattle.planner.specs.Loaded.{answered}
-use Rattle.planner.specs.Counts.{plans-wanted}
+use Rattle.buckets.specs.Right.{plans-wanted}
 use Rattle.planner.specs.Found.{AsksTwelve}
 use Rattle.planner_c.specs.Room.{costRoom}
 

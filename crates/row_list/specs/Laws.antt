@@ -6,7 +6,8 @@ use lib.Seq.{getD-take}
 use Rattle.definitions.specs.Basics.{ℕ, suc, _+_, _*_, _%_, _<_, List, [], _∷_, _++_, map, length, getD, take, below}
 use Rattle.definitions.specs.Plans.{Row}
 use Rattle.row_list.specs.Below.{below-long, below-at, below-suc, below-same}
-use Rattle.row_list.specs.Rows.{rowIn, rowsIn}
+use Rattle.row_list.specs.declared.Row as Code
+use Rattle.row_list.specs.Rows.{rowIn, rowsIn, Stored}
 
 -- A row is its 34 words, wherever they lie.
 pub row-words : (v i j : ℕ) (a b : List ℕ) → v ≤ 32 → ((k : ℕ) → k < 34 → getD a (i * 34 + k) 0 ≡ getD b (j * 34 + k) 0) → rowIn v a i ≡ rowIn v b j
@@ -18,6 +19,11 @@ row-words v i j a b h same =
     let p : i * 34 + 2 + k ≡ i * 34 + (2 + k) = omega arith in let q : j * 34 + 2 + k ≡ j * 34 + (2 + k) = omega arith in
     ap (λ (w : ℕ). w % 256) (rw (p, q) (same (2 + k) (omega arith)))) in
     rw (low, same 1 (omega arith), beds)
+
+-- The rows before one that is written.
+pub rows-before : (v i : ℕ) (x : Code.Row) (area after : List ℕ) → v ≤ 32 → Stored v i x area after → rowsIn v i after ≡ rowsIn v i area
+unfolding rowsIn
+rows-before v i x area after h s = below-same (rowIn v after) (rowIn v area) i (λ j l. s .others v j h (λ q. omega arith))
 
 module _ (v : ℕ) where
   pub rows-long : (n : ℕ) (area : List ℕ) → length (rowsIn v n area) ≡ n

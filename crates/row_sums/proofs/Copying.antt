@@ -6,17 +6,11 @@ use Prim.Native.Nat.{_≤_}
 use Rattle.definitions.specs.Basics.{ℕ, suc, _+_, List, [], _∷_, _++_, length}
 use Rattle.definitions.specs.Plans as Said
 use Rattle.row_list.specs.declared.Row.{Row}
-use Rattle.row_list.specs.Below.{below-same}
 use Rattle.row_list.specs.Rows.{rowIn, rowsIn, RowRead, Stored}
-use Rattle.row_list.specs.Laws.{rows-none, rows-more}
+use Rattle.row_list.specs.Laws.{rows-before, rows-none, rows-more}
 use Rattle.row_sums.specs.Sums.{part}
 use Rattle.row_sums.specs.Steps.{Copied}
 use Rattle.row_sums.specs.Areas.{replaced, replaced-long, part-new, part-after, part-long}
-
--- The rows before one that is written.
-rows-before : (v i : ℕ) (x : Row) (area after : List ℕ) → v ≤ 32 → Stored v i x area after → rowsIn v i after ≡ rowsIn v i area
-unfolding rowsIn
-rows-before v i x area after h s = below-same (rowIn v after) (rowIn v area) i (λ j l. s .others v j h (λ q. omega arith))
 
 module _ (v : ℕ) (work : List ℕ) where
   pub none-copied : Copied v 0 work work

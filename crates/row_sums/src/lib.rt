@@ -14,9 +14,9 @@ use row_list::row_at;
 use row_list::set_row;
 
 // Where the second and the third part start, and where the third ends.
-const SECOND: usize = 2_176;
+pub const SECOND: usize = 2_176;
 
-const THIRD: usize = 4_352;
+pub const THIRD: usize = 4_352;
 
 const END: usize = 6_528;
 

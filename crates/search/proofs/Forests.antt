@@ -8,14 +8,10 @@ use native.Mathlib.Numerals.{add-one}
 use native.Mathlib.Omega.{arith}
 use borrow.Author.Tests.{ltb-true, lt-ltb, le-ltb}
 use Rattle.definitions.specs.Basics.{ℕ, suc, _+_, _<_, Bool, true, false, _&&_, List, [], _∷_, length, getD, replicate, eqb, ltb, below, contains}
-use Rattle.definitions.specs.Limits.{limits, within, patientCount, tableCount, plansWanted}
 use Rattle.definitions.specs.Syntax.{Region}
 use Rattle.definitions.specs.Plans.{Row, listOf}
-use Rattle.definitions.specs.Questions.{countsWithin}
 use Rattle.ranking.specs.Members.{_∈_, here, here-or-there, none-in-nil}
 use Rattle.ranking.specs.First.{First}
-use Rattle.theorems.specs.Tests.{both}
-use Rattle.theorems.specs.Accepted.{at-least, at-most}
 use Rattle.theorems.specs.List.{rowOrder}
 use Rattle.patient_set.specs.Sets.{inSet, members}
 use Rattle.patient_set.specs.Lists.{contains-keep, contains-numbers}
@@ -28,7 +24,7 @@ use Rattle.held_region.specs.declared.Region as Code
 use Rattle.held_region.specs.Held.{Holds}
 use Rattle.held_region.specs.Faithful.{patient-lines}
 use Rattle.buckets.specs.Terms.{Answered, Prepared}
-use Rattle.buckets.specs.Right.{patients-few}
+use Rattle.buckets.specs.Right.{patients-few, plans-wanted}
 use Rattle.forest.specs.Trees.{Rooted, tree-beyond, tree-upward, tree-apart, trees-next}
 use Rattle.row_sums.specs.Sums.{listAt}
 use Rattle.search.specs.Lowest.{Upward}
@@ -68,13 +64,6 @@ pub record Listed (store patients terms roots : List ℕ) (v m size : ℕ) (now 
   pub long : length now ≡ size
   pub upto : k ≤ v
   pub first : (r : Region) → Planted r store patients terms roots v m → First rowOrder m (RowOf r (treesBelow r v k) (noBeds r)) (listAt v n 0 now)
-
--- Question 5: m is 1 to 64.
-plans-wanted : (r : Region) → Answered r → (0 < r .plansWanted) × (r .plansWanted ≤ 64)
-unfolding countsWithin limits
-plans-wanted r answered =
-    let fits = both (within patientCount (r .patientCount) && within tableCount (r .tableCount)) (answered .countsFit) .1 in
-    (at-least plansWanted (r .plansWanted) fits, at-most plansWanted (r .plansWanted) fits)
 
 module _ {store patients terms roots : List ℕ} {v m : ℕ} {work : List ℕ} (asks : AsksForest store patients terms roots v m work) where
   answered : Answered (asks .region)

@@ -8,7 +8,7 @@ use Rattle.definitions.specs.Basics.{ℕ, _+_, _<_, Bool, true, false, not, _&&
 use Rattle.definitions.specs.Syntax.{Table, Region}
 use Rattle.definitions.specs.Plans.{Plan, costOver, constraints, Row}
 use Rattle.ranking.specs.Members.{_∈_}
-use Rattle.theorems.specs.Tests.{both}
+use Rattle.theorems.specs.Tests.{both, same-answer}
 use Rattle.theorems.specs.Kept.{any-in, any-out}
 use Rattle.partial_rows.specs.Sets.{Patients, only, Part, first, second, neither, Splits, splits-one, in-first, not-both, swap-parts}
 use Rattle.partial_rows.specs.Rows.{holds, decidedTables, RowOf, LowerBound}
@@ -18,11 +18,6 @@ use Rattle.partial_rows.specs.Adding.{addBeds}
 use Rattle.partial_rows.specs.Splitting.{row-apart}
 use Rattle.patient_set.specs.Lists.{every-at}
 use Rattle.buckets.specs.Terms.{bucketOf, leastIn}
-
-same-answer : {a b : Bool} → (a ≡ true → b ≡ true) → (b ≡ true → a ≡ true) → a ≡ b
-same-answer {a = true} {b} f g = sym (f refl)
-same-answer {a = false} {b = true} f g = g refl
-same-answer {a = false} {b = false} f g = refl
 
 -- Of a table with a member in the set, every higher member is in it.
 abbrev pub Upward : Region → Patients → Type 0

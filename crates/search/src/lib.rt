@@ -10,16 +10,13 @@ use pricing::Plan;
 use pricing::least_cost;
 use row_list::Row;
 use row_list::set_row;
+use row_sums::SECOND;
+use row_sums::THIRD;
 use row_sums::combine;
 use walk::Head;
 use walk::walk;
 ghost use Rattle.patient_set.specs.Sets.{members};
 ghost use Rattle.search.specs.Trees.{LeastSummed, AsksStart, GivesStart, AsksTree, GivesTree, AsksForest, GivesForest, AsksRegion, GivesRegion};
-
-// The parts of the work area for the list so far and for the next tree's list.
-const SECOND: usize = 2_176;
-
-const THIRD: usize = 4_352;
 
 // The sum of the least numbers of the buckets of a set.
 fn least_sum(patients: &[u32; 96], set: PatientSet) -> u64

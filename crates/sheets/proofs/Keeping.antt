@@ -9,9 +9,8 @@ use Rattle.definitions.specs.Basics.{ℕ, _+_, Bool, true, false, _||_, cond, L
 use Rattle.definitions.specs.Plans as Said
 use Rattle.definitions.specs.Sheets.{sameBeds}
 use Rattle.row_list.specs.declared.Row.{Row}
-use Rattle.row_list.specs.Below.{below-same}
 use Rattle.row_list.specs.Rows.{rowOf, rowIn, rowsIn, Stored}
-use Rattle.row_list.specs.Laws.{rows-more}
+use Rattle.row_list.specs.Laws.{rows-before, rows-more}
 use Rattle.sheets.specs.Steps.{withNew, Kept}
 
 -- Of those that came before, only who they are counts, and not their order.
@@ -61,14 +60,10 @@ module _ (k n : ℕ) (row : Row) (sheet : List ℕ) {come : Bool} (is : come ≡
   pub kept-old : come ≡ true → Kept k n row sheet sheet n
   kept-old e = record { count = omega arith; rows = sym (decided e); long = refl }
 
-  rows-before : (after : List ℕ) → k ≤ 32 → Stored k n row sheet after → rowsIn k n after ≡ rowsIn k n sheet
-  unfolding rowsIn
-  rows-before after few s = below-same (rowIn k after) (rowIn k sheet) n (λ j l. s .others k j few (λ q. omega arith))
-
   pub kept-new : (after : List ℕ) → k ≤ 32 → Stored k n row sheet after → come ≡ false → Kept k n row sheet after (n + 1)
   kept-new after few s e =
       record {
         count = omega arith;
-        rows = rw add-one (rows-more k n after ∙ ap₂ (λ l (z : Said.Row). l ++ z ∷ []) (rows-before after few s) (s .row) ∙ sym (decided e));
+        rows = rw add-one (rows-more k n after ∙ ap₂ (λ l (z : Said.Row). l ++ z ∷ []) (rows-before k n row sheet after few s) (s .row) ∙ sym (decided e));
         long = s .long;
       }

@@ -8,6 +8,8 @@ use pricing::total;
 use row_list::Row;
 use row_list::row_at;
 use row_list::set_row;
+use row_sums::SECOND;
+use row_sums::THIRD;
 ghost use mathlib.Core.Path.{_≡_};
 ghost use Prim.Native.Nat.{_*_, _≤_};
 ghost use lib.ListN.{length, take};
@@ -18,11 +20,6 @@ ghost use Rattle.pricing.specs.Pricing.{AsksAll};
 ghost use Rattle.row_list.specs.Rows.{rowOf, rowsIn};
 ghost use Rattle.sheets.specs.Steps.{PartTaken, Priced, AsksOwn, GivesOwn, Room, Kept, AsksList, GivesList};
 ghost use Rattle.sheets.specs.Sheets.{Asks, Gives};
-
-// Where the second part of the work area starts, and where it ends.
-const SECOND: usize = 2_176;
-
-const THIRD: usize = 4_352;
 
 // The beds of a clinic's patients, by rising number, moved together to the front.
 fn clinic_beds(beds: [u8; 32], clinic: PatientSet) -> [u8; 32]
