@@ -8,7 +8,7 @@ use Rattle.definitions.specs.Limits.{limits}
 use Rattle.definitions.specs.Syntax as Said
 use Rattle.definitions.specs.Plans.{Row, listOf}
 use Rattle.definitions.specs.Questions.{areasLongEnough, planAllowed}
-use Rattle.definitions.specs.Outcomes.{outcomeOf}
+use Rattle.definitions.specs.Outcomes.{written, outcomeOf}
 use Rattle.ranking.specs.Members.{_∈_}
 use Rattle.theorems.specs.Accepted.{total-most}
 use Rattle.theorems.specs.List.{list-first, list-empty}
@@ -86,11 +86,17 @@ module _ (h : Region) (planned : Planned h) {long : Bool} (beds costs work : Lis
           narrow = narrow (h .v) n area (found h planned gives r (planned .holds) (planned .answered)) (totals-small r (planned .answered));
         }
 
-    pub listed-nothing : n ≡ 0 → {after : List ℕ} → after ≡ replicate (length area) 0 → RegionListed h beds costs work Nothing beds costs after
+    -- No row is written of an empty list.
+    pub listed-nothing : n ≡ 0 → {bedsAfter costsAfter after : List ℕ} → RowsWritten (h .v) n area beds costs bedsAfter costsAfter → after ≡ replicate (length area) 0
+        → RegionListed h beds costs work Nothing bedsAfter costsAfter after
     unfolding outcomeOf
-    listed-nothing none-found zeros r holds answered =
-        let none-allowed = list-none r answered (found-count h planned gives r holds answered) none-found in
-        ap (listedOutcome Nothing beds costs) (cleared h planned gives zeros)
+    listed-nothing none-found {bedsAfter} {costsAfter} rows zeros r holds answered =
+        let count = found-count h planned gives r holds answered in
+        let none-allowed = list-none r answered count none-found in
+        let empty : rowsIn (h .v) n area ≡ [] = found h planned gives r holds answered ∙ no-list r answered count none-found in
+        let same-beds : bedsAfter ≡ beds = rows .eachBed ∙ ap (λ l. written 0 (h .v) (λ row. row .beds) l beds) empty in
+        let same-costs : costsAfter ≡ costs = rows .eachCost ∙ ap (λ l. written 0 1 (λ row. row .cost ∷ []) l costs) empty in
+        (λ i. listedOutcome Nothing (same-beds i) (same-costs i) (cleared h planned gives zeros i))
         ∙ asked-outcome _ _ beds costs work (lastAsked r (areasLongEnough r beds costs work)) (no-thirteen r (question h beds costs work asked r holds yes-twelve) none-allowed)
 
     pub listed-rows : (n ≡ 0 → ⊥) → {bedsAfter costsAfter after : List ℕ} → RowsWritten (h .v) n area beds costs bedsAfter costsAfter → after ≡ replicate (length area) 0

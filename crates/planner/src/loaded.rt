@@ -52,11 +52,10 @@ pub fn list_loaded(region: Region, beds: &mut [u8], costs: &mut [u32], work: &mu
         return Listed::Short;
     }
     let n = list_region(work, region);
-    if n == 0 {
-        clear(work);
-        return Listed::Nothing;
-    }
     write_rows(work, region.v, n, beds, costs);
     clear(work);
+    if n == 0 {
+        return Listed::Nothing;
+    }
     Listed::Rows(n)
 }

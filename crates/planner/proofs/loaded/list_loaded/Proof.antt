@@ -11,10 +11,22 @@ long-enough-requires : tie.Need-long-enough-requires
 long-enough-requires c κs = counts-few _ (c .before .before .before .pre)
 
 returns : tie.Need-returns
-returns c = listed-short _ (c .before .before .before .before .before .pre) (now (c .before .before .before .before .before .args .beds)) (now (c .before .before .before .before .before .args .costs)) (now (c .before .before .before .before .before .args .work)) (c .before .long-enough .ensures) (not-true _ (c .if1 .taken))
+returns c =
+    let s = c .before .before .before .before .before in
+    let a = s .args in
+    listed-short _ (s .pre) (now (a .beds)) (now (a .costs)) (now (a .work)) (c .before .long-enough .ensures) (not-true _ (c .if1 .taken))
 
 list-region-requires : tie.Need-list-region-requires
-list-region-requires c κs = asks-list _ (now (c .before .before .before .before .before .before .args .beds)) (now (c .before .before .before .before .before .before .args .costs)) (now (c .before .before .before .before .before .before .args .work)) (c .before .before .long-enough .ensures) (not-false _ (c .before .if1 .left)) (c .before .before .before .before .before .before .pre)
+list-region-requires c κs =
+    let s = c .before .before .before .before .before .before in
+    let a = s .args in
+    asks-list _ (now (a .beds)) (now (a .costs)) (now (a .work)) (c .before .before .long-enough .ensures) (not-false _ (c .before .if1 .left)) (s .pre)
+
+write-rows-requires : tie.Need-write-rows-requires
+write-rows-requires c κs =
+    let s = c .before .before .before .before .before .before .before .before .before .before .before .before in
+    let a = s .args in
+    writable _ (s .pre) (now (a .beds)) (now (a .costs)) (now (a .work)) (c .before .before .before .before .before .before .before .before .long-enough .ensures) (not-false _ (c .before .before .before .before .before .before .before .if1 .left)) (c .before .before .before .before .before .list-region .ensures)
 
 clear-requires : tie.Need-clear-requires
 clear-requires c κs = search needs
@@ -22,26 +34,34 @@ clear-requires c κs = search needs
 same-length : tie.Need-same-length
 same-length c = search needs
 
-returns-2 : tie.Need-returns-2
-returns-2 c = listed-nothing _ (c .before .before .before .before .before .before .before .before .before .before .before .before .before .before .pre) (now (c .before .before .before .before .before .before .before .before .before .before .before .before .before .before .args .beds)) (now (c .before .before .before .before .before .before .before .before .before .before .before .before .before .before .args .costs)) (now (c .before .before .before .before .before .before .before .before .before .before .before .before .before .before .args .work)) (c .before .before .before .before .before .before .before .before .before .before .long-enough .ensures) (not-false _ (c .before .before .before .before .before .before .before .before .before .if1 .left)) (c .before .before .before .before .before .before .before .list-region .ensures) (c .before .before .before .before .if2 .taken) (c .before .before .clear .ensures)
-
-write-rows-requires : tie.Need-write-rows-requires
-write-rows-requires c κs = writable _ (c .before .before .before .before .before .before .before .before .before .before .before .before .before .pre) (now (c .before .before .before .before .before .before .before .before .before .before .before .before .before .args .beds)) (now (c .before .before .before .before .before .before .before .before .before .before .before .before .before .args .costs)) (now (c .before .before .before .before .before .before .before .before .before .before .before .before .before .args .work)) (c .before .before .before .before .before .before .before .before .before .long-enough .ensures) (not-false _ (c .before .before .before .before .before .before .before .before .if1 .left)) (c .before .before .before .before .before .before .list-region .ensures)
-
-clear-requires-2 : tie.Need-clear-requires-2
-clear-requires-2 c κs = search needs
-
 same-length-2 : tie.Need-same-length-2
 same-length-2 c = search needs
 
 same-length-3 : tie.Need-same-length-3
 same-length-3 c = search needs
 
+returns-2 : tie.Need-returns-2
+returns-2 c =
+    let s = c .before .before .before .before .before .before .before .before .before .before .before .before .before .before .before .before .before .before .before .before .before .before in
+    let a = s .args in
+    listed-nothing _ (s .pre) (now (a .beds)) (now (a .costs)) (now (a .work)) (c .before .before .before .before .before .before .before .before .before .before .before .before .before .before .before .before .before .before .long-enough .ensures) (not-false _ (c .before .before .before .before .before .before .before .before .before .before .before .before .before .before .before .before .before .if1 .left)) (c .before .before .before .before .before .before .before .before .before .before .before .before .before .before .before .list-region .ensures) (c .if2 .taken)
+    (c .before .before .before .before .before .before .before .before .before .write-rows .ensures) (c .before .before .before .clear .ensures)
+
 same-length-4 : tie.Need-same-length-4
 same-length-4 c = search needs
 
+same-length-5 : tie.Need-same-length-5
+same-length-5 c = search needs
+
+same-length-6 : tie.Need-same-length-6
+same-length-6 c = search needs
+
 returns-3 : tie.Need-returns-3
-returns-3 c = listed-rows _ (c .before .before .before .before .before .before .before .before .before .before .before .before .before .before .before .before .before .before .before .before .before .before .pre) (now (c .before .before .before .before .before .before .before .before .before .before .before .before .before .before .before .before .before .before .before .before .before .before .args .beds)) (now (c .before .before .before .before .before .before .before .before .before .before .before .before .before .before .before .before .before .before .before .before .before .before .args .costs)) (now (c .before .before .before .before .before .before .before .before .before .before .before .before .before .before .before .before .before .before .before .before .before .before .args .work)) (c .before .before .before .before .before .before .before .before .before .before .before .before .before .before .before .before .before .before .long-enough .ensures) (not-false _ (c .before .before .before .before .before .before .before .before .before .before .before .before .before .before .before .before .before .if1 .left)) (c .before .before .before .before .before .before .before .before .before .before .before .before .before .before .before .list-region .ensures) (c .before .before .before .before .before .before .before .before .before .before .before .before .if2 .left) (c .before .before .before .before .before .before .before .before .write-rows .ensures) (c .before .before .clear2 .ensures)
+returns-3 c =
+    let s = c .before .before .before .before .before .before .before .before .before .before .before .before .before .before .before .before .before .before .before .before .before .before in
+    let a = s .args in
+    listed-rows _ (s .pre) (now (a .beds)) (now (a .costs)) (now (a .work)) (c .before .before .before .before .before .before .before .before .before .before .before .before .before .before .before .before .before .before .long-enough .ensures) (not-false _ (c .before .before .before .before .before .before .before .before .before .before .before .before .before .before .before .before .before .if1 .left)) (c .before .before .before .before .before .before .before .before .before .before .before .before .before .before .before .list-region .ensures) (c .if2 .left)
+    (c .before .before .before .before .before .before .before .before .before .write-rows .ensures) (c .before .before .before .clear .ensures)
 
 pub list-loaded-spec : {M : Type 1} → statement M
 list-loaded-spec =
@@ -50,12 +70,13 @@ list-loaded-spec =
     long-enough-requires
     returns
     list-region-requires
+    write-rows-requires
     clear-requires
     same-length
-    returns-2
-    write-rows-requires
-    clear-requires-2
     same-length-2
     same-length-3
+    returns-2
     same-length-4
+    same-length-5
+    same-length-6
     returns-3)
