@@ -20,8 +20,8 @@ use Rattle.row_list.specs.Laws.{rows-take}
 use Rattle.row_sums.specs.Sums.{part}
 use Rattle.row_writer.specs.Writing.{Writable, RowsWritten}
 use Rattle.search.specs.Trees.{GivesRegion}
-use Rattle.planner.specs.declared.Listed.the-variants.{Short, Nothing, Rows}
-use Rattle.planner.specs.Answers.{listedOutcome}
+use Rattle.answers.specs.declared.Listed.the-variants.{Short, Nothing, Rows}
+use Rattle.answers.specs.Answers.{listedOutcome}
 use Rattle.buckets.specs.Right.{plans-wanted}
 use Rattle.planner.specs.Counts.{counts-few}
 use Rattle.planner.specs.Found.{lastAsked, no-twelve, no-thirteen, no-refusal, asked-outcome}

@@ -15,9 +15,9 @@ use Rattle.held_region.specs.Faithful.{patient-lines}
 use Rattle.buckets.specs.Terms.{Answered, Planned, Prepared}
 use Rattle.pricing.specs.declared.Cost.{Cost}
 use Rattle.pricing.specs.Pricing.{costIn, AsksAll, GivesAll, PlanAsked}
-use Rattle.planner.specs.declared.Priced.{Priced}
-use Rattle.planner.specs.declared.Priced.the-variants.{Misfit}
-use Rattle.planner.specs.Answers.{pricedOutcome}
+use Rattle.answers.specs.declared.Priced.{Priced}
+use Rattle.answers.specs.declared.Priced.the-variants.{Misfit}
+use Rattle.answers.specs.Answers.{pricedOutcome}
 use Rattle.planner.specs.Counts.{few-patients}
 use Rattle.planner.specs.Prices.{RegionPriced, fitting}
 

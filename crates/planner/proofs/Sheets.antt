@@ -23,8 +23,8 @@ use Rattle.row_sums.specs.Areas.{part-long}
 use Rattle.row_writer.specs.Writing.{Writable, RowsWritten}
 use Rattle.search.specs.Trees.{GivesRegion}
 use Rattle.sheets.specs.Sheets.{Given, Gives}
-use Rattle.planner.specs.declared.Sheeted.the-variants.{Absent, Short, Nothing, Rows}
-use Rattle.planner.specs.Answers.{sheetedOutcome}
+use Rattle.answers.specs.declared.Sheeted.the-variants.{Absent, Short, Nothing, Rows}
+use Rattle.answers.specs.Answers.{sheetedOutcome}
 use Rattle.planner.specs.Found.{lastAsked, no-twelve, no-thirteen, no-refusal, outcomeWith, asked-outcome}
 use Rattle.planner.specs.Lists.{longEnough}
 use Rattle.planner.specs.Sheets.{lateAsked, HoldsClinic, AsksSheet, SheetWritten, RegionSheeted, no-eleven, yes-eleven}

@@ -9,7 +9,7 @@ use Rattle.definitions.specs.Questions.{Asked, firstNo, regionOf, askedByCheck,
 use Rattle.definitions.specs.Outcomes.{Found, ListOutcome, rowsUnlessRefused, foundBy, outcomeOf}
 use Rattle.held_region.specs.declared.Refusal.{Refusal}
 use Rattle.held_region.specs.declared.Refusal.the-variants.{TooLong, Layout, Counts, Sum, Limits, Patients, Members, EntryCounts, Entries, Ancestors}
-use Rattle.planner.specs.Answers.{refusalNumber}
+use Rattle.answers.specs.Answers.{refusalNumber}
 use Rattle.planner.specs.Later.{after-check, refused-before, refusal-number}
 
 -- Questions 12 and 13; the answer to 12 is handed in.

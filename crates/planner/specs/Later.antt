@@ -7,7 +7,7 @@ use Rattle.theorems.specs.Answers.{allYes}
 use Rattle.theorems.specs.Refusals.{check-says}
 use Rattle.held_region.specs.declared.Refusal.{Refusal}
 use Rattle.held_region.specs.declared.Refusal.the-variants.{TooLong, Layout, Counts, Sum, Limits, Patients, Members, EntryCounts, Entries, Ancestors}
-use Rattle.planner.specs.Answers.{refusalNumber}
+use Rattle.answers.specs.Answers.{refusalNumber}
 
 yes-then : (early late : Asked) → allYes early ≡ true → firstNo (early ++ late) ≡ firstNo late
 yes-then [] late e = refl

@@ -1,4 +1,3 @@
-pub mod Answers
 pub mod Later
 pub mod Loaded
 pub mod Counts

@@ -8,8 +8,8 @@ use Rattle.theorems.specs.List.{list-first}
 use Rattle.held_region.specs.declared.Region.{Region}
 use Rattle.held_region.specs.Held.{Holds}
 use Rattle.buckets.specs.Terms.{Answered}
-use Rattle.planner.specs.declared.Listed.{Listed}
-use Rattle.planner.specs.Answers.{listedOutcome}
+use Rattle.answers.specs.declared.Listed.{Listed}
+use Rattle.answers.specs.Answers.{listedOutcome}
 use Rattle.planner.specs.Found.{lastAsked, AsksTwelve, asks-twelve}
 
 -- Question 12, of the counts and of how long the areas are.

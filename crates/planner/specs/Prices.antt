@@ -13,8 +13,8 @@ use Rattle.held_region.specs.declared.Region.{Region}
 use Rattle.held_region.specs.Held.{Holds}
 use Rattle.held_region.specs.Places.{every-place}
 use Rattle.buckets.specs.Terms.{Answered, Fitting}
-use Rattle.planner.specs.declared.Priced.{Priced}
-use Rattle.planner.specs.Answers.{notAllowed, pricedOutcome}
+use Rattle.answers.specs.declared.Priced.{Priced}
+use Rattle.answers.specs.Answers.{notAllowed, pricedOutcome}
 use Rattle.planner.specs.Later.{after-check, refused-before}
 
 -- What price gives once questions 1 to 10 are answered yes.

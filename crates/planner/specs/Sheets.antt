@@ -13,9 +13,9 @@ use Rattle.held_region.specs.declared.Region.{Region}
 use Rattle.held_region.specs.Held.{Holds}
 use Rattle.buckets.specs.Terms.{Answered}
 use Rattle.sheets.specs.Sheets.{Given, Asks}
-use Rattle.planner.specs.declared.Sheeted.{Sheeted}
-use Rattle.planner.specs.declared.Sheeted.the-variants.{Rows}
-use Rattle.planner.specs.Answers.{sheetedOutcome}
+use Rattle.answers.specs.declared.Sheeted.{Sheeted}
+use Rattle.answers.specs.declared.Sheeted.the-variants.{Rows}
+use Rattle.answers.specs.Answers.{sheetedOutcome}
 use Rattle.planner.specs.Found.{lastAsked, outcomeWith, AsksTwelve, asks-twelve}
 
 -- The questions that sheet asks after check's.

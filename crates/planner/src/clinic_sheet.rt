@@ -1,8 +1,8 @@
 // The sheet of a clinic, over the region of an accepted file.
 ghost use Rattle.buckets.specs.Terms.{Planned};
 ghost use Rattle.planner.specs.Sheets.{HoldsClinic, AsksSheet, SheetWritten, RegionSheeted};
-use crate::Sheeted;
 use crate::loaded::long_enough;
+use answers::Sheeted;
 use held_region::Region;
 use held_region::limits::Field;
 use held_region::limits::within;

@@ -8,7 +8,7 @@ use Rattle.definitions.specs.Plans.{Plan}
 use Rattle.definitions.specs.Questions.{checkOf}
 use Rattle.definitions.specs.Outcomes.{PriceOutcome, written, priceFound, priceOutcome}
 use Rattle.definitions.specs.Boundary.{bytesOf, resultAfter, PriceCall, priceCallOf, priceCall}
-use Rattle.planner.specs.Answers.{notAllowed}
+use Rattle.answers.specs.Answers.{notAllowed}
 use Rattle.planner.specs.Prices.{price-accepted, price-not-accepted}
 
 -- Without room for the result, question 12 is answered no just after check's.

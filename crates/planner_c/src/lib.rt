@@ -5,20 +5,20 @@ ghost use Rattle.definitions.specs.Plans.{Plan};
 ghost use Rattle.definitions.specs.Outcomes.{priceFound};
 ghost use Rattle.definitions.specs.Boundary.{checkCall, listCall, sheetCall, priceCall};
 ghost use Rattle.planner_c.specs.Room.{costRoom};
-ghost use Rattle.planner.specs.Answers.{notAllowed};
+ghost use Rattle.answers.specs.Answers.{notAllowed};
+use answers::checked_number;
+use answers::listed_number;
+use answers::listed_rows;
+use answers::price_values;
+use answers::sheeted_number;
+use answers::sheeted_rows;
 use byte_areas::store_costs;
 use byte_areas::store_count;
 use byte_areas::store_price;
 use planner::check;
-use planner::checked_number;
 use planner::list;
-use planner::listed_number;
-use planner::listed_rows;
 use planner::price;
-use planner::price_values;
 use planner::sheet;
-use planner::sheeted_number;
-use planner::sheeted_rows;
 
 // How many numbers of work area list and sheet ask for.
 const WORK: usize = 16_384;

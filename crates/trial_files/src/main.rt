@@ -1,7 +1,7 @@
 // Checks each file that an argument names, and prints its name and check's number.
+use answers::checked_number;
 use libc::STDOUT_FILENO;
 use planner::check;
-use planner::checked_number;
 
 fn try_file(path: &[u8]) {
     let fd = os::open_read(path);

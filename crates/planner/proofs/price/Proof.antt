@@ -4,7 +4,7 @@ use denote.Ref.{now}
 use Rattle.definitions.specs.Basics.{true}
 use Rattle.definitions.specs.Questions.{regionOf}
 use Rattle.definitions.specs.Outcomes.{priceOutcome}
-use Rattle.planner.specs.Answers.{checkedNumber, notAllowed}
+use Rattle.answers.specs.Answers.{checkedNumber, notAllowed}
 use Rattle.planner.specs.Later.{refusal-number}
 use Rattle.planner.specs.Loaded.{answered, accepted-fine, planned-fine}
 use Rattle.planner.specs.Prices.{price-accepted, price-not-accepted}

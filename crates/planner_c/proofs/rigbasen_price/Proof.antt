@@ -2,7 +2,7 @@ use borrow.Author.Needs.{needs}
 use mathlib.Core.Path.{_∙_}
 use native.Mathlib.Omega.{arith}
 use denote.Ref.{now}
-use Rattle.planner.specs.Answers.{valuesOf}
+use Rattle.answers.specs.Answers.{valuesOf}
 use Rattle.planner_c.proofs.Calls.{price-without-room, price-stored}
 use Rattle.planner_c.proofs.rigbasen_price.Statement.{statement}
 use Rattle.planner_c.proofs.rigbasen_price.Tie as tie

@@ -4,7 +4,7 @@ use mathlib.Core.Path.{ap}
 use denote.Ref.{now}
 use Rattle.definitions.specs.Outcomes.{priced}
 use Rattle.pricing.specs.Pricing.{costIn}
-use Rattle.planner.specs.declared.Priced.the-variants.{Forbidden, Allowed}
+use Rattle.answers.specs.declared.Priced.the-variants.{Forbidden, Allowed}
 use Rattle.planner.specs.Counts.{few-patients}
 use Rattle.planner.proofs.Prices.{misfit-priced, plan-short, asks-all, fit-priced}
 use Rattle.planner.proofs.loaded.price_region.Statement.{statement}

@@ -1,8 +1,8 @@
 use borrow.Author.Needs.{needs}
 use mathlib.Core.Path.{ap, sym, _∙_}
-use Rattle.planner.specs.Answers.{notAllowed, pricedOutcome}
-use Rattle.planner.proofs.price_values.Statement.{statement}
-use Rattle.planner.proofs.price_values.Tie as tie
+use Rattle.answers.specs.Answers.{notAllowed, pricedOutcome}
+use Rattle.answers.proofs.price_values.Statement.{statement}
+use Rattle.answers.proofs.price_values.Tie as tie
 
 enum-known-answer : tie.Need-enum-known-answer
 enum-known-answer c = search needs

@@ -4,15 +4,15 @@ use Rattle.definitions.specs.Outcomes.{ListOutcome, PriceOutcome}
 use Rattle.held_region.specs.declared.Refusal.{Refusal}
 use Rattle.held_region.specs.declared.Judged.{Judged}
 use Rattle.held_region.specs.Refusals.{questionOf, numberOf}
-use Rattle.planner.specs.declared.Listed.{Listed}
-use Rattle.planner.specs.declared.Listed.the-variants as Lists
-use Rattle.planner.specs.declared.Listed.the-variants.{Short, Nothing, Rows}
-use Rattle.planner.specs.declared.Sheeted.{Sheeted}
-use Rattle.planner.specs.declared.Sheeted.the-variants as Sheets
-use Rattle.planner.specs.declared.Sheeted.the-variants.{Absent}
-use Rattle.planner.specs.declared.PriceValues.{PriceValues}
-use Rattle.planner.specs.declared.Priced.{Priced}
-use Rattle.planner.specs.declared.Priced.the-variants.{Refused, Misfit, Forbidden, Allowed}
+use Rattle.answers.specs.declared.Listed.{Listed}
+use Rattle.answers.specs.declared.Listed.the-variants as Lists
+use Rattle.answers.specs.declared.Listed.the-variants.{Short, Nothing, Rows}
+use Rattle.answers.specs.declared.Sheeted.{Sheeted}
+use Rattle.answers.specs.declared.Sheeted.the-variants as Sheets
+use Rattle.answers.specs.declared.Sheeted.the-variants.{Absent}
+use Rattle.answers.specs.declared.PriceValues.{PriceValues}
+use Rattle.answers.specs.declared.Priced.{Priced}
+use Rattle.answers.specs.declared.Priced.the-variants.{Refused, Misfit, Forbidden, Allowed}
 
 -- A refusal, by the question answered no.
 abbrev pub refusalNumber : Refusal → ℕ
