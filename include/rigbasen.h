@@ -109,8 +109,8 @@ uint64_t rigbasen_price(const uint8_t *file, size_t file_length,
  *   None is null; for a length of 0 any other pointer will do.
  * - The areas of one call do not overlap each other, the file or the plan, and nobody else writes to any of them meanwhile.
  *   (The library has no variables of its own, so threads may call at once, each with its own areas.)
- * - RIGBASEN_STACK_BYTES of stack are free: the work area is there. By measure, check takes 120,000 bytes, price 140,000,
- *   list 181,000 and sheet 206,000, whatever the file.
+ * - RIGBASEN_STACK_BYTES of stack are free: the work area is there. By measure, check takes about 120,000 bytes,
+ *   price 140,000, list 181,000 and sheet 206,000, whatever the file.
  * - Time. A call always ends, but where one tree holds many patients under many tables it can take very long.
  */
 
