@@ -102,7 +102,7 @@ uint64_t rigbasen_price(const uint8_t *file, size_t file_length,
  * What is proved, for every file, clinic number, plan and areas of any length:
  * the call comes back, its number is the first "no", and every byte of every lent area afterwards is the one described here.
  * On a refusal beds and costs are untouched, and a result area that is long enough gets zeros; a shorter one is untouched.
- * Bytes beyond the rows and beyond the result's numbers are untouched. Nothing else is written, and nothing of a file is kept.
+ * Bytes beyond the rows and beyond the result's numbers are untouched. No call depends on an earlier one.
  *
  * What the caller sees to:
  * - Each pointer points to as many bytes as its length says, readable, and writable where it is not const.
