@@ -1,0 +1,159 @@
+/*
+ * The calls that the checklist makes.
+ *     cuts FILE            lends every cut of the file, short of the whole, to all four calls
+ *     print FILE           the list and the clinics' sheets by the calls, in the printing program's form
+ *     price FILE BED ..    what the plan costs
+ *     seal                 standard input with its end line put behind it
+ */
+#include <inttypes.h>
+#include <stdio.h>
+
+#include "region_file.h"
+#include "rigbasen.h"
+
+enum { PATTERN = 0x5A };
+
+/* Are all bytes of an area this one? */
+static int all(const uint8_t *bytes, size_t length, uint8_t byte)
+{
+    for (size_t i = 0; i < length; i++) {
+        if (bytes[i] != byte) {
+            return 0;
+        }
+    }
+    return 1;
+}
+
+/* Did a call of list or sheet refuse, with no bed and no cost written and no rows? */
+static int refused_clean(uint64_t number, const struct areas *areas)
+{
+    return number != RIGBASEN_FINE && all(areas->beds, sizeof areas->beds, PATTERN)
+        && all(areas->costs, sizeof areas->costs, PATTERN) && all(areas->result, sizeof areas->result, 0);
+}
+
+/* Do all four calls refuse this cut? */
+static int cut_refused(const struct region_file *cut, const uint8_t *plan, size_t patients)
+{
+    struct areas areas;
+    uint8_t result[RIGBASEN_PRICE_RESULT_BYTES];
+    memset(&areas, PATTERN, sizeof areas);
+    if (!refused_clean(list_region(cut, &areas), &areas)) {
+        return 0;
+    }
+    memset(&areas, PATTERN, sizeof areas);
+    if (!refused_clean(sheet_of_clinic(cut, 0, &areas), &areas)) {
+        return 0;
+    }
+    memset(result, PATTERN, sizeof result);
+    uint64_t price = rigbasen_price(cut->bytes, cut->length, plan, patients, result, sizeof result);
+    return price != RIGBASEN_FINE && all(result, sizeof result, 0) && rigbasen_check(cut->bytes, cut->length) != RIGBASEN_FINE;
+}
+
+static int try_cuts(const struct region_file *file)
+{
+    static const uint8_t plan[RIGBASEN_MOST_PATIENTS] = {0};
+    static struct region_file cut;
+    size_t patients = patients_of_region(file);
+    if (rigbasen_check(file->bytes, file->length) != RIGBASEN_FINE) {
+        printf("the whole file is refused\n");
+        return 1;
+    }
+    cut = *file;
+    for (cut.length = 0; cut.length < file->length; cut.length++) {
+        if (!cut_refused(&cut, plan, patients)) {
+            printf("the first %zu bytes are not refused\n", cut.length);
+            return 1;
+        }
+    }
+    printf("%zu cuts refused\n", file->length);
+    return 0;
+}
+
+static void print_rows(const struct areas *areas, size_t width)
+{
+    uint64_t rows = number_at(areas->result);
+    printf("%" PRIu64 ")\n", rows);
+    for (uint64_t r = 0; r < rows; r++) {
+        printf("(row %" PRIu64 " (", number_at(areas->costs + r * RIGBASEN_NUMBER_BYTES));
+        for (size_t i = 0; i < width; i++) {
+            printf(i == 0 ? "%d" : " %d", areas->beds[r * width + i]);
+        }
+        printf("))\n");
+    }
+}
+
+static int print_answers(const struct region_file *file)
+{
+    static struct areas areas;
+    uint64_t number = list_region(file, &areas);
+    if (number != RIGBASEN_FINE) {
+        printf("(refused %" PRIu64 ")\n", number);
+        return 0;
+    }
+    printf("(list ");
+    print_rows(&areas, patients_of_region(file));
+    for (uint64_t clinic = 0; clinic < RIGBASEN_MOST_CLINICS; clinic++) {
+        number = sheet_of_clinic(file, clinic, &areas);
+        if (number == RIGBASEN_FINE) {
+            printf("(sheet %" PRIu64 " ", clinic);
+            print_rows(&areas, patients_of_clinic(file, clinic));
+        } else if (number != RIGBASEN_NO_SUCH_CLINIC) {
+            printf("sheet %" PRIu64 " is refused with %" PRIu64 "\n", clinic, number);
+            return 1;
+        }
+    }
+    return 0;
+}
+
+static int print_price(const struct region_file *file, int count, char **beds)
+{
+    uint8_t plan[RIGBASEN_MOST_PATIENTS];
+    uint8_t result[RIGBASEN_PRICE_RESULT_BYTES];
+    if ((size_t)count > sizeof plan) {
+        return 2;
+    }
+    for (int i = 0; i < count; i++) {
+        plan[i] = (uint8_t)read_number(beds[i], 255);
+    }
+    uint64_t number = rigbasen_price(file->bytes, file->length, plan, (size_t)count, result, sizeof result);
+    if (number != RIGBASEN_FINE) {
+        printf("refused %" PRIu64 "\n", number);
+    } else if (number_at(result) == 0) {
+        printf("forbidden\n");
+    } else {
+        printf("%" PRIu64 "\n", number_at(result + RIGBASEN_NUMBER_BYTES));
+    }
+    return 0;
+}
+
+static int seal(void)
+{
+    unsigned long sum = 0;
+    for (int byte = getchar(); byte != EOF; byte = getchar()) {
+        sum = (sum + (unsigned long)byte) % 65521;
+        putchar(byte);
+    }
+    printf("(end %lu)\n", sum);
+    return 0;
+}
+
+int main(int count, char **arguments)
+{
+    static struct region_file file;
+    const char *command = count < 2 ? "" : arguments[1];
+    if (strcmp(command, "seal") == 0) {
+        return seal();
+    }
+    if (count < 3) {
+        fprintf(stderr, "checklist_calls cuts|print|price FILE .. or seal\n");
+        return 2;
+    }
+    read_region(arguments[2], &file);
+    if (strcmp(command, "cuts") == 0) {
+        return try_cuts(&file);
+    }
+    if (strcmp(command, "print") == 0) {
+        return print_answers(&file);
+    }
+    return strcmp(command, "price") == 0 ? print_price(&file, count - 3, arguments + 3) : 2;
+}

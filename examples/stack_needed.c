@@ -1,0 +1,96 @@
+/*
+ * How much stack each call takes: stack_needed FILE ..
+ * Each call runs in a thread whose stack holds one pattern beforehand; what is changed afterwards was needed.
+ * Ends with 1 where a call took more than the header says.
+ */
+#define _POSIX_C_SOURCE 200112L
+#include <pthread.h>
+#include <stdio.h>
+
+#include "region_file.h"
+#include "rigbasen.h"
+
+enum { STACK = 4 * RIGBASEN_STACK_BYTES, PATTERN = 0xA5 };
+
+static struct region_file file;
+static struct areas areas;
+
+static void *run_nothing(void *unused)
+{
+    return unused;
+}
+
+static void *run_check(void *unused)
+{
+    rigbasen_check(file.bytes, file.length);
+    return unused;
+}
+
+static void *run_list(void *unused)
+{
+    list_region(&file, &areas);
+    return unused;
+}
+
+/* For the first clinic that has patients. */
+static void *run_sheet(void *unused)
+{
+    uint64_t clinic = 0;
+    while (clinic + 1 < RIGBASEN_MOST_CLINICS && patients_of_clinic(&file, clinic) == 0) {
+        clinic++;
+    }
+    sheet_of_clinic(&file, clinic, &areas);
+    return unused;
+}
+
+/* The plan of the first bed for each patient. */
+static void *run_price(void *unused)
+{
+    static const uint8_t plan[RIGBASEN_MOST_PATIENTS] = {0};
+    static uint8_t result[RIGBASEN_PRICE_RESULT_BYTES];
+    rigbasen_price(file.bytes, file.length, plan, patients_of_region(&file), result, sizeof result);
+    return unused;
+}
+
+/* How many bytes of its stack a thread changed that runs this. */
+static size_t stack_of(void *(*run)(void *))
+{
+    static uint8_t *stack = NULL;
+    pthread_attr_t attributes;
+    pthread_t thread;
+    if (stack == NULL && posix_memalign((void **)&stack, 4096, STACK) != 0) {
+        exit(2);
+    }
+    memset(stack, PATTERN, STACK);
+    if (pthread_attr_init(&attributes) != 0 || pthread_attr_setstack(&attributes, stack, STACK) != 0
+        || pthread_create(&thread, &attributes, run, NULL) != 0 || pthread_join(thread, NULL) != 0) {
+        fprintf(stderr, "no thread\n");
+        exit(2);
+    }
+    size_t unchanged = 0;
+    while (unchanged < STACK && stack[unchanged] == PATTERN) {
+        unchanged++;
+    }
+    return STACK - unchanged;
+}
+
+int main(int count, char **arguments)
+{
+    static const char *const names[] = {"check", "list", "sheet", "price"};
+    static void *(*const calls[])(void *) = {run_check, run_list, run_sheet, run_price};
+    size_t most[] = {0, 0, 0, 0};
+    int over = 0;
+    for (int i = 1; i < count; i++) {
+        read_region(arguments[i], &file);
+        size_t own = stack_of(run_nothing);
+        for (int call = 0; call < 4; call++) {
+            size_t taken = stack_of(calls[call]) - own;
+            most[call] = taken > most[call] ? taken : most[call];
+        }
+    }
+    for (int call = 0; call < 4; call++) {
+        printf("%s took %zu bytes of stack\n", names[call], most[call]);
+        over = over || most[call] > RIGBASEN_STACK_BYTES;
+    }
+    return over;
+}

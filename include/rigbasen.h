@@ -1,0 +1,121 @@
+/*
+ * Rigbasen: the bed plans of a region. Four calls over one region file.
+ *
+ *     rigbasen_check   is the file a good one?
+ *     rigbasen_list    its m cheapest plans
+ *     rigbasen_sheet   one clinic's part of that list
+ *     rigbasen_price   what one plan costs
+ *
+ * Each call gives RIGBASEN_FINE or the number of the first question that is answered "no".
+ * Link with libplanner_c.a, on x86-64. C99 or later, and C++.
+ */
+#ifndef RIGBASEN_H
+#define RIGBASEN_H
+
+#include <stddef.h>
+#include <stdint.h>
+
+#ifdef __cplusplus
+extern "C" {
+#endif
+
+/* The largest region. */
+#define RIGBASEN_MOST_FILE_BYTES 65535
+#define RIGBASEN_MOST_PATIENTS 32
+#define RIGBASEN_MOST_BEDS 16 /* of one patient */
+#define RIGBASEN_MOST_CLINICS 16
+#define RIGBASEN_MOST_ROWS 64 /* the largest m */
+
+/* How many bytes a cost or a result number has, lowest byte first. */
+#define RIGBASEN_NUMBER_BYTES 8
+
+/* Areas of these sizes are long enough for every region. */
+#define RIGBASEN_BEDS_BYTES (RIGBASEN_MOST_ROWS * RIGBASEN_MOST_PATIENTS)
+#define RIGBASEN_COSTS_BYTES (RIGBASEN_MOST_ROWS * RIGBASEN_NUMBER_BYTES)
+#define RIGBASEN_ROWS_RESULT_BYTES RIGBASEN_NUMBER_BYTES        /* list and sheet: the row count */
+#define RIGBASEN_PRICE_RESULT_BYTES (2 * RIGBASEN_NUMBER_BYTES) /* price: allowed, then the total */
+
+/* Stack that is enough for every call. */
+#define RIGBASEN_STACK_BYTES (256 * 1024)
+
+/* The number that a call gives: the first question that is answered "no". */
+enum rigbasen_number {
+    RIGBASEN_FINE = 0,           /* every question of the call is answered yes */
+    RIGBASEN_TOO_LONG = 1,       /* is the file at most 65,535 bytes? */
+    RIGBASEN_LAYOUT = 2,         /* is it laid out as a region file? (a cut or empty file is not) */
+    RIGBASEN_COUNTS = 3,         /* are there V patient lines and T table lines? */
+    RIGBASEN_SUM = 4,            /* is the end line's number the true sum? */
+    RIGBASEN_LIMITS = 5,         /* is V 1 to 32, T 0 to 64, m 1 to 64? */
+    RIGBASEN_PATIENTS = 6,       /* is each clinic 0 to 15, each bed count 1 to 16, each parent - or a smaller number than the patient's own? */
+    RIGBASEN_MEMBERS = 7,        /* has each table 1 to 4 members, all below V, strictly rising? */
+    RIGBASEN_ENTRY_COUNTS = 8,   /* has each table the entries that its members' beds ask for, at most 4,096 in all? */
+    RIGBASEN_ENTRIES = 9,        /* is each entry that is a number at most 1,000,000? */
+    RIGBASEN_ANCESTORS = 10,     /* of any two members of a table, is one an ancestor of the other? */
+    RIGBASEN_NO_SUCH_CLINIC = 11, /* sheet: has the clinic asked for a patient in the file? */
+    RIGBASEN_SHORT_AREA = 12,    /* list, sheet, price: are the lent areas long enough? */
+    RIGBASEN_NO_PLAN = 13,       /* list, sheet: is there an allowed plan? */
+    RIGBASEN_PLAN_MISFIT = 14    /* price: are there exactly V beds, each below its patient's count? */
+};
+
+/*
+ * Questions 1 to 10 of a file.
+ */
+uint64_t rigbasen_check(const uint8_t *file, size_t file_length);
+
+/*
+ * The list: the m allowed plans of least cost, cheapest first, equal costs in order of the beds; all of them if there are fewer.
+ * Questions 1 to 10, 12, 13.
+ *
+ * Row r has its V beds in beds[r * V] to beds[r * V + V - 1], one byte a patient in file order,
+ * and its cost in the 8 bytes from costs[r * 8] on. The row count is in the first 8 bytes of result.
+ *
+ * Question 12 asks for at least m * V bytes of beds, m * 8 bytes of costs and 8 bytes of result.
+ */
+uint64_t rigbasen_list(const uint8_t *file, size_t file_length,
+                       uint8_t *beds, size_t beds_length,
+                       uint8_t *costs, size_t costs_length,
+                       uint8_t *result, size_t result_length);
+
+/*
+ * The sheet of one clinic: of the list's rows, those whose beds for the clinic's k patients have not come before.
+ * Questions 1 to 13. Question 12 asks for the same areas as list. A clinic number above 15 has no patient: 11.
+ *
+ * Row r has its k beds from beds[r * k] on, the clinic's patients in file order,
+ * and the clinic's own cost, of the tables whose members are all its patients, from costs[r * 8] on.
+ */
+uint64_t rigbasen_sheet(const uint8_t *file, size_t file_length, uint64_t clinic,
+                        uint8_t *beds, size_t beds_length,
+                        uint8_t *costs, size_t costs_length,
+                        uint8_t *result, size_t result_length);
+
+/*
+ * The price of one plan: a bed for each patient, one byte each, in file order. Questions 1 to 10, 12, 14.
+ *
+ * The first 8 bytes of result are 1 where the plan is allowed and 0 where a table forbids it; the next 8 are its total,
+ * 0 for a forbidden plan. A forbidden plan is no refusal: the number is 0. Question 12 asks for 16 bytes of result.
+ */
+uint64_t rigbasen_price(const uint8_t *file, size_t file_length,
+                        const uint8_t *plan, size_t plan_length,
+                        uint8_t *result, size_t result_length);
+
+/*
+ * What is proved, for every file, clinic number, plan and areas of any length:
+ * the call comes back, its number is the first "no", and every byte of every lent area afterwards is the one described here.
+ * On a refusal beds and costs are untouched, and a result area that is long enough gets zeros; a shorter one is untouched.
+ * Bytes beyond the rows and beyond the result's numbers are untouched. No call depends on an earlier one.
+ *
+ * What the caller sees to:
+ * - Each pointer points to as many bytes as its length says, readable, and writable where it is not const.
+ *   None is null; for a length of 0 any other pointer will do.
+ * - The areas of one call do not overlap each other, the file or the plan, and nobody else writes to any of them meanwhile.
+ *   (The library has no variables of its own, so threads may call at once, each with its own areas.)
+ * - RIGBASEN_STACK_BYTES of stack are free: the work area is there. By measure, check takes about 120,000 bytes,
+ *   price 140,000, list 181,000 and sheet 206,000, whatever the file.
+ * - Time. A call always ends, but where one tree holds many patients under many tables it can take very long.
+ */
+
+#ifdef __cplusplus
+}
+#endif
+
+#endif
