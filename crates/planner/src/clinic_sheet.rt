@@ -19,7 +19,7 @@ const SHEET: usize = 2_176;
 const SHEET_END: usize = 4_352;
 
 // The patients of a clinic. A number that no clinic can have is compared as it is, and has none.
-fn clinic_patients(region: Region, clinic: u64) -> PatientSet
+pub fn clinic_patients(region: Region, clinic: u64) -> PatientSet
     requires { ⌜ Planned region ⌝ }
     ensures { λ set. ⌜ HoldsClinic region clinic (set .0) ⌝ }
 {
