@@ -1,11 +1,12 @@
 -- The printed text of a file in a lent area.
-use mathlib.Core.Path.{_≡_, refl, ap, _∙_}
+use mathlib.Core.Path.{_≡_, ap, _∙_}
 use native.Mathlib.Omega.{arith}
 use Prim.Native.Nat.{_≤_}
-use borrow.Author.Tests.{leb-true}
+use borrow.Author.Tests.{le-leb}
 use lib.Seq.{length-sets}
-use Rattle.definitions.specs.Basics.{ℕ, Bool, true, false, cond, List, length, leb, sets}
+use Rattle.definitions.specs.Basics.{ℕ, cond, List, length, leb, sets}
 use Rattle.definitions.specs.Output.{printed}
+use Rattle.text_writer.specs.Wrote.{Wrote}
 use Rattle.row_printer.specs.Whole.{printed-size}
 
 -- What print gives back: the length of the text, and the lent area.
@@ -19,16 +20,15 @@ unfoldable pub printOutcome : List ℕ → List ℕ → PrintOutcome
 printOutcome file out =
     cond (leb 32_106 (length out)) (record { length = length (printed file); out = sets out 0 (printed file) }) (record { length = 0; out = out })
 
--- The text lies in the area.
-pub text-inside : (file out : List ℕ) {n : ℕ} {after : List ℕ} → record { length = n; out = after } ≡ printOutcome file out → n ≤ length after
-unfolding printOutcome
-text-inside file out {n} {after} e = go (leb 32_106 (length out)) refl
-  where
-    go : (b : Bool) → leb 32_106 (length out) ≡ b → n ≤ length after
-    go true long =
-        let all = e ∙ ap (λ b. cond b (record { length = length (printed file); out = sets out 0 (printed file) }) (record { length = 0; out = out })) long in
-        let same = ap (λ (o : PrintOutcome). length (o .out)) all ∙ length-sets out 0 (printed file) in
-        omega (arith, ap (λ (o : PrintOutcome). o .length) all, same, printed-size file, leb-true 32_106 (length out) long)
-    go false short =
-        let all = e ∙ ap (λ b. cond b (record { length = length (printed file); out = sets out 0 (printed file) }) (record { length = 0; out = out })) short in
-        omega (arith, ap (λ (o : PrintOutcome). o .length) all)
+-- So in an area that is long enough the whole text was written, and lies within it.
+module _ (file out : List ℕ) {n : ℕ} {after : List ℕ} (long : 32_106 ≤ length out) (e : record { length = n; out = after } ≡ printOutcome file out) where
+  pub whole-text : Wrote (printed file) 0 out after n
+  unfolding printOutcome
+  whole-text =
+      let all = e ∙ ap (λ b. cond b (record { length = length (printed file); out = sets out 0 (printed file) }) (record { length = 0; out = out })) (le-leb 32_106 (length out) long) in
+      record { bytes = ap (λ (o : PrintOutcome). o .out) all; next = omega (arith, ap (λ (o : PrintOutcome). o .length) all) }
+
+  pub text-inside : n ≤ length after
+  text-inside =
+      let same = ap length (whole-text .bytes) ∙ length-sets out 0 (printed file) in
+      omega (arith, whole-text .next, same, printed-size file, long)

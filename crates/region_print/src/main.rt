@@ -2,7 +2,10 @@
 use libc::STDIN_FILENO;
 use libc::STDOUT_FILENO;
 use printer::print;
-ghost use lib.ListN.{length};
+ghost use mathlib.Core.Path.{_≡_};
+ghost use Prim.Native.Nat.{_≤_};
+ghost use Rattle.definitions.specs.Basics.{length, sets};
+ghost use Rattle.definitions.specs.Output.{printed};
 ghost use Rattle.region_print.specs.Inputs.{Within};
 
 // What was read: so many bytes up to the input's end or the area's, or a read failed.
@@ -31,7 +34,11 @@ fn read_file(area: &mut [u8]) -> Input
     Input::Bytes(done)
 }
 
-fn print_text(file: &[u8], text: &mut [u8]) {
+// Prints a file's text, which the area has room for.
+fn print_text(file: &[u8], text: &mut [u8])
+    requires { ⌜ 32_106 ≤ length (now text) ⌝ }
+    ensures { λ _. ⌜ now (text .exit) ≡ sets (now (text .entry)) 0 (printed (now (file .entry))) ⌝ }
+{
     let n = print(file, text);
     if !io::write_all(STDOUT_FILENO, &text[..n]) {
         os::fail(b"standard output");
