@@ -1,21 +1,20 @@
--- The patients of a clinic: question 11, clinic numbers that no clinic can have, and what the clinic's own rows cost. Assumes nothing.
+-- The patients of a clinic: clinic numbers that no clinic can have, and what the clinic's own rows cost. Assumes nothing.
 use mathlib.Core.Path.{_≡_, refl, sym, ap, _∙_}
 use mathlib.Core.Bool.{true≢false}
 use Prim.Native.Nat.{_≤_}
 use native.Mathlib.Nat.{le-trans, mul-le-mul-right}
 use native.Mathlib.Omega.{arith}
 use borrow.Author.Tests.{eqb-true}
-use Rattle.definitions.specs.Basics.{ℕ, _<_, Bool, true, false, not, _||_, cond, Option, none, some, Option·getD, List, [], _∷_, map, length, eqb, any, keep, isEmpty}
+use Rattle.definitions.specs.Basics.{ℕ, _<_, true, false, not, Option, none, some, Option·getD, List, [], _∷_, length, eqb, isEmpty}
 use Rattle.definitions.specs.Limits.{limits, within, clinic, entry}
 use Rattle.definitions.specs.Syntax as Said
-use Rattle.definitions.specs.Syntax.{patientNumbers, patientAt, patientsOf}
+use Rattle.definitions.specs.Syntax.{patientsOf}
 use Rattle.definitions.specs.Plans.{Row, costOver}
 use Rattle.definitions.specs.Sheets.{ownTables, ownCost, ownRow, sheetOf}
 use Rattle.definitions.specs.Questions.{patientsWithin, entriesWithin, clinicPresent}
 use Rattle.ranking.specs.Members.{_∈_}
 use Rattle.theorems.specs.Tests.{both}
 use Rattle.theorems.specs.Kept.{every-in, any-out, keep-short}
-use Rattle.theorems.specs.Below.{by-number}
 use Rattle.theorems.specs.Accepted.{at-most, cost-most}
 use Rattle.theorems.specs.SheetRows.{sheet-rows}
 use Rattle.patient_set.specs.Lists.{every-keep}
@@ -26,38 +25,21 @@ use Rattle.held_region.specs.Held.{Holds}
 use Rattle.held_region.specs.Outline.{outline}
 use Rattle.held_region.specs.Faithful.{clinic-told, table-lines, fits-told}
 use Rattle.buckets.specs.Terms.{Answered}
+use Rattle.planner.specs.Asked.{present-asked}
 use Rattle.planner.specs.Sheets.{HoldsClinic}
 
--- Some element passes where something is kept.
-any-kept : {A : Type 0} (f : A → Bool) (g : ℕ → A) (l : List ℕ) → any f (map g l) ≡ not (isEmpty (keep (λ s. f (g s)) l))
-any-kept f g [] = refl
-any-kept f g (x ∷ l) = go (f (g x)) (any-kept f g l)
+-- A number beyond the limits of clinics has none.
+no-patients : (r : Said.Region) (c : ℕ) → Answered r → within clinic c ≡ false → patientsOf r c ≡ []
+unfolding patientsWithin clinicPresent
+no-patients r c answered outside = go (patientsOf r c) refl
   where
-    go : (b : Bool) → any f (map g l) ≡ not (isEmpty (keep (λ s. f (g s)) l))
-        → (b || any f (map g l)) ≡ not (isEmpty (cond b (x ∷ keep (λ s. f (g s)) l) (keep (λ s. f (g s)) l)))
-    go true e = refl
-    go false e = e
-
-module _ (r : Said.Region) (c : ℕ) where
-  -- Question 11 asks whether the clinic has patients.
-  pub present-asked : clinicPresent r c ≡ not (isEmpty (patientsOf r c))
-  unfolding clinicPresent patientsOf patientAt
-  present-asked =
-      let asked : Said.Patient → Bool = λ p. eqb (p .clinic) c in
-      ap (any asked) (sym (by-number (r .patients) _)) ∙ any-kept asked (patientAt r) (patientNumbers r)
-
-  -- A number beyond the limits of clinics has none.
-  no-patients : Answered r → within clinic c ≡ false → patientsOf r c ≡ []
-  unfolding patientsWithin clinicPresent
-  no-patients answered outside = go (patientsOf r c) refl
-    where
-      go : (l : List ℕ) → patientsOf r c ≡ l → l ≡ []
-      go [] e = refl
-      go (s ∷ l) e =
-          let asked : clinicPresent r c ≡ true = present-asked ∙ ap (λ m. not (isEmpty m)) e in
-          let (p, k, same) = any-out (λ p. eqb (p .clinic) c) (r .patients) asked in
-          let fits = both (within clinic (p .clinic)) (every-in _ (r .patients) (answered .patientsFit) k) .0 in
-          absurd (true≢false (sym fits ∙ ap (within clinic) (eqb-true (p .clinic) c same) ∙ outside))
+    go : (l : List ℕ) → patientsOf r c ≡ l → l ≡ []
+    go [] e = refl
+    go (s ∷ l) e =
+        let asked : clinicPresent r c ≡ true = present-asked r c ∙ ap (λ m. not (isEmpty m)) e in
+        let (p, k, same) = any-out (λ p. eqb (p .clinic) c) (r .patients) asked in
+        let fits = both (within clinic (p .clinic)) (every-in _ (r .patients) (answered .patientsFit) k) .0 in
+        absurd (true≢false (sym fits ∙ ap (within clinic) (eqb-true (p .clinic) c same) ∙ outside))
 
 -- The set of such a clinic is empty; that of any other is found from the held region.
 module _ (h : Region) (c : ℕ) where

@@ -1,5 +1,5 @@
--- The list of a loaded region: whether it has rows, what is written of it, and the answer. Assumes nothing.
-use mathlib.Core.Path.{_≡_, refl, sym, ap, _∙_}
+-- The list of a loaded region: what is written of it, and the answer. Assumes nothing.
+use mathlib.Core.Path.{_≡_, sym, ap, _∙_}
 use Prim.Native.Nat.{_≤_}
 use native.Mathlib.Nat.{le-trans, mul-le-mul-right}
 use native.Mathlib.Omega.{arith}
@@ -7,11 +7,11 @@ use Rattle.definitions.specs.Basics.{ℕ, Bool, true, false, List, [], _∷_, l
 use Rattle.definitions.specs.Limits.{limits}
 use Rattle.definitions.specs.Syntax as Said
 use Rattle.definitions.specs.Plans.{Row, listOf}
-use Rattle.definitions.specs.Questions.{areasLongEnough, planAllowed}
+use Rattle.definitions.specs.Questions.{areasLongEnough}
 use Rattle.definitions.specs.Outcomes.{written, outcomeOf}
 use Rattle.ranking.specs.Members.{_∈_}
 use Rattle.theorems.specs.Accepted.{total-most}
-use Rattle.theorems.specs.List.{list-first, list-empty}
+use Rattle.theorems.specs.List.{list-first}
 use Rattle.held_region.specs.declared.Region.{Region}
 use Rattle.held_region.specs.Held.{Holds}
 use Rattle.buckets.specs.Terms.{Answered, Planned}
@@ -22,30 +22,11 @@ use Rattle.row_writer.specs.Writing.{Writable, RowsWritten}
 use Rattle.search.specs.Trees.{GivesRegion}
 use Rattle.answers.specs.declared.Listed.the-variants.{Short, Nothing, Rows}
 use Rattle.answers.specs.Answers.{listedOutcome}
-use Rattle.buckets.specs.Right.{plans-wanted}
 use Rattle.planner.specs.Counts.{counts-few}
+use Rattle.planner.specs.Asked.{no-list, list-none, list-some}
 use Rattle.planner.specs.Found.{lastAsked, no-twelve, no-thirteen, no-refusal, asked-outcome}
 use Rattle.planner.specs.Lists.{longEnough, RegionListed}
 use Rattle.planner.proofs.Areas.{question, all-long, rows-counted, narrow, written-out}
-
--- Where at least one plan is wanted, question 13 asks whether the list has a row.
-module _ (r : Said.Region) (answered : Answered r) {n : ℕ} (count : n ≡ length (listOf r)) where
-  pub no-list : n ≡ 0 → listOf r ≡ []
-  no-list none-found = no-rows (listOf r) (sym count ∙ none-found)
-    where
-      no-rows : (l : List Row) → length l ≡ 0 → l ≡ []
-      no-rows [] e = refl
-      no-rows (x ∷ l) e = absurd (omega arith)
-
-  pub list-none : n ≡ 0 → planAllowed r ≡ false
-  list-none none-found = list-empty r (plans-wanted r answered .0) .0 (no-list none-found)
-
-  pub list-some : (n ≡ 0 → ⊥) → planAllowed r ≡ true
-  list-some some-found = not-false-true (λ e. some-found (count ∙ ap length (list-empty r (plans-wanted r answered .0) .1 e)))
-    where
-      not-false-true : {b : Bool} → (b ≡ false → ⊥) → b ≡ true
-      not-false-true {b = true} no-no = refl
-      not-false-true {b = false} no-no = absurd (no-no refl)
 
 -- A list that was found, and where its rows lie.
 module _ (h : Region) (planned : Planned h) {n : ℕ} {work area : List ℕ} (gives : GivesRegion h work area n) where

@@ -26,11 +26,12 @@ use Rattle.sheets.specs.Sheets.{Given, Gives}
 use Rattle.answers.specs.declared.Sheeted.the-variants.{Absent, Short, Nothing, Rows}
 use Rattle.answers.specs.Answers.{sheetedOutcome}
 use Rattle.planner.specs.Found.{lastAsked, no-twelve, no-thirteen, no-refusal, outcomeWith, asked-outcome}
+use Rattle.planner.specs.Asked.{present-asked, no-list, list-none, list-some}
 use Rattle.planner.specs.Lists.{longEnough}
 use Rattle.planner.specs.Sheets.{lateAsked, HoldsClinic, AsksSheet, SheetWritten, RegionSheeted, no-eleven, yes-eleven}
 use Rattle.planner.proofs.Areas.{question, all-long, narrow, written-out}
-use Rattle.planner.proofs.Lists.{most, found-count, no-list, list-none, list-some}
-use Rattle.planner.proofs.Clinics.{present-asked, own-costs-small}
+use Rattle.planner.proofs.Lists.{most, found-count}
+use Rattle.planner.proofs.Clinics.{own-costs-small}
 
 -- A sheet whose rows lie in the second part of the work area, as rows of k beds.
 module _ (h : Region) {n set k count : ℕ} (beds costs work : List ℕ) {area : List ℕ} (asks : AsksSheet h n set beds costs work) (wide : k ≡ length (members set))

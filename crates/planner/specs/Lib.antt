@@ -1,6 +1,7 @@
 pub mod Later
 pub mod Loaded
 pub mod Counts
+pub mod Asked
 pub mod Found
 pub mod Lists
 pub mod Sheets

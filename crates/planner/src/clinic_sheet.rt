@@ -16,7 +16,7 @@ use search::list_region;
 use sheets::sheet_rows;
 
 // The patients of a clinic. A number that no clinic can have is compared as it is, and has none.
-fn clinic_patients(region: Region, clinic: u64) -> PatientSet
+pub fn clinic_patients(region: Region, clinic: u64) -> PatientSet
     requires { ⌜ Planned region ⌝ }
     ensures { λ set. ⌜ HoldsClinic region clinic (set .0) ⌝ }
 {

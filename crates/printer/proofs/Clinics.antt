@@ -1,0 +1,80 @@
+-- A clinic's sheet: nothing where the clinic has no patients, or the rows from the second part of the work area. Assumes nothing.
+use mathlib.Core.Path.{_≡_, refl, sym, ap, _∙_}
+use native.Mathlib.Omega.{arith}
+use Rattle.definitions.specs.Basics.{ℕ, Bool, true, false, not, cond, List, [], _∷_, length, isEmpty, text}
+use Rattle.definitions.specs.Syntax.{Region}
+use Rattle.definitions.specs.Spelling.{decimal}
+use Rattle.definitions.specs.Plans.{Row}
+use Rattle.definitions.specs.Sheets.{sheetOf}
+use Rattle.definitions.specs.Output.{printedRows}
+use Rattle.patient_set.specs.Sets.{members}
+use Rattle.patient_set.specs.Laws.{size-most}
+use Rattle.held_region.specs.declared.Region as Code
+use Rattle.held_region.specs.Held.{Holds}
+use Rattle.buckets.specs.Terms.{Answered}
+use Rattle.row_list.specs.Rows.{rowsIn}
+use Rattle.row_sums.specs.Sums.{part}
+use Rattle.row_sums.specs.Areas.{part-long}
+use Rattle.sheets.specs.Sheets.{Given, Asks, Gives}
+use Rattle.planner.specs.Asked.{present-asked}
+use Rattle.planner.specs.Sheets.{HoldsClinic}
+use Rattle.text_writer.specs.Wrote.{Wrote}
+use Rattle.row_printer.specs.Printing.{Printable}
+use Rattle.printer.specs.Steps.{clinicText, AsksClinic, GivesClinic}
+
+-- The text of a clinic's rows.
+abbrev sheetText : ℕ → List Row → List ℕ
+sheetText c rows = printedRows (text "sheet" ∷ decimal c ∷ []) rows
+
+module _ (h : Code.Region) {n clinic at : ℕ} (out work : List ℕ) (asks : AsksClinic h n clinic at out work) (set : ℕ) (held : HoldsClinic h clinic set)
+    {empty : Bool} (told : empty ≡ isEmpty (members set)) where
+  -- What is printed, by whether the set is empty.
+  said : (r : Region) → Holds h r → Answered r → {answer : Bool} → empty ≡ answer → clinicText r clinic ≡ cond (not answer) (sheetText clinic (sheetOf r clinic)) []
+  unfolding clinicText
+  said r holds answered e =
+      ap (λ b. cond b (sheetText clinic (sheetOf r clinic)) [])
+      (present-asked r clinic ∙ ap (λ m. not (isEmpty m)) (sym (held r holds answered)) ∙ ap not (sym told ∙ e))
+
+  pub clinic-absent : empty ≡ true → GivesClinic h n clinic at out work out work at
+  clinic-absent e = record {
+    kept = record { long = refl; list = refl };
+    wrote = λ r holds answered. let none = said r holds answered e in rw none (record { bytes = refl; next = omega arith });
+  }
+
+  given : (r : Region) → Holds h r → Answered r → Given h r clinic n set work
+  given r holds answered = record { holds = holds; answered = answered; list = asks .listed .list r holds answered; patients = held r holds answered }
+
+  pub asks-sheet : Asks h n set work
+  asks-sheet =
+      let planned = asks .listed .planned in
+      record {
+        region = planned .region;
+        clinic = clinic;
+        given = given (planned .region) (planned .holds) (planned .answered);
+        few = asks .listed .few;
+        long = asks .listed .long;
+      }
+
+  -- The rows of the sheet lie in the second part of the work area, with k beds a row.
+  module _ (present : empty ≡ false) {k count : ℕ} {area : List ℕ} (gives : Gives h n set work area count) (wide : k ≡ length (members set)) where
+    rows-said : (r : Region) → Holds h r → Answered r → sheetText clinic (rowsIn k count (part 1 area)) ≡ clinicText r clinic
+    rows-said r holds answered =
+        ap (sheetText clinic) (ap (λ w. rowsIn w count (part 1 area)) wide ∙ gives .sheet r clinic (given r holds answered)) ∙ sym (said r holds answered present)
+
+    pub printable : Printable (sheetText clinic (rowsIn k count (part 1 area))) k count (part 1 area) at out
+    printable =
+        let planned = asks .listed .planned in
+        let part-is = part-long 1 area (omega (arith, gives .long, asks .listed .long)) in
+        let same = rows-said (planned .region) (planned .holds) (planned .answered) in
+        record {
+          patients = omega (arith, wide, size-most set);
+          held = omega (arith, part-is, gives .count, asks .listed .few);
+          room = rw same (asks .room);
+        }
+
+    pub clinic-printed : {after : List ℕ} {end : ℕ} → Wrote (sheetText clinic (rowsIn k count (part 1 area))) at out after end
+        → GivesClinic h n clinic at out work after area end
+    clinic-printed wrote = record {
+      kept = record { long = gives .long; list = gives .list };
+      wrote = λ r holds answered. let same = rows-said r holds answered in rw (← same) wrote;
+    }

@@ -1,0 +1,87 @@
+-- The text of a file: a refusal by questions 1 to 10, or the text of its region. Assumes nothing.
+use mathlib.Core.Path.{_≡_, refl, sym, ap, _∙_}
+use native.Mathlib.Omega.{arith}
+use Prim.Native.Nat.{_≤_}
+use borrow.Author.Tests.{le-leb, lt-leb}
+use Rattle.definitions.specs.Basics.{ℕ, zero, suc, _<_, true, List, [], _∷_, _++_, length, sets, text}
+use Rattle.definitions.specs.Spelling.{decimal, line}
+use Rattle.definitions.specs.Questions.{Asked, firstNo, regionOf, askedByCheck, askedByList, checkOf}
+use Rattle.definitions.specs.Outcomes.{listFound}
+use Rattle.definitions.specs.Output.{printedAnswer, printed}
+use Rattle.held_region.specs.declared.Judged.{Judged}
+use Rattle.held_region.specs.declared.Judged.the-variants.{Fine, Refused}
+use Rattle.held_region.specs.Refusals.{numberOf}
+use Rattle.reader.specs.declared.Loaded.{Loaded}
+use Rattle.reader.specs.Loading.{LoadedFrom}
+use Rattle.planner.specs.Later.{after-check, refused-before, refusal-number}
+use Rattle.planner.specs.Loaded.{answered}
+use Rattle.planner.specs.Found.{lastAsked}
+use Rattle.text_writer.specs.Wrote.{Room, Wrote}
+use Rattle.row_printer.specs.Whole.{printed-size}
+use Rattle.printer.specs.Printing.{PrintOutcome, printOutcome}
+use Rattle.printer.specs.Steps.{regionText, AsksText, GivesText}
+
+-- Only an accepted file has number 0.
+fine : (answer : Judged) → numberOf answer ≡ 0 → answer ≡ Fine
+fine Fine e = refl
+fine (Refused refusal) e = let n = refusal-number refusal in absurd (omega (arith, e, n))
+
+module _ (file out : List ℕ) where
+  -- A short area is untouched; in any other the text is written.
+  pub short-area : length out < 32_106 → record { length = 0; out = out } ≡ printOutcome file out
+  unfolding printOutcome
+  short-area l = simp (lt-leb _ _ l)
+
+  module _ (long : 32_106 ≤ length out) where
+    text-written : {after : List ℕ} {end : ℕ} → Wrote (printed file) 0 out after end → record { length = end; out = after } ≡ printOutcome file out
+    unfolding printOutcome
+    text-written {after} {end} wrote =
+        let size : end ≡ length (printed file) = omega (arith, wrote .next) in
+        let all : _≡_ {A = PrintOutcome} (record { length = end; out = after }) (record { length = length (printed file); out = sets out 0 (printed file) }) =
+        λ i. record { length = size i; out = wrote .bytes i } in
+        rw (le-leb _ _ long) all
+
+    room : Room (printed file) 0 out
+    room = omega (arith, printed-size file, long)
+
+    -- Questions 1 to 10.
+    module _ (q : ℕ) (number : q ≡ checkOf file) (refused : q ≡ 0 → ⊥) where
+      refused-said : printed file ≡ line (text "refused" ∷ decimal q ∷ [])
+      unfolding printed listFound askedByList
+      refused-said = go q number refused
+        where
+          late : Asked
+          late = lastAsked (regionOf file) true
+
+          go : (q : ℕ) → q ≡ checkOf file → (q ≡ 0 → ⊥) → printedAnswer (firstNo (askedByCheck file ++ late)) (regionOf file) ≡ line (text "refused" ∷ decimal q ∷ [])
+          go zero e other = absurd (other refl)
+          go (suc q) e other = ap (λ n. printedAnswer n (regionOf file)) (refused-before file late q (sym e) ∙ sym e)
+
+      pub refused-room : Room (line (text "refused" ∷ decimal q ∷ [])) 0 out
+      refused-room = omega (arith, ap length refused-said, room)
+
+      pub refused-written : {after : List ℕ} {end : ℕ} → Wrote (line (text "refused" ∷ decimal q ∷ [])) 0 out after end
+          → record { length = end; out = after } ≡ printOutcome file out
+      refused-written wrote = text-written (let same = refused-said in rw same wrote)
+
+    -- An accepted file.
+    module _ (loaded : Loaded) (from : LoadedFrom file loaded) (q : ℕ) (number : q ≡ numberOf (loaded .answer)) (none-refused : q ≡ 0) where
+      checked : checkOf file ≡ 0
+      checked = sym (from .number) ∙ sym number ∙ none-refused
+
+      holds : loaded .answer ≡ Fine
+      holds = fine (loaded .answer) (sym number ∙ none-refused)
+
+      region-said : printed file ≡ regionText (regionOf file)
+      unfolding printed listFound askedByList regionText
+      region-said = ap (λ n. printedAnswer n (regionOf file)) (after-check file (lastAsked (regionOf file) true) checked)
+
+      pub asks-text : (work : List ℕ) → 6_528 ≤ length work → AsksText (loaded .region) out work
+      asks-text work enough = record {
+        planned = record { region = regionOf file; holds = from .holds holds; answered = answered file checked };
+        long = enough;
+        room = omega (arith, ap length region-said, room);
+      }
+
+      pub region-written : {after : List ℕ} {end : ℕ} → GivesText (loaded .region) out after end → record { length = end; out = after } ≡ printOutcome file out
+      region-written gives = text-written (let same = region-said in rw same (gives (regionOf file) (from .holds holds) (answered file checked)))

@@ -1,0 +1,5 @@
+pub mod Texts
+pub mod Clinics
+pub mod Sheets
+pub mod Regions
+pub mod Files

@@ -1,0 +1,67 @@
+-- The parts of a region's text: what is asked and what is given.
+use Prim.Native.Nat.{_≤_}
+use Rattle.definitions.specs.Basics.{ℕ, _-_, _≡_, cond, List, [], _∷_, flatMap, length, numbersFrom, text}
+use Rattle.definitions.specs.Syntax.{Region}
+use Rattle.definitions.specs.Spelling.{decimal}
+use Rattle.definitions.specs.Plans.{listOf}
+use Rattle.definitions.specs.Sheets.{sheetOf}
+use Rattle.definitions.specs.Questions.{firstNo, clinicPresent, planAllowed}
+use Rattle.definitions.specs.Output.{printedRows, printedAnswer}
+use Rattle.held_region.specs.declared.Region as Code
+use Rattle.held_region.specs.Held.{Holds}
+use Rattle.buckets.specs.Terms.{Answered, Planned}
+use Rattle.row_sums.specs.Sums.{listAt}
+use Rattle.text_writer.specs.Wrote.{Room, Wrote}
+
+-- A clinic's sheet as it is printed, where the clinic has patients.
+unfoldable pub clinicText : Region → ℕ → List ℕ
+clinicText r c = cond (clinicPresent r c) (printedRows (text "sheet" ∷ decimal c ∷ []) (sheetOf r c)) []
+
+-- The sheets of the clinics from c on.
+unfoldable pub sheetsFrom : Region → ℕ → List ℕ
+sheetsFrom r c = flatMap (clinicText r) (numbersFrom c (16 - c))
+
+-- The whole text, once questions 1 to 10 are answered yes.
+unfoldable pub regionText : Region → List ℕ
+regionText r = printedAnswer (firstNo ((13, planAllowed r) ∷ [])) r
+
+-- A text was written for whatever file the held region holds.
+abbrev pub WroteOf : Code.Region → (Region → List ℕ) → ℕ → List ℕ → List ℕ → ℕ → Type 0
+WroteOf h said at out after end = (r : Region) → Holds h r → Answered r → Wrote (said r) at out after end
+
+-- The list of a planned region lies in the first part of the work area; afterwards it still does.
+pub record Listed (h : Code.Region) (n : ℕ) (work : List ℕ) : Type 0 where
+  pub planned : Planned h
+  pub few : n ≤ 64
+  pub long : 6_528 ≤ length work
+  pub list : (r : Region) → Holds h r → Answered r → listAt (h .v) n 0 work ≡ listOf r
+
+pub record Kept (h : Code.Region) (n : ℕ) (work after : List ℕ) : Type 0 where
+  pub long : length after ≡ length work
+  pub list : listAt (h .v) n 0 after ≡ listAt (h .v) n 0 work
+
+-- A clinic's sheet.
+pub record AsksClinic (h : Code.Region) (n clinic at : ℕ) (out work : List ℕ) : Type 0 where
+  pub listed : Listed h n work
+  pub room : Room (clinicText (listed .planned .region) clinic) at out
+
+pub record GivesClinic (h : Code.Region) (n clinic at : ℕ) (out work after workAfter : List ℕ) (end : ℕ) : Type 0 where
+  pub kept : Kept h n work workAfter
+  pub wrote : WroteOf h (λ r. clinicText r clinic) at out after end
+
+-- The sheets of all clinics.
+pub record AsksSheets (h : Code.Region) (n at : ℕ) (out work : List ℕ) : Type 0 where
+  pub listed : Listed h n work
+  pub room : Room (sheetsFrom (listed .planned .region) 0) at out
+
+abbrev pub GivesSheets : Code.Region → ℕ → List ℕ → List ℕ → ℕ → Type 0
+GivesSheets h at out after end = WroteOf h (λ r. sheetsFrom r 0) at out after end
+
+-- The whole text.
+pub record AsksText (h : Code.Region) (out work : List ℕ) : Type 0 where
+  pub planned : Planned h
+  pub long : 6_528 ≤ length work
+  pub room : Room (regionText (planned .region)) 0 out
+
+abbrev pub GivesText : Code.Region → List ℕ → List ℕ → ℕ → Type 0
+GivesText h out after end = WroteOf h regionText 0 out after end
