@@ -19,7 +19,7 @@ pub fn run(tested: Tested<SheetCall>, seed: u64, count: usize) -> Result<Vec<Tal
 }
 
 /// Pairs that demand 3 speaks of.
-fn apart(tested: Tested<SheetCall>, seed: u64, count: usize) -> Result<Tally, Difference> {
+pub fn apart(tested: Tested<SheetCall>, seed: u64, count: usize) -> Result<Tally, Difference> {
     let mut tally = Tally::of(&format!("{}, pairs (demand 3)", tested.name));
     let mut random = Random::of(seed, "sheet, pairs");
     let mut both_printed = 0;
@@ -43,7 +43,7 @@ fn apart(tested: Tested<SheetCall>, seed: u64, count: usize) -> Result<Tally, Di
 
 /// Pairs with a joining table, of which demand 3 says nothing: in some the sheets must differ, or
 /// the comparison above could not fail.
-fn joined(tested: Tested<SheetCall>, seed: u64, count: usize) -> Result<Tally, Difference> {
+pub fn joined(tested: Tested<SheetCall>, seed: u64, count: usize) -> Result<Tally, Difference> {
     let mut tally = Tally::of(&format!("{}, joined pairs", tested.name));
     let mut random = Random::of(seed, "sheet, joined pairs");
     let mut differ = 0;

@@ -8,7 +8,6 @@ use crate::random::Random;
 use crate::region::Region;
 use crate::{baseline, boundary};
 
-#[cfg(feature = "list")]
 pub fn lists(seed: u64, count: usize) -> Result<Tally, Difference> {
     let mut tally = Tally::of("list, large regions");
     let mut random = Random::of(seed, tally.kind());
@@ -20,7 +19,6 @@ pub fn lists(seed: u64, count: usize) -> Result<Tally, Difference> {
 }
 
 /// The sheet of every clinic of each region.
-#[cfg(feature = "sheet")]
 pub fn sheets(seed: u64, count: usize) -> Result<Tally, Difference> {
     let mut tally = Tally::of("sheet, large regions");
     let mut random = Random::of(seed, tally.kind());

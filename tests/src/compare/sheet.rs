@@ -43,11 +43,10 @@ pub fn compare(
 
 /// Every clinic of a region, the highest clinic, and numbers that a cut to fewer bits would mistake.
 fn clinics_to_try(region: &Region) -> Vec<u64> {
-    let mut clinics: Vec<u64> = region.patients.iter().map(|patient| patient.clinic).collect();
-    clinics.sort();
-    clinics.dedup();
+    let mut clinics = region.clinics();
     let first = clinics[0];
-    clinics.extend([15, 16, 256, 1 << 32, 256 + first, (1 << 32) + first, u64::MAX]);
+    clinics.extend([15, 16, 255, 256, 1 << 32, u64::MAX]);
+    clinics.extend([4, 5, 8, 16, 32, 63].map(|bits| (1 << bits) + first));
     clinics
 }
 
@@ -69,7 +68,7 @@ fn every_clinic(
 }
 
 /// Small regions of every kind, most of them with tables that join clinics.
-fn regions(tested: Tested<SheetCall>, seed: u64, count: usize) -> Result<Tally, Difference> {
+pub fn regions(tested: Tested<SheetCall>, seed: u64, count: usize) -> Result<Tally, Difference> {
     let mut tally = Tally::of(&format!("{}, regions", tested.name));
     let mut random = Random::of(seed, "sheet, regions");
     for case in 0..count {
@@ -80,7 +79,7 @@ fn regions(tested: Tested<SheetCall>, seed: u64, count: usize) -> Result<Tally, 
 }
 
 /// Regions with a clinic that no table joins to others, and with one that a table does.
-fn joined_regions(tested: Tested<SheetCall>, seed: u64, count: usize) -> Result<Tally, Difference> {
+pub fn joined_regions(tested: Tested<SheetCall>, seed: u64, count: usize) -> Result<Tally, Difference> {
     let mut tally = Tally::of(&format!("{}, clinics apart or joined", tested.name));
     let mut random = Random::of(seed, "sheet, clinics apart or joined");
     for case in 0..count {
@@ -91,7 +90,7 @@ fn joined_regions(tested: Tested<SheetCall>, seed: u64, count: usize) -> Result<
 }
 
 /// Every length of each area from 0 to past its limit, for a few regions.
-fn all_lengths(tested: Tested<SheetCall>, seed: u64) -> Result<Tally, Difference> {
+pub fn all_lengths(tested: Tested<SheetCall>, seed: u64) -> Result<Tally, Difference> {
     let mut tally = Tally::of(&format!("{}, all lengths", tested.name));
     let mut random = Random::of(seed, "sheet, all lengths");
     for kind in small::KINDS {
@@ -108,7 +107,7 @@ fn all_lengths(tested: Tested<SheetCall>, seed: u64) -> Result<Tally, Difference
     Ok(tally)
 }
 
-fn faulty_files(tested: Tested<SheetCall>, seed: u64, count: usize) -> Result<Tally, Difference> {
+pub fn faulty_files(tested: Tested<SheetCall>, seed: u64, count: usize) -> Result<Tally, Difference> {
     let mut tally = Tally::of(&format!("{}, faulty files", tested.name));
     let mut random = Random::of(seed, "sheet, faulty files");
     for case in 0..count {
