@@ -1,5 +1,6 @@
 //! The comparisons: what the proved library answers, beside the independent program.
 
+pub mod bare;
 pub mod check;
 pub mod clinic_pairs;
 pub mod every_call;
@@ -7,11 +8,15 @@ pub mod large;
 pub mod list;
 pub mod paper;
 pub mod price;
+pub mod printing;
 pub mod report;
 pub mod sheet;
+pub mod wrong;
 
 use crate::areas::Areas;
+use crate::generate::small;
 use crate::{baseline, boundary};
+use bare::BARE;
 use report::{Difference, Tally};
 
 /// A call under test, with the name that its lines of the report begin with.
@@ -63,8 +68,29 @@ pub fn run_all(seed: u64, count: usize) -> Result<(), Difference> {
         print_all(sheet::run(calls.sheet, seed, count)?);
         print_all(clinic_pairs::run(calls.sheet, seed, count)?);
     }
-    large::lists(seed, count / 10)?.print();
-    large::sheets(seed, count / 10)?.print();
+    large::lists(LIBRARY.list, seed, count / 10)?.print();
+    large::sheets(LIBRARY.sheet, seed, count / 10)?.print();
+    wrong::run(seed, count)?.print();
+    Ok(())
+}
+
+/// Some dozens of regions and files through all four calls, for a run under a memory checker.
+pub fn run_few(seed: u64) -> Result<(), Difference> {
+    paper::run(BARE)?.print();
+    print_all(check::run(BARE.check, seed, 20)?);
+    every_call::damaged_files(BARE, seed, 60)?.print();
+    every_call::random_files(BARE, seed, 60)?.print();
+    print_all(price::run(BARE.price, seed, 24)?);
+    for kind in small::KINDS {
+        list::regions(BARE.list, kind, seed, 4)?.print();
+    }
+    list::faulty_files(BARE.list, seed, 24)?.print();
+    sheet::regions(BARE.sheet, seed, 48)?.print();
+    sheet::joined_regions(BARE.sheet, seed, 24)?.print();
+    sheet::faulty_files(BARE.sheet, seed, 24)?.print();
+    clinic_pairs::apart(BARE.sheet, seed, 24)?.print();
+    large::lists(BARE.list, seed, 4)?.print();
+    large::sheets(BARE.sheet, seed, 2)?.print();
     Ok(())
 }
 

@@ -53,6 +53,12 @@ pub fn run(calls: Calls) -> Result<Tally, Difference> {
     Ok(tally)
 }
 
+/// All of them.
+pub fn files() -> Vec<Vec<u8>> {
+    let numbered = numbered().into_iter().map(|(file, _)| file);
+    numbered.chain(listed().into_iter().map(|(file, ..)| file)).collect()
+}
+
 fn same(rows: &[Row], paper: Rows) -> bool {
     rows.iter().map(|row| (row.cost, &row.beds[..])).eq(paper.iter().copied())
 }

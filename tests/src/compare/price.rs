@@ -54,7 +54,7 @@ pub fn regions(tested: Tested<PriceCall>, seed: u64, count: usize) -> Result<Tal
             compare(&mut tally, tested, (&file, &outcomes), &plan, Area::patterned(length, random.number()))?;
         }
     }
-    Ok(tally)
+    tally.with_all(&[0, 12, 14])
 }
 
 fn plans_to_try(region: &Region, random: &mut Random) -> Vec<Vec<u8>> {
@@ -85,5 +85,5 @@ pub fn faulty_files(tested: Tested<PriceCall>, seed: u64, count: usize) -> Resul
         let result = Area::patterned(length, random.number());
         compare(&mut tally, tested, (&file, &outcomes), &[0, 0], result)?;
     }
-    Ok(tally)
+    tally.with_all(&[1, 2, 3, 4, 5, 6, 7, 8, 9, 10])
 }

@@ -45,6 +45,10 @@ impl Tally {
         &self.kind
     }
 
+    pub fn cases(&self) -> u64 {
+        self.cases
+    }
+
     pub fn print(&self) {
         let came_up = self.numbers.iter().enumerate().filter(|(_, times)| **times > 0);
         let numbers: Vec<String> = came_up.map(|(number, times)| format!("{number}:{times}")).collect();

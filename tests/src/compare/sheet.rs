@@ -13,7 +13,7 @@ pub fn run(tested: Tested<SheetCall>, seed: u64, count: usize) -> Result<Vec<Tal
     Ok(vec![
         regions(tested, seed, count)?,
         joined_regions(tested, seed, count / 2)?,
-        all_lengths(tested, seed)?,
+        all_lengths(tested, seed, count)?,
         faulty_files(tested, seed, count)?,
     ])
 }
@@ -75,7 +75,7 @@ pub fn regions(tested: Tested<SheetCall>, seed: u64, count: usize) -> Result<Tal
         let region = small::region(small::KINDS[case % small::KINDS.len()], &mut random);
         every_clinic(&mut tally, tested, &region, &mut random)?;
     }
-    Ok(tally)
+    tally.with_all(&[0, 11, 12, 13])
 }
 
 /// Regions with a clinic that no table joins to others, and with one that a table does.
@@ -84,27 +84,30 @@ pub fn joined_regions(tested: Tested<SheetCall>, seed: u64, count: usize) -> Res
     let mut random = Random::of(seed, "sheet, clinics apart or joined");
     for case in 0..count {
         let pair = pairs::pair(case % 2 == 1, &mut random);
-        every_clinic(&mut tally, tested, &pair.one, &mut random)?;
+        every_clinic(&mut tally, tested, &pair.one.0, &mut random)?;
     }
-    Ok(tally)
+    tally.with_all(&[0, 11, 12, 13])
 }
 
-/// Every length of each area from 0 to past its limit, for a few regions.
-pub fn all_lengths(tested: Tested<SheetCall>, seed: u64) -> Result<Tally, Difference> {
+/// Every length of each area from 0 to past its limit, for a few regions and a clinic that they
+/// have, and for one that they do not have.
+pub fn all_lengths(tested: Tested<SheetCall>, seed: u64, _: usize) -> Result<Tally, Difference> {
     let mut tally = Tally::of(&format!("{}, all lengths", tested.name));
     let mut random = Random::of(seed, "sheet, all lengths");
     for kind in small::KINDS {
         let region = small::region(kind, &mut random);
         let file = spelling::file_of(&region);
         let outcomes = Outcomes::of(&file);
-        let clinic = region.patients[random.below(region.patients.len())].clinic;
+        let present = region.patients[random.below(region.patients.len())].clinic;
         let asked = Lengths::asked(region.m, region.patients.len());
         for lengths in lengths_to_try(asked) {
-            let areas = Areas::patterned(lengths, random.number());
-            compare(&mut tally, tested, (&file, &outcomes), clinic, areas)?;
+            for clinic in [present, 256 + present] {
+                let areas = Areas::patterned(lengths, random.number());
+                compare(&mut tally, tested, (&file, &outcomes), clinic, areas)?;
+            }
         }
     }
-    Ok(tally)
+    tally.with_all(&[0, 11, 12, 13])
 }
 
 pub fn faulty_files(tested: Tested<SheetCall>, seed: u64, count: usize) -> Result<Tally, Difference> {
@@ -117,5 +120,5 @@ pub fn faulty_files(tested: Tested<SheetCall>, seed: u64, count: usize) -> Resul
         let clinic = random.between(0, 16);
         compare(&mut tally, tested, (&file, &outcomes), clinic, Areas::patterned(lengths, random.number()))?;
     }
-    Ok(tally)
+    tally.with_all(&[1, 2, 3, 4, 5, 6, 7, 8, 9, 10, 11])
 }
