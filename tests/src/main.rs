@@ -33,7 +33,7 @@ fn main() -> ExitCode {
 
 fn run(asked: &Asked) -> Result<(), compare::report::Difference> {
     let Asked { seed, count, .. } = *asked;
-    println!("seed {seed}, count {count}; after the cases, each number and how often it came up");
+    println!("seed {seed}; after the cases, each number and how often it came up");
     if asked.few {
         return compare::run_few(seed);
     }

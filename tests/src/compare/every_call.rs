@@ -94,7 +94,7 @@ pub fn damaged_files(calls: Calls, seed: u64, count: usize) -> Result<Tally, Dif
             compare(&mut tally, calls, &file, &mut random)?;
         }
     }
-    tally.with_all(&[0, 2, 3, 4, 6, 7, 8])
+    tally.with_all(&[0, 2, 3])
 }
 
 /// Random bytes, most of them such as stand in files.

@@ -70,7 +70,7 @@ pub fn run_all(seed: u64, count: usize) -> Result<(), Difference> {
     }
     large::lists(LIBRARY.list, seed, count / 10)?.print();
     large::sheets(LIBRARY.sheet, seed, count / 10)?.print();
-    wrong::run(seed, count)?.print();
+    wrong::run()?.print();
     Ok(())
 }
 

@@ -17,40 +17,43 @@ type Comparison<Call> = fn(Tested<Call>, u64, usize) -> Result<Tally, Difference
 /// A comparison of all four calls.
 type ComparisonOfAll = fn(Calls, u64, usize) -> Result<Tally, Difference>;
 
+/// One seed and count, so that what is found does not depend on those of the run.
+const SEED: u64 = 1;
+const COUNT: usize = 4_800;
+
 /// Runs every comparison on its wrong calls. Each must end in a difference.
-pub fn run(seed: u64, count: usize) -> Result<Tally, Difference> {
+pub fn run() -> Result<Tally, Difference> {
     let mut tally = Tally::of("wrong calls, each found");
     for (name, comparison, call) in wrong_checks() {
-        found(&mut tally, name, comparison(Tested { name, call }, seed, count))?;
+        found(&mut tally, name, comparison(Tested { name, call }, SEED, COUNT))?;
     }
     for (name, comparison, call) in wrong_prices() {
-        found(&mut tally, name, comparison(Tested { name, call }, seed, count))?;
+        found(&mut tally, name, comparison(Tested { name, call }, SEED, COUNT))?;
     }
     for (name, comparison, call) in wrong_lists() {
-        found(&mut tally, name, comparison(Tested { name, call }, seed, count))?;
+        found(&mut tally, name, comparison(Tested { name, call }, SEED, COUNT))?;
     }
     for (name, comparison, call) in wrong_sheets() {
-        found(&mut tally, name, comparison(Tested { name, call }, seed, count))?;
+        found(&mut tally, name, comparison(Tested { name, call }, SEED, COUNT))?;
     }
     for (name, comparison, calls) in wrong_calls() {
-        found(&mut tally, name, comparison(calls, seed, count))?;
+        found(&mut tally, name, comparison(calls, SEED, COUNT))?;
     }
     Ok(tally)
 }
 
-/// Counts a wrong call that was found.
+/// Counts a wrong call that was found: two answers differ, which is more than a number that never came up.
 fn found(tally: &mut Tally, name: &str, compared: Result<Tally, Difference>) -> Result<(), Difference> {
-    match compared {
-        Err(_) => {
+    let by = match compared {
+        Err(difference) if difference.answers.len() > 1 => {
             tally.count(0);
-            Ok(())
+            return Ok(());
         }
-        Ok(unmoved) => {
-            let answers =
-                vec![("not found".to_string(), name.to_string()), ("by".to_string(), unmoved.kind().to_string())];
-            Err(Difference { kind: tally.kind().to_string(), file: Vec::new(), answers })
-        }
-    }
+        Err(lack) => lack.kind,
+        Ok(unmoved) => unmoved.kind().to_string(),
+    };
+    let answers = vec![("not found".to_string(), name.to_string()), ("by".to_string(), by)];
+    Err(Difference { kind: tally.kind().to_string(), file: Vec::new(), answers })
 }
 
 fn wrong_checks() -> Vec<(&'static str, Comparison<CheckCall>, CheckCall)> {
