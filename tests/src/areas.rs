@@ -7,6 +7,7 @@ const GUARD_BYTE: u8 = 0xa7;
 #[derive(Clone, PartialEq)]
 pub struct Area {
     bytes: Vec<u8>,
+    guard: usize,
 }
 
 impl Area {
@@ -16,24 +17,35 @@ impl Area {
         let mut bytes = vec![GUARD_BYTE; GUARD];
         bytes.extend((0..length).map(pattern));
         bytes.extend([GUARD_BYTE; GUARD]);
-        Area { bytes }
+        Area { bytes, guard: GUARD }
+    }
+
+    /// The same contents in a memory block of exactly their length.
+    pub fn bare(&self) -> Area {
+        Area { bytes: self.contents().to_vec(), guard: 0 }
     }
 
     /// The part that is lent.
     pub fn lent(&mut self) -> &mut [u8] {
-        let end = self.bytes.len() - GUARD;
-        &mut self.bytes[GUARD..end]
+        let end = self.bytes.len() - self.guard;
+        &mut self.bytes[self.guard..end]
     }
 
     /// The lent part, to read.
     pub fn contents(&self) -> &[u8] {
-        &self.bytes[GUARD..self.bytes.len() - GUARD]
+        &self.bytes[self.guard..self.bytes.len() - self.guard]
+    }
+
+    /// Writes the byte after the area, as a wrong call might.
+    pub fn spill(&mut self) {
+        let end = self.bytes.len() - self.guard;
+        self.bytes[end] = 0;
     }
 
     /// Are the bytes beside the area as they were?
     pub fn guards_whole(&self) -> bool {
-        let (before, others) = self.bytes.split_at(GUARD);
-        let after = &others[others.len() - GUARD..];
+        let (before, others) = self.bytes.split_at(self.guard);
+        let after = &others[others.len() - self.guard..];
         before.iter().chain(after).all(|byte| *byte == GUARD_BYTE)
     }
 }
@@ -68,5 +80,17 @@ impl Areas {
             costs: Area::patterned(lengths.costs, salt ^ 21),
             result: Area::patterned(lengths.result, salt ^ 42),
         }
+    }
+
+    /// The same contents in memory blocks of exactly their lengths.
+    pub fn bare(&self) -> Areas {
+        Areas { beds: self.beds.bare(), costs: self.costs.bare(), result: self.result.bare() }
+    }
+
+    /// Takes over the contents of areas of the same lengths.
+    pub fn take(&mut self, other: &Areas) {
+        self.beds.lent().copy_from_slice(other.beds.contents());
+        self.costs.lent().copy_from_slice(other.costs.contents());
+        self.result.lent().copy_from_slice(other.result.contents());
     }
 }

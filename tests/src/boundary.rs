@@ -1,12 +1,10 @@
 //! The proved library's calls from C, each behind a safe wrapper.
 
-#[cfg(any(feature = "list", feature = "sheet"))]
 use crate::areas::Areas;
 
 extern "C" {
     fn rigbasen_check(file: *const u8, file_length: usize) -> u64;
 
-    #[cfg(feature = "price")]
     fn rigbasen_price(
         file: *const u8,
         file_length: usize,
@@ -16,7 +14,6 @@ extern "C" {
         result_length: usize,
     ) -> u64;
 
-    #[cfg(feature = "list")]
     fn rigbasen_list(
         file: *const u8,
         file_length: usize,
@@ -28,7 +25,6 @@ extern "C" {
         result_length: usize,
     ) -> u64;
 
-    #[cfg(feature = "sheet")]
     fn rigbasen_sheet(
         file: *const u8,
         file_length: usize,
@@ -49,14 +45,12 @@ pub fn check(file: &[u8]) -> u64 {
 }
 
 /// Price's number; the result area has two numbers, allowed and total.
-#[cfg(feature = "price")]
 pub fn price(file: &[u8], plan: &[u8], result: &mut [u8]) -> u64 {
     // Each pointer and length are those of one slice, and the slices do not overlap.
     unsafe { rigbasen_price(file.as_ptr(), file.len(), plan.as_ptr(), plan.len(), result.as_mut_ptr(), result.len()) }
 }
 
 /// List's number; the result area has one number, the row count.
-#[cfg(feature = "list")]
 pub fn list(file: &[u8], areas: &mut Areas) -> u64 {
     let (beds, costs, result) = (areas.beds.lent(), areas.costs.lent(), areas.result.lent());
     // Each pointer and length are those of one slice, and the slices do not overlap.
@@ -75,7 +69,6 @@ pub fn list(file: &[u8], areas: &mut Areas) -> u64 {
 }
 
 /// Sheet's number; the result area has one number, the row count.
-#[cfg(feature = "sheet")]
 pub fn sheet(file: &[u8], clinic: u64, areas: &mut Areas) -> u64 {
     let (beds, costs, result) = (areas.beds.lent(), areas.costs.lent(), areas.result.lent());
     // Each pointer and length are those of one slice, and the slices do not overlap.

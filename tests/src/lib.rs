@@ -8,6 +8,7 @@ pub mod compare;
 pub mod generate;
 pub mod outcomes;
 pub mod plans;
+pub mod printed;
 pub mod random;
 pub mod reader;
 pub mod region;

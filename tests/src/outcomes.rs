@@ -58,7 +58,7 @@ impl Outcomes {
     }
 
     /// Questions 1 to 10, question 11 as given, 12 and 13; then the rows are written.
-    fn rows_call(
+    pub fn rows_call(
         &self,
         areas: &mut Areas,
         question_11: impl Fn(&Region) -> bool,
@@ -79,11 +79,22 @@ impl Outcomes {
         if !long_enough {
             return 12;
         }
-        if self.list.is_empty() {
-            return 13;
+        match self.listed() {
+            Err(number) => number,
+            Ok((region, list)) => {
+                write_rows(areas, &rows(region, list));
+                0
+            }
         }
-        write_rows(areas, &rows(region, &self.list));
-        0
+    }
+
+    /// The region and its list; or the first "no" of questions 1 to 10 and 13.
+    pub fn listed(&self) -> Result<(&Region, &[Row]), u64> {
+        match &self.read {
+            Err(number) => Err(*number),
+            Ok(_) if self.list.is_empty() => Err(13),
+            Ok(region) => Ok((region, &self.list)),
+        }
     }
 
     /// The region, where the file is accepted.

@@ -51,4 +51,12 @@ impl Region {
     pub fn patients_of(&self, clinic: u64) -> Vec<usize> {
         (0..self.patients.len()).filter(|patient| self.patients[*patient].clinic == clinic).collect()
     }
+
+    /// The clinics that have patients, rising.
+    pub fn clinics(&self) -> Vec<u64> {
+        let mut clinics: Vec<u64> = self.patients.iter().map(|patient| patient.clinic).collect();
+        clinics.sort();
+        clinics.dedup();
+        clinics
+    }
 }

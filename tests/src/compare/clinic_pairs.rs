@@ -1,15 +1,20 @@
 //! Demand 3 by running: of two files that share a clinic, one sheet is the beginning of the other.
 
 use crate::areas::{Areas, Lengths};
-use crate::compare::report::{areas_text, Difference, Tally};
+use crate::compare::report::{areas_text, Difference, Tally, MANY};
 use crate::compare::{SheetCall, Tested};
 use crate::generate::{pairs, spelling};
+use crate::outcomes::Outcomes;
 use crate::random::Random;
 use crate::region::Region;
 
-/// A sheet as a call left it: number, rows as beds and cost.
+/// A sheet as a call left it: its number, the number that the independent program gives, and the
+/// rows as beds and cost.
 struct Sheet {
+    file: Vec<u8>,
+    clinic: u64,
     number: u64,
+    due: u64,
     rows: Vec<(Vec<u8>, Vec<u8>)>,
     areas: Areas,
 }
@@ -18,59 +23,72 @@ pub fn run(tested: Tested<SheetCall>, seed: u64, count: usize) -> Result<Vec<Tal
     Ok(vec![apart(tested, seed, count)?, joined(tested, seed, count)?])
 }
 
-/// Pairs that demand 3 speaks of.
-fn apart(tested: Tested<SheetCall>, seed: u64, count: usize) -> Result<Tally, Difference> {
+/// Pairs that demand 3 speaks of: no table joins the clinic.
+pub fn apart(tested: Tested<SheetCall>, seed: u64, count: usize) -> Result<Tally, Difference> {
     let mut tally = Tally::of(&format!("{}, pairs (demand 3)", tested.name));
     let mut random = Random::of(seed, "sheet, pairs");
-    let mut both_printed = 0;
+    let (mut printed, mut telling, mut uneven) = (0, 0, 0);
     for _ in 0..count {
-        let pair = pairs::pair(false, &mut random);
-        let (file, one) = called(tested, &pair.one, pair.clinic, &mut random);
-        let (other_file, other) = called(tested, &pair.other, pair.clinic, &mut random);
-        let agree = match (one.number, other.number) {
-            (0, 0) => !one.rows.is_empty() && !other.rows.is_empty() && same_beginning(&one, &other),
-            _ => one.number.max(other.number) == 13,
-        };
-        if !agree {
-            return Err(difference(&tally, pair.clinic, file, other_file, &one, &other));
+        let (one, other) = both_called(tested, false, &mut random);
+        let both = one.number == 0 && other.number == 0;
+        let has_rows = |sheet: &Sheet| sheet.number != 0 || !sheet.rows.is_empty();
+        let agree = one.as_due() && other.as_due() && has_rows(&one) && has_rows(&other);
+        if !agree || both && !same_beginning(&one, &other) {
+            return Err(difference(&tally, &one, &other));
         }
-        both_printed += u64::from(one.number.max(other.number) == 0);
+        let (fewer, more) = (one.rows.len().min(other.rows.len()), one.rows.len().max(other.rows.len()));
+        printed += u64::from(both);
+        telling += u64::from(both && fewer > 1);
+        uneven += u64::from(both && fewer < more);
         tally.count(one.number.max(other.number));
     }
-    tally.remark(format!("({both_printed} pairs with two sheets)"));
-    Ok(tally)
+    tally.remark(format!("({printed} pairs with two sheets, {telling} of several rows, {uneven} of unlike length)"));
+    enough(tally, telling.min(uneven), "pairs that tell something")
 }
 
 /// Pairs with a joining table, of which demand 3 says nothing: in some the sheets must differ, or
 /// the comparison above could not fail.
-fn joined(tested: Tested<SheetCall>, seed: u64, count: usize) -> Result<Tally, Difference> {
+pub fn joined(tested: Tested<SheetCall>, seed: u64, count: usize) -> Result<Tally, Difference> {
     let mut tally = Tally::of(&format!("{}, joined pairs", tested.name));
     let mut random = Random::of(seed, "sheet, joined pairs");
     let mut differ = 0;
     for _ in 0..count {
-        let pair = pairs::pair(true, &mut random);
-        let (_, one) = called(tested, &pair.one, pair.clinic, &mut random);
-        let (_, other) = called(tested, &pair.other, pair.clinic, &mut random);
+        let (one, other) = both_called(tested, true, &mut random);
+        if !one.as_due() || !other.as_due() {
+            return Err(difference(&tally, &one, &other));
+        }
         differ += u64::from(one.number.max(other.number) == 0 && !same_beginning(&one, &other));
         tally.count(one.number.max(other.number));
     }
     tally.remark(format!("(sheets differ in {differ} pairs)"));
-    if differ == 0 && count > 100 {
-        let answers = vec![(tested.name.to_string(), "no joined pair has differing sheets".to_string())];
-        return Err(Difference { kind: tally.kind().to_string(), file: Vec::new(), answers });
+    enough(tally, differ, "joined pairs with differing sheets")
+}
+
+/// The tally, if it has both numbers and such pairs came up. A run of few cases need not have them.
+fn enough(tally: Tally, pairs: u64, what: &str) -> Result<Tally, Difference> {
+    let tally = tally.with_all(&[0, 13])?;
+    if pairs > 0 || tally.cases() < MANY {
+        return Ok(tally);
     }
-    Ok(tally)
+    let answers = vec![(what.to_string(), "none".to_string())];
+    Err(Difference { kind: tally.kind().to_string(), file: Vec::new(), answers })
+}
+
+fn both_called(tested: Tested<SheetCall>, joined: bool, random: &mut Random) -> (Sheet, Sheet) {
+    let pair = pairs::pair(joined, random);
+    (called(tested, &pair.one, random), called(tested, &pair.other, random))
 }
 
 /// Calls sheet with areas that are long enough, of some length, filled with some pattern.
-fn called(tested: Tested<SheetCall>, region: &Region, clinic: u64, random: &mut Random) -> (Vec<u8>, Sheet) {
+fn called(tested: Tested<SheetCall>, (region, clinic): &(Region, u64), random: &mut Random) -> Sheet {
     let file = spelling::file_of(region);
     let asked = Lengths::asked(region.m, region.patients.len());
     let lengths = Lengths { beds: asked.beds + random.below(9), costs: asked.costs + random.below(9), ..asked };
     let mut areas = Areas::patterned(lengths, random.number());
-    let number = (tested.call)(&file, clinic, &mut areas);
-    let rows = rows_left(&areas, region.patients_of(clinic).len());
-    (file, Sheet { number, rows, areas })
+    let due = Outcomes::of(&file).sheet(*clinic, &mut areas.clone());
+    let number = (tested.call)(&file, *clinic, &mut areas);
+    let rows = rows_left(&areas, region.patients_of(*clinic).len());
+    Sheet { file, clinic: *clinic, number, due, rows, areas }
 }
 
 /// The rows that the result area counts.
@@ -86,19 +104,21 @@ fn same_beginning(one: &Sheet, other: &Sheet) -> bool {
     one.rows.iter().zip(&other.rows).all(|(row, other_row)| row == other_row)
 }
 
-fn difference(
-    tally: &Tally,
-    clinic: u64,
-    file: Vec<u8>,
-    other_file: Vec<u8>,
-    one: &Sheet,
-    other: &Sheet,
-) -> Difference {
+impl Sheet {
+    fn as_due(&self) -> bool {
+        self.number == self.due
+    }
+
+    fn text(&self) -> String {
+        format!("clinic {}, {} ({} is due){}", self.clinic, self.number, self.due, areas_text(&self.areas))
+    }
+}
+
+fn difference(tally: &Tally, one: &Sheet, other: &Sheet) -> Difference {
     let answers = vec![
-        ("clinic".to_string(), clinic.to_string()),
-        ("the other file".to_string(), format!("\n{}", String::from_utf8_lossy(&other_file))),
-        ("sheet of the file".to_string(), format!("{}{}", one.number, areas_text(&one.areas))),
-        ("sheet of the other file".to_string(), format!("{}{}", other.number, areas_text(&other.areas))),
+        ("the other file".to_string(), format!("\n{}", String::from_utf8_lossy(&other.file))),
+        ("sheet of the file".to_string(), one.text()),
+        ("sheet of the other file".to_string(), other.text()),
     ];
-    Difference { kind: tally.kind().to_string(), file, answers }
+    Difference { kind: tally.kind().to_string(), file: one.file.clone(), answers }
 }

@@ -2,37 +2,36 @@
 //! comparisons hold to the walk over all plans.
 
 use crate::areas::{Areas, Lengths};
+use crate::baseline;
 use crate::compare::report::{areas_text, Difference, Tally};
+use crate::compare::{ListCall, SheetCall, Tested};
 use crate::generate::{large, spelling};
 use crate::random::Random;
 use crate::region::Region;
-use crate::{baseline, boundary};
 
-#[cfg(feature = "list")]
-pub fn lists(seed: u64, count: usize) -> Result<Tally, Difference> {
-    let mut tally = Tally::of("list, large regions");
-    let mut random = Random::of(seed, tally.kind());
+pub fn lists(tested: Tested<ListCall>, seed: u64, count: usize) -> Result<Tally, Difference> {
+    let mut tally = Tally::of(&format!("{}, large regions", tested.name));
+    let mut random = Random::of(seed, "list, large regions");
     for _ in 0..count {
         let region = large::region(&mut random);
-        compare(&mut tally, &region, &mut random, baseline::calls::list, boundary::list)?;
+        compare(&mut tally, &region, &mut random, baseline::calls::list, tested.call)?;
     }
     Ok(tally)
 }
 
 /// The sheet of every clinic of each region.
-#[cfg(feature = "sheet")]
-pub fn sheets(seed: u64, count: usize) -> Result<Tally, Difference> {
-    let mut tally = Tally::of("sheet, large regions");
-    let mut random = Random::of(seed, tally.kind());
+pub fn sheets(tested: Tested<SheetCall>, seed: u64, count: usize) -> Result<Tally, Difference> {
+    let mut tally = Tally::of(&format!("{}, large regions", tested.name));
+    let mut random = Random::of(seed, "sheet, large regions");
     for _ in 0..count {
         let region = large::region(&mut random);
         for clinic in 0..=15 {
             let expected = |file: &[u8], areas: &mut Areas| baseline::calls::sheet(file, clinic, areas);
-            let given = |file: &[u8], areas: &mut Areas| boundary::sheet(file, clinic, areas);
+            let given = |file: &[u8], areas: &mut Areas| (tested.call)(file, clinic, areas);
             compare(&mut tally, &region, &mut random, expected, given)?;
         }
     }
-    Ok(tally)
+    tally.with_all(&[0, 11])
 }
 
 fn compare(

@@ -12,13 +12,13 @@ pub fn run(tested: Tested<ListCall>, seed: u64, count: usize) -> Result<Vec<Tall
     for kind in small::KINDS {
         tallies.push(regions(tested, kind, seed, count / 4)?);
     }
-    tallies.push(all_lengths(tested, seed)?);
+    tallies.push(all_lengths(tested, seed, count)?);
     tallies.push(faulty_files(tested, seed, count)?);
     Ok(tallies)
 }
 
 /// One call, compared in its number and in every byte of every area.
-fn compare(
+pub fn compare(
     tally: &mut Tally,
     tested: Tested<ListCall>,
     (file, outcomes): (&[u8], &Outcomes),
@@ -39,7 +39,7 @@ fn compare(
 }
 
 /// Small regions of one kind, with areas that are exactly long enough and with others.
-fn regions(tested: Tested<ListCall>, kind: small::Kind, seed: u64, count: usize) -> Result<Tally, Difference> {
+pub fn regions(tested: Tested<ListCall>, kind: small::Kind, seed: u64, count: usize) -> Result<Tally, Difference> {
     let mut tally = Tally::of(&format!("{}, {kind:?}", tested.name));
     let mut random = Random::of(seed, &format!("list, {kind:?}"));
     for _ in 0..count {
@@ -53,7 +53,7 @@ fn regions(tested: Tested<ListCall>, kind: small::Kind, seed: u64, count: usize)
             compare(&mut tally, tested, (&file, &outcomes), Areas::patterned(lengths, random.number()))?;
         }
     }
-    Ok(tally)
+    tally.with_all(&[if kind == small::Kind::NoneAllowed { 13 } else { 0 }, 12])
 }
 
 /// Lengths at or beside what is asked for, or any.
@@ -70,7 +70,7 @@ pub fn near(asked: Lengths, random: &mut Random) -> Lengths {
 
 /// A few regions with every length of each area from 0 to past its limit, and with every mixture
 /// of lengths beside the limits.
-fn all_lengths(tested: Tested<ListCall>, seed: u64) -> Result<Tally, Difference> {
+pub fn all_lengths(tested: Tested<ListCall>, seed: u64, _: usize) -> Result<Tally, Difference> {
     let mut tally = Tally::of(&format!("{}, all lengths", tested.name));
     let mut random = Random::of(seed, "list, all lengths");
     for kind in small::KINDS {
@@ -81,7 +81,7 @@ fn all_lengths(tested: Tested<ListCall>, seed: u64) -> Result<Tally, Difference>
             compare(&mut tally, tested, (&file, &outcomes), Areas::patterned(lengths, random.number()))?;
         }
     }
-    Ok(tally)
+    tally.with_all(&[0, 12, 13])
 }
 
 /// Each area in turn from nothing to past its limit, then mixtures.
@@ -101,7 +101,7 @@ pub fn lengths_to_try(asked: Lengths) -> Vec<Lengths> {
 }
 
 /// Files with a fault or some damage, with areas of any length.
-fn faulty_files(tested: Tested<ListCall>, seed: u64, count: usize) -> Result<Tally, Difference> {
+pub fn faulty_files(tested: Tested<ListCall>, seed: u64, count: usize) -> Result<Tally, Difference> {
     let mut tally = Tally::of(&format!("{}, faulty files", tested.name));
     let mut random = Random::of(seed, "list, faulty files");
     for case in 0..count {
@@ -110,5 +110,5 @@ fn faulty_files(tested: Tested<ListCall>, seed: u64, count: usize) -> Result<Tal
         let lengths = near(Lengths { beds: 2_048, costs: 512, result: 8 }, &mut random);
         compare(&mut tally, tested, (&file, &outcomes), Areas::patterned(lengths, random.number()))?;
     }
-    Ok(tally)
+    tally.with_all(&[1, 2, 3, 4, 5, 6, 7, 8, 9, 10])
 }

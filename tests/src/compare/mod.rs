@@ -1,19 +1,22 @@
 //! The comparisons: what the proved library answers, beside the independent program.
 
+pub mod bare;
 pub mod check;
 pub mod clinic_pairs;
-#[cfg(any(feature = "list", feature = "sheet"))]
+pub mod every_call;
 pub mod large;
 pub mod list;
 pub mod paper;
 pub mod price;
+pub mod printing;
 pub mod report;
 pub mod sheet;
+pub mod wrong;
 
 use crate::areas::Areas;
-use crate::baseline;
-#[cfg(any(feature = "price", feature = "list", feature = "sheet"))]
-use crate::boundary;
+use crate::generate::small;
+use crate::{baseline, boundary};
+use bare::BARE;
 use report::{Difference, Tally};
 
 /// A call under test, with the name that its lines of the report begin with.
@@ -23,30 +26,71 @@ pub struct Tested<Call> {
     pub call: Call,
 }
 
+pub type CheckCall = fn(&[u8]) -> u64;
 pub type PriceCall = fn(&[u8], &[u8], &mut [u8]) -> u64;
 pub type ListCall = fn(&[u8], &mut Areas) -> u64;
 pub type SheetCall = fn(&[u8], u64, &mut Areas) -> u64;
 
+/// The four calls of one program.
+#[derive(Clone, Copy)]
+pub struct Calls {
+    pub name: &'static str,
+    pub check: Tested<CheckCall>,
+    pub price: Tested<PriceCall>,
+    pub list: Tested<ListCall>,
+    pub sheet: Tested<SheetCall>,
+}
+
+pub const LIBRARY: Calls = Calls {
+    name: "every call",
+    check: Tested { name: "check", call: boundary::check },
+    price: Tested { name: "price", call: boundary::price },
+    list: Tested { name: "list", call: boundary::list },
+    sheet: Tested { name: "sheet", call: boundary::sheet },
+};
+
+pub const BASELINE: Calls = Calls {
+    name: "baseline every call",
+    check: Tested { name: "baseline check", call: baseline::calls::check },
+    price: Tested { name: "baseline price", call: baseline::calls::price },
+    list: Tested { name: "baseline list", call: baseline::calls::list },
+    sheet: Tested { name: "baseline sheet", call: baseline::calls::sheet },
+};
+
 /// Runs every comparison, each line printed as soon as it is done, up to the first difference.
 pub fn run_all(seed: u64, count: usize) -> Result<(), Difference> {
-    paper::run()?.print();
-    for kind in check::KINDS {
-        kind(seed, count)?.print();
+    for calls in [BASELINE, LIBRARY] {
+        paper::run(calls)?.print();
+        print_all(check::run(calls.check, seed, count)?);
+        print_all(every_call::run(calls, seed, count)?);
+        print_all(price::run(calls.price, seed, count)?);
+        print_all(list::run(calls.list, seed, count)?);
+        print_all(sheet::run(calls.sheet, seed, count)?);
+        print_all(clinic_pairs::run(calls.sheet, seed, count)?);
     }
-    for tested in tested_prices() {
-        print_all(price::run(tested, seed, count)?);
+    large::lists(LIBRARY.list, seed, count / 10)?.print();
+    large::sheets(LIBRARY.sheet, seed, count / 10)?.print();
+    wrong::run()?.print();
+    Ok(())
+}
+
+/// Some dozens of regions and files through all four calls, for a run under a memory checker.
+pub fn run_few(seed: u64) -> Result<(), Difference> {
+    paper::run(BARE)?.print();
+    print_all(check::run(BARE.check, seed, 20)?);
+    every_call::damaged_files(BARE, seed, 60)?.print();
+    every_call::random_files(BARE, seed, 60)?.print();
+    print_all(price::run(BARE.price, seed, 24)?);
+    for kind in small::KINDS {
+        list::regions(BARE.list, kind, seed, 4)?.print();
     }
-    for tested in tested_lists() {
-        print_all(list::run(tested, seed, count)?);
-    }
-    for tested in tested_sheets() {
-        print_all(sheet::run(tested, seed, count)?);
-        print_all(clinic_pairs::run(tested, seed, count)?);
-    }
-    #[cfg(feature = "list")]
-    large::lists(seed, count / 10)?.print();
-    #[cfg(feature = "sheet")]
-    large::sheets(seed, count / 10)?.print();
+    list::faulty_files(BARE.list, seed, 24)?.print();
+    sheet::regions(BARE.sheet, seed, 48)?.print();
+    sheet::joined_regions(BARE.sheet, seed, 24)?.print();
+    sheet::faulty_files(BARE.sheet, seed, 24)?.print();
+    clinic_pairs::apart(BARE.sheet, seed, 24)?.print();
+    large::lists(BARE.list, seed, 4)?.print();
+    large::sheets(BARE.sheet, seed, 2)?.print();
     Ok(())
 }
 
@@ -54,29 +98,4 @@ fn print_all(tallies: Vec<Tally>) {
     for tally in tallies {
         tally.print();
     }
-}
-
-/// The baseline always, so that the comparison itself is tried; the proved library where it has the call.
-fn tested_prices() -> Vec<Tested<PriceCall>> {
-    vec![
-        Tested { name: "baseline price", call: baseline::calls::price },
-        #[cfg(feature = "price")]
-        Tested { name: "price", call: boundary::price },
-    ]
-}
-
-fn tested_lists() -> Vec<Tested<ListCall>> {
-    vec![
-        Tested { name: "baseline list", call: baseline::calls::list },
-        #[cfg(feature = "list")]
-        Tested { name: "list", call: boundary::list },
-    ]
-}
-
-fn tested_sheets() -> Vec<Tested<SheetCall>> {
-    vec![
-        Tested { name: "baseline sheet", call: baseline::calls::sheet },
-        #[cfg(feature = "sheet")]
-        Tested { name: "sheet", call: boundary::sheet },
-    ]
 }

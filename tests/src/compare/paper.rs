@@ -1,11 +1,13 @@
 //! Document 01's own files to try, with the answers that it gives: they bind the independent
 //! program itself.
 
+use crate::areas::{Areas, Lengths};
 use crate::compare::report::{Difference, Tally};
+use crate::compare::{check, every_call, list, sheet, Calls};
 use crate::generate::spelling::{with_end, with_stated_end};
-use crate::outcomes::Outcomes;
 use crate::plans::{self, Row};
-use crate::{baseline, boundary, outcomes};
+use crate::printed;
+use crate::random::Random;
 
 /// The file that the paper prints in full.
 pub const PRINTED: &str = "(region 2 2 3)
@@ -18,22 +20,43 @@ pub const PRINTED: &str = "(region 2 2 3)
 
 type Rows = &'static [(u64, &'static [u8])];
 
-pub fn run() -> Result<Tally, Difference> {
-    let mut tally = Tally::of("the paper's files");
+/// What the printing program prints for it.
+const OUTPUT: &str = "(list 3)
+(row 2 (1 0))
+(row 3 (0 0))
+(row 5 (0 1))
+(sheet 0 3)
+(row 2 (1 0))
+(row 3 (0 0))
+(row 5 (0 1))
+";
+
+pub fn run(calls: Calls) -> Result<Tally, Difference> {
+    let mut tally = Tally::of(&format!("{}, the paper's files", calls.name));
+    let mut random = Random::of(1, "the paper's files");
     for (file, number) in numbered() {
-        let answers = [outcomes::check(&file), boundary::check(&file), baseline::calls::check(&file)];
-        expect(&file, answers.iter().all(|answer| *answer == number), number, answers)?;
-        tally.count(number);
+        check::compare(&mut tally, calls.check, &file, Some(number))?;
+        every_call::compare(&mut tally, calls, &file, &mut random)?;
     }
     for (file, list, sheet) in listed() {
-        let outcomes = Outcomes::of(&file);
+        let outcomes = every_call::compare(&mut tally, calls, &file, &mut random)?;
         expect(&file, same(outcomes.rows(), list), list, outcomes.rows())?;
         let region = outcomes.region().expect("an accepted file");
-        let printed = plans::sheet(region, outcomes.rows(), 0);
-        expect(&file, same(&printed, sheet), sheet, &printed)?;
-        tally.count(0);
+        let rows = plans::sheet(region, outcomes.rows(), 0);
+        expect(&file, same(&rows, sheet), sheet, &rows)?;
+        let areas = Areas::patterned(Lengths::asked(region.m, region.patients.len()), random.number());
+        list::compare(&mut tally, calls.list, (&file, &outcomes), areas.clone())?;
+        sheet::compare(&mut tally, calls.sheet, (&file, &outcomes), 0, areas)?;
     }
+    let printed = printed::text(PRINTED.as_bytes());
+    expect(PRINTED.as_bytes(), printed == OUTPUT, OUTPUT, &printed)?;
     Ok(tally)
+}
+
+/// All of them.
+pub fn files() -> Vec<Vec<u8>> {
+    let numbered = numbered().into_iter().map(|(file, _)| file);
+    numbered.chain(listed().into_iter().map(|(file, ..)| file)).collect()
 }
 
 fn same(rows: &[Row], paper: Rows) -> bool {
@@ -51,7 +74,7 @@ fn expect(
     }
     let answers = vec![
         ("the paper".to_string(), format!("{paper:?}")),
-        ("independent program (for check: then library, baseline)".to_string(), format!("{answers:?}")),
+        ("independent program".to_string(), format!("{answers:?}")),
     ];
     Err(Difference { kind: "the paper's files".to_string(), file: file.to_vec(), answers })
 }

@@ -14,7 +14,7 @@ pub fn run(tested: Tested<PriceCall>, seed: u64, count: usize) -> Result<Vec<Tal
 }
 
 /// One call, compared in its number and in every byte of the result area.
-fn compare(
+pub fn compare(
     tally: &mut Tally,
     tested: Tested<PriceCall>,
     (file, outcomes): (&[u8], &Outcomes),
@@ -37,7 +37,7 @@ fn compare(
 }
 
 /// Plans of small regions, and plans that are too long, too short, or have a bed too high.
-fn regions(tested: Tested<PriceCall>, seed: u64, count: usize) -> Result<Tally, Difference> {
+pub fn regions(tested: Tested<PriceCall>, seed: u64, count: usize) -> Result<Tally, Difference> {
     let mut tally = Tally::of(&format!("{}, regions", tested.name));
     let mut random = Random::of(seed, "price, regions");
     for case in 0..count {
@@ -54,7 +54,7 @@ fn regions(tested: Tested<PriceCall>, seed: u64, count: usize) -> Result<Tally, 
             compare(&mut tally, tested, (&file, &outcomes), &plan, Area::patterned(length, random.number()))?;
         }
     }
-    Ok(tally)
+    tally.with_all(&[0, 12, 14])
 }
 
 fn plans_to_try(region: &Region, random: &mut Random) -> Vec<Vec<u8>> {
@@ -75,7 +75,7 @@ fn plans_to_try(region: &Region, random: &mut Random) -> Vec<Vec<u8>> {
 }
 
 /// Files that are refused, with result areas of any length.
-fn faulty_files(tested: Tested<PriceCall>, seed: u64, count: usize) -> Result<Tally, Difference> {
+pub fn faulty_files(tested: Tested<PriceCall>, seed: u64, count: usize) -> Result<Tally, Difference> {
     let mut tally = Tally::of(&format!("{}, faulty files", tested.name));
     let mut random = Random::of(seed, "price, faulty files");
     for case in 0..count {
@@ -85,5 +85,5 @@ fn faulty_files(tested: Tested<PriceCall>, seed: u64, count: usize) -> Result<Ta
         let result = Area::patterned(length, random.number());
         compare(&mut tally, tested, (&file, &outcomes), &[0, 0], result)?;
     }
-    Ok(tally)
+    tally.with_all(&[1, 2, 3, 4, 5, 6, 7, 8, 9, 10])
 }

@@ -2,6 +2,9 @@
 
 use crate::areas::{Area, Areas};
 
+/// A run of so many cases must show every answer that its kind is there to try.
+pub const MANY: u64 = 1_000;
+
 /// The cases of one kind of test, and how often each number came up.
 pub struct Tally {
     kind: String,
@@ -26,8 +29,24 @@ impl Tally {
         self.remark = remark;
     }
 
+    /// The tally, if each of these numbers came up. A run of few cases need not have them.
+    pub fn with_all(self, numbers: &[u64]) -> Result<Tally, Difference> {
+        let missing = numbers.iter().find(|number| self.numbers[**number as usize] == 0);
+        match missing {
+            Some(number) if self.cases >= MANY => {
+                let answers = vec![("never came up".to_string(), number.to_string())];
+                Err(Difference { kind: self.kind, file: Vec::new(), answers })
+            }
+            _ => Ok(self),
+        }
+    }
+
     pub fn kind(&self) -> &str {
         &self.kind
+    }
+
+    pub fn cases(&self) -> u64 {
+        self.cases
     }
 
     pub fn print(&self) {

@@ -13,7 +13,7 @@ pub fn run(tested: Tested<SheetCall>, seed: u64, count: usize) -> Result<Vec<Tal
     Ok(vec![
         regions(tested, seed, count)?,
         joined_regions(tested, seed, count / 2)?,
-        all_lengths(tested, seed)?,
+        all_lengths(tested, seed, count)?,
         faulty_files(tested, seed, count)?,
     ])
 }
@@ -43,11 +43,10 @@ pub fn compare(
 
 /// Every clinic of a region, the highest clinic, and numbers that a cut to fewer bits would mistake.
 fn clinics_to_try(region: &Region) -> Vec<u64> {
-    let mut clinics: Vec<u64> = region.patients.iter().map(|patient| patient.clinic).collect();
-    clinics.sort();
-    clinics.dedup();
+    let mut clinics = region.clinics();
     let first = clinics[0];
-    clinics.extend([15, 16, 256, 1 << 32, 256 + first, (1 << 32) + first, u64::MAX]);
+    clinics.extend([15, 16, 255, 256, 1 << 32, u64::MAX]);
+    clinics.extend([4, 5, 8, 16, 32, 63].map(|bits| (1 << bits) + first));
     clinics
 }
 
@@ -69,46 +68,49 @@ fn every_clinic(
 }
 
 /// Small regions of every kind, most of them with tables that join clinics.
-fn regions(tested: Tested<SheetCall>, seed: u64, count: usize) -> Result<Tally, Difference> {
+pub fn regions(tested: Tested<SheetCall>, seed: u64, count: usize) -> Result<Tally, Difference> {
     let mut tally = Tally::of(&format!("{}, regions", tested.name));
     let mut random = Random::of(seed, "sheet, regions");
     for case in 0..count {
         let region = small::region(small::KINDS[case % small::KINDS.len()], &mut random);
         every_clinic(&mut tally, tested, &region, &mut random)?;
     }
-    Ok(tally)
+    tally.with_all(&[0, 11, 12, 13])
 }
 
 /// Regions with a clinic that no table joins to others, and with one that a table does.
-fn joined_regions(tested: Tested<SheetCall>, seed: u64, count: usize) -> Result<Tally, Difference> {
+pub fn joined_regions(tested: Tested<SheetCall>, seed: u64, count: usize) -> Result<Tally, Difference> {
     let mut tally = Tally::of(&format!("{}, clinics apart or joined", tested.name));
     let mut random = Random::of(seed, "sheet, clinics apart or joined");
     for case in 0..count {
         let pair = pairs::pair(case % 2 == 1, &mut random);
-        every_clinic(&mut tally, tested, &pair.one, &mut random)?;
+        every_clinic(&mut tally, tested, &pair.one.0, &mut random)?;
     }
-    Ok(tally)
+    tally.with_all(&[0, 11, 12, 13])
 }
 
-/// Every length of each area from 0 to past its limit, for a few regions.
-fn all_lengths(tested: Tested<SheetCall>, seed: u64) -> Result<Tally, Difference> {
+/// Every length of each area from 0 to past its limit, for a few regions and a clinic that they
+/// have, and for one that they do not have.
+pub fn all_lengths(tested: Tested<SheetCall>, seed: u64, _: usize) -> Result<Tally, Difference> {
     let mut tally = Tally::of(&format!("{}, all lengths", tested.name));
     let mut random = Random::of(seed, "sheet, all lengths");
     for kind in small::KINDS {
         let region = small::region(kind, &mut random);
         let file = spelling::file_of(&region);
         let outcomes = Outcomes::of(&file);
-        let clinic = region.patients[random.below(region.patients.len())].clinic;
+        let present = region.patients[random.below(region.patients.len())].clinic;
         let asked = Lengths::asked(region.m, region.patients.len());
         for lengths in lengths_to_try(asked) {
-            let areas = Areas::patterned(lengths, random.number());
-            compare(&mut tally, tested, (&file, &outcomes), clinic, areas)?;
+            for clinic in [present, 256 + present] {
+                let areas = Areas::patterned(lengths, random.number());
+                compare(&mut tally, tested, (&file, &outcomes), clinic, areas)?;
+            }
         }
     }
-    Ok(tally)
+    tally.with_all(&[0, 11, 12, 13])
 }
 
-fn faulty_files(tested: Tested<SheetCall>, seed: u64, count: usize) -> Result<Tally, Difference> {
+pub fn faulty_files(tested: Tested<SheetCall>, seed: u64, count: usize) -> Result<Tally, Difference> {
     let mut tally = Tally::of(&format!("{}, faulty files", tested.name));
     let mut random = Random::of(seed, "sheet, faulty files");
     for case in 0..count {
@@ -118,5 +120,5 @@ fn faulty_files(tested: Tested<SheetCall>, seed: u64, count: usize) -> Result<Ta
         let clinic = random.between(0, 16);
         compare(&mut tally, tested, (&file, &outcomes), clinic, Areas::patterned(lengths, random.number()))?;
     }
-    Ok(tally)
+    tally.with_all(&[1, 2, 3, 4, 5, 6, 7, 8, 9, 10])
 }

@@ -6,11 +6,10 @@ use crate::generate::small::some_of;
 use crate::random::Random;
 use crate::region::{Patient, Region, Table};
 
-/// Two regions, and the clinic that they share.
+/// Two regions that share a clinic, and its number in each: the same in most pairs.
 pub struct Pair {
-    pub clinic: u64,
-    pub one: Region,
-    pub other: Region,
+    pub one: (Region, u64),
+    pub other: (Region, u64),
 }
 
 /// Patients and tables over places: a table's members are places in `beds`.
@@ -23,11 +22,12 @@ struct Part {
 /// so that demand 3 says nothing of it.
 pub fn pair(joined: bool, random: &mut Random) -> Pair {
     let clinic = random.between(0, 15);
+    let other_clinic = if random.chance(75) { clinic } else { random.between(0, 15) };
     let patients = random.between(1, 3);
     let shared = part(patients, 4, random);
     let one = around(&shared, clinic, joined, random);
-    let other = around(&shared, clinic, joined, random);
-    Pair { clinic, one, other }
+    let other = around(&shared, other_clinic, joined, random);
+    Pair { one: (one, clinic), other: (other, other_clinic) }
 }
 
 /// Patients with few beds, and tables with many equal prices, some tables twice.

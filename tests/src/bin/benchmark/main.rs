@@ -3,7 +3,6 @@
 //! regions of the same kind as the script `make_region`; the script's own files can be given too.
 
 mod check_times;
-#[cfg(feature = "list")]
 mod list_times;
 mod timing;
 
@@ -36,16 +35,6 @@ fn run(mut arguments: impl Iterator<Item = String>) -> Result<(), String> {
         }
     }
     check_times::print(&given);
-    print_lists(&given, limit);
+    list_times::print(&given, limit);
     Ok(())
-}
-
-#[cfg(feature = "list")]
-fn print_lists(given: &[(String, Vec<u8>)], limit: Duration) {
-    list_times::print(given, limit);
-}
-
-#[cfg(not(feature = "list"))]
-fn print_lists(_: &[(String, Vec<u8>)], limit: Duration) {
-    println!("list is not measured: build with --features list (limit {} s a region)", limit.as_secs());
 }

@@ -1,0 +1,47 @@
+//! The proved library on memory blocks of exactly the lent lengths, without guard bytes: a memory
+//! checker then sees every read or write beside a file, a plan or an area.
+
+use crate::areas::Areas;
+use crate::boundary;
+use crate::compare::{Calls, Tested};
+
+pub const BARE: Calls = Calls {
+    name: "few, every call",
+    check: Tested { name: "few, check", call: check },
+    price: Tested { name: "few, price", call: price },
+    list: Tested { name: "few, list", call: list },
+    sheet: Tested { name: "few, sheet", call: sheet },
+};
+
+/// Calls with a copy of some bytes that are only to be read, and sees that they stay as they were.
+fn lending<Answer>(bytes: &[u8], call: impl FnOnce(&[u8]) -> Answer) -> Answer {
+    let block: Box<[u8]> = bytes.into();
+    let answer = call(&block);
+    assert!(*block == *bytes, "a call wrote into bytes that it may only read");
+    answer
+}
+
+fn check(file: &[u8]) -> u64 {
+    lending(file, boundary::check)
+}
+
+fn price(file: &[u8], plan: &[u8], result: &mut [u8]) -> u64 {
+    let mut block: Box<[u8]> = (*result).into();
+    let number = lending(file, |file| lending(plan, |plan| boundary::price(file, plan, &mut block)));
+    result.copy_from_slice(&block);
+    number
+}
+
+fn list(file: &[u8], areas: &mut Areas) -> u64 {
+    let mut blocks = areas.bare();
+    let number = lending(file, |file| boundary::list(file, &mut blocks));
+    areas.take(&blocks);
+    number
+}
+
+fn sheet(file: &[u8], clinic: u64, areas: &mut Areas) -> u64 {
+    let mut blocks = areas.bare();
+    let number = lending(file, |file| boundary::sheet(file, clinic, &mut blocks));
+    areas.take(&blocks);
+    number
+}

@@ -1,0 +1,122 @@
+//! Wrong calls of list, made from the proved one or from the independent program.
+
+use crate::areas::Areas;
+use crate::boundary;
+use crate::compare::wrong::checks::line_ended;
+use crate::generate::spelling::with_right_sum;
+use crate::outcomes::Outcomes;
+use crate::plans::{self, Row};
+use crate::reader;
+
+/// Writes other rows than the list's.
+fn other_rows(file: &[u8], areas: &mut Areas, rows: impl Fn(&[Row]) -> Vec<Row>) -> u64 {
+    Outcomes::of(file).rows_call(areas, |_| true, |_, list| rows(list))
+}
+
+pub fn falling_ties(file: &[u8], areas: &mut Areas) -> u64 {
+    other_rows(file, areas, |list| {
+        let mut rows = list.to_vec();
+        rows.sort_by(|one, other| one.cost.cmp(&other.cost).then(other.beds.cmp(&one.beds)));
+        rows
+    })
+}
+
+pub fn last_lost(file: &[u8], areas: &mut Areas) -> u64 {
+    other_rows(file, areas, |list| list[..list.len() - 1].to_vec())
+}
+
+/// The last row's count is lost; the rows stay.
+pub fn last_lost_in_large(file: &[u8], areas: &mut Areas) -> u64 {
+    let number = boundary::list(file, areas);
+    areas.result.lent()[0] = areas.result.contents()[0].saturating_sub(1);
+    number
+}
+
+/// Forbidden plans come into the list where prices of a million seem cheap enough.
+pub fn hyphen_as_price(file: &[u8], areas: &mut Areas) -> u64 {
+    Outcomes::of(file).rows_call(
+        areas,
+        |_| true,
+        |region, _| {
+            let mut region = region.clone();
+            for table in &mut region.tables {
+                table.entries = table.entries.iter().map(|entry| entry.or(Some(1_000_000))).collect();
+            }
+            plans::list(&region)
+        },
+    )
+}
+
+pub fn highest_byte_first(file: &[u8], areas: &mut Areas) -> u64 {
+    other_rows(file, areas, |list| {
+        list.iter().map(|row| Row { cost: row.cost.swap_bytes(), beds: row.beds.clone() }).collect()
+    })
+}
+
+/// Zeros wherever the pattern stands, which has only bytes of 128 and more.
+fn clear(bytes: &mut [u8]) {
+    for byte in bytes.iter_mut().filter(|byte| **byte >= 128) {
+        *byte = 0;
+    }
+}
+
+pub fn beds_cleared(file: &[u8], areas: &mut Areas) -> u64 {
+    let number = boundary::list(file, areas);
+    if number == 0 {
+        clear(areas.beds.lent());
+    }
+    number
+}
+
+pub fn costs_cleared(file: &[u8], areas: &mut Areas) -> u64 {
+    let number = boundary::list(file, areas);
+    if number == 0 {
+        clear(areas.costs.lent());
+    }
+    number
+}
+
+pub fn spilling(file: &[u8], areas: &mut Areas) -> u64 {
+    areas.beds.spill();
+    boundary::list(file, areas)
+}
+
+pub fn thirteen_first(file: &[u8], areas: &mut Areas) -> u64 {
+    match boundary::list(file, areas) {
+        12 if Outcomes::of(file).rows().is_empty() => 13,
+        number => number,
+    }
+}
+
+pub fn short_costs(file: &[u8], areas: &mut Areas) -> u64 {
+    let asked = reader::read(file).map_or(0, |region| region.m as usize * 4);
+    match boundary::list(file, areas) {
+        12 if areas.costs.contents().len() >= asked => 0,
+        number => number,
+    }
+}
+
+pub fn short_result_written(file: &[u8], areas: &mut Areas) -> u64 {
+    let number = boundary::list(file, areas);
+    if areas.result.contents().len() < 8 {
+        areas.result.lent().fill(0);
+    }
+    number
+}
+
+pub fn result_left(file: &[u8], areas: &mut Areas) -> u64 {
+    let before = areas.clone();
+    let number = boundary::list(file, areas);
+    if number != 0 {
+        areas.take(&before);
+    }
+    number
+}
+
+pub fn without_sum(file: &[u8], areas: &mut Areas) -> u64 {
+    boundary::list(&with_right_sum(file), areas)
+}
+
+pub fn line_end_added(file: &[u8], areas: &mut Areas) -> u64 {
+    boundary::list(&line_ended(file), areas)
+}

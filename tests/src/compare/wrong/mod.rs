@@ -1,0 +1,157 @@
+//! Wrong calls, each beside the comparison that must find it: a comparison that finds none of them
+//! could not fail.
+
+mod checks;
+mod lists;
+mod prices;
+mod sheets;
+
+use crate::compare::report::{Difference, Tally};
+use crate::compare::{check, clinic_pairs, every_call, large, list, price, sheet};
+use crate::compare::{Calls, CheckCall, ListCall, PriceCall, SheetCall, Tested, LIBRARY};
+use crate::generate::small::{Kind, KINDS};
+
+/// A comparison of one call, with a seed and a count.
+type Comparison<Call> = fn(Tested<Call>, u64, usize) -> Result<Tally, Difference>;
+
+/// A comparison of all four calls.
+type ComparisonOfAll = fn(Calls, u64, usize) -> Result<Tally, Difference>;
+
+/// One seed and count, so that what is found does not depend on those of the run.
+const SEED: u64 = 1;
+const COUNT: usize = 4_800;
+
+/// Runs every comparison on its wrong calls. Each must end in a difference.
+pub fn run() -> Result<Tally, Difference> {
+    let mut tally = Tally::of("wrong calls, each found");
+    for (name, comparison, call) in wrong_checks() {
+        found(&mut tally, name, comparison(Tested { name, call }, SEED, COUNT))?;
+    }
+    for (name, comparison, call) in wrong_prices() {
+        found(&mut tally, name, comparison(Tested { name, call }, SEED, COUNT))?;
+    }
+    for (name, comparison, call) in wrong_lists() {
+        found(&mut tally, name, comparison(Tested { name, call }, SEED, COUNT))?;
+    }
+    for (name, comparison, call) in wrong_sheets() {
+        found(&mut tally, name, comparison(Tested { name, call }, SEED, COUNT))?;
+    }
+    for (name, comparison, calls) in wrong_calls() {
+        found(&mut tally, name, comparison(calls, SEED, COUNT))?;
+    }
+    Ok(tally)
+}
+
+/// Counts a wrong call that was found: two answers differ, which is more than a number that never came up.
+fn found(tally: &mut Tally, name: &str, compared: Result<Tally, Difference>) -> Result<(), Difference> {
+    let by = match compared {
+        Err(difference) if difference.answers.len() > 1 => {
+            tally.count(0);
+            return Ok(());
+        }
+        Err(lack) => lack.kind,
+        Ok(unmoved) => unmoved.kind().to_string(),
+    };
+    let answers = vec![("not found".to_string(), name.to_string()), ("by".to_string(), by)];
+    Err(Difference { kind: tally.kind().to_string(), file: Vec::new(), answers })
+}
+
+fn wrong_checks() -> Vec<(&'static str, Comparison<CheckCall>, CheckCall)> {
+    vec![
+        ("m 64 is refused", check::good_files, checks::refusing_64),
+        ("65,535 bytes are too long", check::large_files, checks::one_byte_too_strict),
+        ("question 1 is not asked", check::large_files, checks::without::<1>),
+        ("question 2 is not asked", check::single_faults, checks::without::<2>),
+        ("question 3 is not asked", check::single_faults, checks::without::<3>),
+        ("question 4 is not asked", check::single_faults, checks::without::<4>),
+        ("question 5 is not asked", check::single_faults, checks::without::<5>),
+        ("question 6 is not asked", check::single_faults, checks::without::<6>),
+        ("question 7 is not asked", check::single_faults, checks::without::<7>),
+        ("question 8 is not asked", check::single_faults, checks::without::<8>),
+        ("question 9 is not asked", check::single_faults, checks::without::<9>),
+        ("question 10 is not asked", check::single_faults, checks::without::<10>),
+        ("question 4 is put before 3", check::double_faults, checks::sum_first),
+        ("question 10 is not asked of damaged files", check::damaged_files, checks::without::<10>),
+        ("question 2 is not asked of random bytes", check::random_files, checks::without::<2>),
+    ]
+}
+
+fn wrong_prices() -> Vec<(&'static str, Comparison<PriceCall>, PriceCall)> {
+    vec![
+        ("a forbidden plan is allowed, for nothing", price::regions, prices::forbidden_for_nothing),
+        ("a forbidden plan has a total", price::regions, prices::forbidden_with_total),
+        ("the total leaves out the last table", price::regions, prices::without_last_table),
+        ("the limit of every bed is 16", price::regions, prices::beds_below_16),
+        ("a longer plan is cut", price::regions, prices::longer_plan_cut),
+        ("8 bytes of result are enough", price::regions, prices::short_result),
+        ("a refusal leaves the result area", price::regions, prices::result_left),
+        ("question 12 is put before the file's", price::faulty_files, prices::result_first),
+    ]
+}
+
+/// List on small regions of one kind.
+fn list_of<const KIND: usize>(tested: Tested<ListCall>, seed: u64, count: usize) -> Result<Tally, Difference> {
+    list::regions(tested, KINDS[KIND], seed, count)
+}
+
+fn wrong_lists() -> Vec<(&'static str, Comparison<ListCall>, ListCall)> {
+    vec![
+        ("equal totals in falling order", list_of::<{ Kind::Ties as usize }>, lists::falling_ties),
+        ("the last row is lost", list_of::<{ Kind::FewPlans as usize }>, lists::last_lost),
+        ("forbidden is a large price", list_of::<{ Kind::ManyForbidden as usize }>, lists::hyphen_as_price),
+        ("costs are written highest byte first", list_of::<{ Kind::HighPrices as usize }>, lists::highest_byte_first),
+        ("the beds beyond the rows are cleared", list_of::<{ Kind::NoTables as usize }>, lists::beds_cleared),
+        ("the costs beyond the rows are cleared", list_of::<{ Kind::OneBed as usize }>, lists::costs_cleared),
+        ("a byte after the beds is written", list_of::<{ Kind::Interleaved as usize }>, lists::spilling),
+        ("13 before 12", list_of::<{ Kind::NoneAllowed as usize }>, lists::thirteen_first),
+        ("costs of 4 bytes are enough", list::all_lengths, lists::short_costs),
+        ("a short result area is written", list::all_lengths, lists::short_result_written),
+        ("a refusal leaves the result area", list::faulty_files, lists::result_left),
+        ("a row is lost in a large region", large::lists, lists::last_lost_in_large),
+    ]
+}
+
+fn wrong_sheets() -> Vec<(&'static str, Comparison<SheetCall>, SheetCall)> {
+    vec![
+        ("joining tables count in the own cost", sheet::regions, sheets::joining_counted),
+        ("joining tables count in the own cost", sheet::joined_regions, sheets::joining_counted),
+        ("the cost is the plan's total", sheet::regions, sheets::total_as_cost),
+        ("repeated rows are kept", sheet::regions, sheets::repeats_kept),
+        ("rows that repeat a cost are dropped", sheet::regions, sheets::equal_costs_dropped),
+        ("rows repeat only if side by side", sheet::regions, sheets::neighbours_compared),
+        ("rows begin at r x V", sheet::regions, sheets::rows_as_in_list),
+        ("the clinic is cut to 4 bits", sheet::regions, sheets::clinic_cut::<4>),
+        ("the clinic is cut to 8 bits", sheet::regions, sheets::clinic_cut::<8>),
+        ("the clinic is cut to 32 bits", sheet::regions, sheets::clinic_cut::<32>),
+        ("a byte after the costs is written", sheet::regions, sheets::spilling),
+        ("12 before 11", sheet::all_lengths, sheets::twelve_first),
+        ("m x k bytes of beds are enough", sheet::all_lengths, sheets::short_beds),
+        ("a refusal leaves the result area", sheet::faulty_files, sheets::result_left),
+        ("the cost is the plan's total", clinic_pairs::apart, sheets::total_as_cost),
+        ("repeated rows are kept", clinic_pairs::apart, sheets::repeats_kept),
+        ("a sheet without rows", clinic_pairs::apart, sheets::no_rows),
+        ("always 13", clinic_pairs::apart, sheets::always_13),
+        ("joining tables are left out of the list", clinic_pairs::joined, sheets::joining_left_out),
+        ("a row is lost in a large region", large::sheets, sheets::last_lost_in_large),
+    ]
+}
+
+/// One wrong call among the four.
+fn wrong_calls() -> Vec<(&'static str, ComparisonOfAll, Calls)> {
+    let check = |call| Calls { check: Tested { call, ..LIBRARY.check }, ..LIBRARY };
+    let price = |call| Calls { price: Tested { call, ..LIBRARY.price }, ..LIBRARY };
+    let list = |call| Calls { list: Tested { call, ..LIBRARY.list }, ..LIBRARY };
+    let sheet = |call| Calls { sheet: Tested { call, ..LIBRARY.sheet }, ..LIBRARY };
+    vec![
+        ("check takes capitals for small letters", every_call::one_byte_changes, check(checks::capitals_taken)),
+        ("list does not ask for the sum", every_call::one_byte_changes, list(lists::without_sum)),
+        ("price does not ask for the sum", every_call::one_byte_changes, price(prices::without_sum)),
+        ("sheet does not ask for the sum", every_call::one_byte_changes, sheet(sheets::without_sum)),
+        ("check adds a line end", every_call::cuts, check(checks::line_end_added)),
+        ("list adds a line end", every_call::cuts, list(lists::line_end_added)),
+        ("price adds a line end", every_call::cuts, price(prices::line_end_added)),
+        ("sheet adds a line end", every_call::cuts, sheet(sheets::line_end_added)),
+        ("sheet does not ask for the sum of damaged files", every_call::damaged_files, sheet(sheets::without_sum)),
+        ("check does not ask question 2 of random bytes", every_call::random_files, check(checks::without::<2>)),
+    ]
+}
