@@ -25,6 +25,14 @@ const REGIONS: [(u64, u64, u64, f64, u64); 7] = [
     (1, 20, 4, 0.15, 64),
 ];
 
+/// Regions that differ in one thing, to see how the time grows with it.
+const GROWTH: [(&str, [(u64, u64, u64, f64, u64); 4]); 4] = [
+    ("patients of one tree", [(1, 5, 4, 0.3, 10), (1, 10, 4, 0.3, 10), (1, 15, 4, 0.3, 10), (1, 18, 4, 0.3, 10)]),
+    ("clinics", [(1, 4, 4, 1.0, 10), (2, 4, 4, 1.0, 10), (4, 4, 4, 1.0, 10), (8, 4, 4, 1.0, 10)]),
+    ("beds", [(4, 4, 2, 1.0, 10), (4, 4, 4, 1.0, 10), (4, 4, 8, 1.0, 10), (4, 4, 12, 1.0, 10)]),
+    ("m", [(8, 4, 4, 1.0, 1), (8, 4, 4, 1.0, 4), (8, 4, 4, 1.0, 16), (8, 4, 4, 1.0, 64)]),
+];
+
 /// Prints a row for each region; a case for which the baseline takes longer than the limit is not
 /// given to the proved library.
 pub fn print(given: &[(String, Vec<u8>)], limit: Duration) {
@@ -44,6 +52,11 @@ pub fn print(given: &[(String, Vec<u8>)], limit: Duration) {
     }
     for (name, file) in given {
         print_row(&format!("{name} | | given"), file, limit);
+    }
+    for (what, regions) in GROWTH {
+        for region in regions {
+            print_row(&format!("{region:?} | 1 | more {what}"), &file_of(region, 1, false), limit);
+        }
     }
     println!();
 }
