@@ -1,8 +1,8 @@
 pub mod Members
 pub mod Orders
 pub mod First
-pub mod Rising
 pub mod Sorting
+pub mod Rising
 pub mod Combining
 pub mod Occurrences
 pub mod Parts

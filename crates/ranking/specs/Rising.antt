@@ -2,16 +2,12 @@
 use mathlib.Core.Path.{_≡_, refl, ap}
 use native.Mathlib.Omega.{arith}
 use native.Mathlib.Decide.{decLt}
-use lib.ListN.{drop}
 use Prim.Native.Nat.{_≤_}
-use Rattle.definitions.specs.Basics.{ℕ, zero, suc, _<_, Ordering, Ordering·lt, Ordering·eq, Ordering·gt, List, [], _∷_, _++_, length, getD, take, insert, sort}
+use Rattle.definitions.specs.Basics.{ℕ, zero, suc, _<_, Ordering, Ordering·lt, Ordering·eq, Ordering·gt, List, [], _∷_, length, getD, take, insert, sort}
 use Rattle.ranking.specs.Members.{_∈_, here, there}
 use Rattle.ranking.specs.Orders.{Order, View, before, equal, after}
 use Rattle.ranking.specs.First.{Sorted}
-
--- One step of insertion: z goes in front of x, or into the rest.
-abbrev step : {A : Type 0} → Ordering → A → A → List A → List A → List A
-step o z x l rest = elim o [ Ordering·lt ↦ z ∷ x ∷ l | Ordering·eq ↦ z ∷ x ∷ l | Ordering·gt ↦ x ∷ rest ]
+use Rattle.ranking.specs.Sorting.{step}
 
 module _ {A : Type 0} (O : Order A) where
   -- None of a list comes before x; in a rising list, none comes before an earlier one.
@@ -106,21 +102,3 @@ module _ {A : Type 0} (O : Order A) where
       go (before u) never = O .trans u t
       go (equal e) never = rw e t
       go (after u) never = absurd (never u)
-
-  -- A thing is inserted where those before it end.
-  pub insert-at : (z : A) (l : List A) (p : ℕ) (d : A) → p ≤ length l → ((i : ℕ) → i < p → O .Lt (getD l i d) z) → (p < length l → O .Lt (getD l p d) z → ⊥)
-      → insert (O .cmp) z l ≡ take p l ++ z ∷ drop p l
-  insert-at z [] zero d h ahead stop = refl
-  insert-at z [] (suc p) d h ahead stop = absurd (omega arith)
-  insert-at z (x ∷ l) zero d h ahead stop = go (O .view z x)
-    where
-      go : {o : Ordering} → View (O .Lt) z x o → step o z x l (insert (O .cmp) z l) ≡ z ∷ x ∷ l
-      go (before t) = refl
-      go (equal e) = refl
-      go (after t) = absurd (stop (omega arith) t)
-  insert-at z (x ∷ l) (suc p) d h ahead stop = go (O .view z x) (insert-at z l p d (omega arith) (λ i k. ahead (suc i) (omega arith)) (λ k. stop (omega arith)))
-    where
-      go : {o : Ordering} → View (O .Lt) z x o → insert (O .cmp) z l ≡ take p l ++ z ∷ drop p l → step o z x l (insert (O .cmp) z l) ≡ x ∷ (take p l ++ z ∷ drop p l)
-      go (before t) ih = absurd (O .irrefl (O .trans t (ahead 0 (omega arith))))
-      go (equal e) ih = absurd (O .irrefl (rw e at (ahead 0 (omega arith))))
-      go (after t) ih = ap {B = List A} (λ w. x ∷ w) ih

@@ -12,7 +12,7 @@ use Rattle.ranking.specs.Orders.{Order, View, before, equal, after}
 use Rattle.ranking.specs.First.{First, Past, first-iff, first-zero, first-none, first-nil, first-least, first-tail, first-cons, first-unique, first-take}
 
 -- One step of insertion: z goes in front of x, or into the rest.
-abbrev step : {A : Type 0} → Ordering → A → A → List A → List A → List A
+abbrev pub step : {A : Type 0} → Ordering → A → A → List A → List A → List A
 step o z x l rest = elim o [ Ordering·lt ↦ z ∷ x ∷ l | Ordering·eq ↦ z ∷ x ∷ l | Ordering·gt ↦ x ∷ rest ]
 
 -- By any comparison, sorting keeps the elements, their number and that they are distinct.

@@ -7,7 +7,8 @@ use Rattle.definitions.specs.Basics.{ℕ, _+_, _<_, Ordering, Bool, true, false
 use Rattle.definitions.specs.Plans as Said
 use Rattle.definitions.specs.Plans.{compareRows}
 use Rattle.ranking.specs.Orders.{View, before, equal, after}
-use Rattle.ranking.specs.Rising.{Rising, rising-behind, insert-at}
+use Rattle.ranking.specs.Rising.{Rising, rising-behind}
+use Rattle.ranking.specs.Sorting.{insert-at}
 use Rattle.theorems.specs.List.{rowOrder}
 use Rattle.row_list.specs.Rows.{rowWith, rowIn, rowsIn, beforeOr}
 use Rattle.row_list.specs.Laws.{rows-long, rows-at}
