@@ -45,6 +45,7 @@ fn print_text(file: &[u8], text: &mut [u8])
     }
 }
 
+// A read or a write that fails is said on standard error.
 fn main() {
     // One byte more than a region file may have, so that a longer one is seen to be too long.
     let mut file = io::large_buffer();
