@@ -1,15 +1,16 @@
 //! Demand 3 by running: of two files that share a clinic, one sheet is the beginning of the other.
 
 use crate::areas::{Areas, Lengths};
+use crate::baseline;
 use crate::compare::report::{areas_text, Difference, Tally, MANY};
 use crate::compare::{SheetCall, Tested};
-use crate::generate::{pairs, spelling};
+use crate::generate::pairs::{self, Pair, Sizes, LARGE, SMALL};
+use crate::generate::spelling;
 use crate::outcomes::Outcomes;
 use crate::random::Random;
 use crate::region::Region;
 
-/// A sheet as a call left it: its number, the number that the independent program gives, and the
-/// rows as beds and cost.
+/// A sheet as a call left it: its number, the number that is due, and the rows as beds and cost.
 struct Sheet {
     file: Vec<u8>,
     clinic: u64,
@@ -20,16 +21,36 @@ struct Sheet {
 }
 
 pub fn run(tested: Tested<SheetCall>, seed: u64, count: usize) -> Result<Vec<Tally>, Difference> {
-    Ok(vec![apart(tested, seed, count)?, joined(tested, seed, count)?])
+    Ok(vec![apart(tested, seed, count)?, apart_large(tested, seed, count / 2)?, joined(tested, seed, count)?])
 }
 
 /// Pairs that demand 3 speaks of: no table joins the clinic.
 pub fn apart(tested: Tested<SheetCall>, seed: u64, count: usize) -> Result<Tally, Difference> {
-    let mut tally = Tally::of(&format!("{}, pairs (demand 3)", tested.name));
-    let mut random = Random::of(seed, "sheet, pairs");
+    let tally = Tally::of(&format!("{}, pairs (demand 3)", tested.name));
+    compare_apart(tally, tested, independent_number, SMALL, Random::of(seed, "sheet, pairs"), count)
+}
+
+/// Such pairs with too many plans to walk; the number that is due is the baseline's.
+pub fn apart_large(tested: Tested<SheetCall>, seed: u64, count: usize) -> Result<Tally, Difference> {
+    let tally = Tally::of(&format!("{}, large pairs (demand 3)", tested.name));
+    compare_apart(tally, tested, baseline::calls::sheet, LARGE, Random::of(seed, "sheet, large pairs"), count)
+}
+
+fn independent_number(file: &[u8], clinic: u64, areas: &mut Areas) -> u64 {
+    Outcomes::of(file).sheet(clinic, areas)
+}
+
+fn compare_apart(
+    mut tally: Tally,
+    tested: Tested<SheetCall>,
+    due: SheetCall,
+    sizes: Sizes,
+    mut random: Random,
+    count: usize,
+) -> Result<Tally, Difference> {
     let (mut printed, mut telling, mut uneven) = (0, 0, 0);
     for _ in 0..count {
-        let (one, other) = both_called(tested, false, &mut random);
+        let (one, other) = both_called(tested, due, &pairs::pair(sizes, false, &mut random), &mut random);
         let both = one.number == 0 && other.number == 0;
         let has_rows = |sheet: &Sheet| sheet.number != 0 || !sheet.rows.is_empty();
         let agree = one.as_due() && other.as_due() && has_rows(&one) && has_rows(&other);
@@ -53,7 +74,8 @@ pub fn joined(tested: Tested<SheetCall>, seed: u64, count: usize) -> Result<Tall
     let mut random = Random::of(seed, "sheet, joined pairs");
     let mut differ = 0;
     for _ in 0..count {
-        let (one, other) = both_called(tested, true, &mut random);
+        let pair = pairs::pair(SMALL, true, &mut random);
+        let (one, other) = both_called(tested, independent_number, &pair, &mut random);
         if !one.as_due() || !other.as_due() {
             return Err(difference(&tally, &one, &other));
         }
@@ -74,18 +96,17 @@ fn enough(tally: Tally, pairs: u64, what: &str) -> Result<Tally, Difference> {
     Err(Difference { kind: tally.kind().to_string(), file: Vec::new(), answers })
 }
 
-fn both_called(tested: Tested<SheetCall>, joined: bool, random: &mut Random) -> (Sheet, Sheet) {
-    let pair = pairs::pair(joined, random);
-    (called(tested, &pair.one, random), called(tested, &pair.other, random))
+fn both_called(tested: Tested<SheetCall>, due: SheetCall, pair: &Pair, random: &mut Random) -> (Sheet, Sheet) {
+    (called(tested, due, &pair.one, random), called(tested, due, &pair.other, random))
 }
 
 /// Calls sheet with areas that are long enough, of some length, filled with some pattern.
-fn called(tested: Tested<SheetCall>, (region, clinic): &(Region, u64), random: &mut Random) -> Sheet {
+fn called(tested: Tested<SheetCall>, due: SheetCall, (region, clinic): &(Region, u64), random: &mut Random) -> Sheet {
     let file = spelling::file_of(region);
     let asked = Lengths::asked(region.m, region.patients.len());
     let lengths = Lengths { beds: asked.beds + random.below(9), costs: asked.costs + random.below(9), ..asked };
     let mut areas = Areas::patterned(lengths, random.number());
-    let due = Outcomes::of(&file).sheet(*clinic, &mut areas.clone());
+    let due = due(&file, *clinic, &mut areas.clone());
     let number = (tested.call)(&file, *clinic, &mut areas);
     let rows = rows_left(&areas, region.patients_of(*clinic).len());
     Sheet { file, clinic: *clinic, number, due, rows, areas }

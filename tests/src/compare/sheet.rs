@@ -83,7 +83,7 @@ pub fn joined_regions(tested: Tested<SheetCall>, seed: u64, count: usize) -> Res
     let mut tally = Tally::of(&format!("{}, clinics apart or joined", tested.name));
     let mut random = Random::of(seed, "sheet, clinics apart or joined");
     for case in 0..count {
-        let pair = pairs::pair(case % 2 == 1, &mut random);
+        let pair = pairs::pair(pairs::SMALL, case % 2 == 1, &mut random);
         every_clinic(&mut tally, tested, &pair.one.0, &mut random)?;
     }
     tally.with_all(&[0, 11, 12, 13])

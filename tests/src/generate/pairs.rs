@@ -18,23 +18,39 @@ struct Part {
     tables: Vec<Table>,
 }
 
+/// The most patients of the shared clinic and elsewhere, beds a patient, and tables of each of the two.
+#[derive(Clone, Copy)]
+pub struct Sizes {
+    patients: u64,
+    strangers: u64,
+    beds: u64,
+    tables: u64,
+}
+
+/// Few enough plans to walk them.
+pub const SMALL: Sizes = Sizes { patients: 3, strangers: 4, beds: 3, tables: 4 };
+
+/// Far more plans than can be walked.
+pub const LARGE: Sizes = Sizes { patients: 6, strangers: 20, beds: 5, tables: 12 };
+
 /// A pair; where `joined`, each file has a table that joins the clinic to a patient elsewhere,
 /// so that demand 3 says nothing of it.
-pub fn pair(joined: bool, random: &mut Random) -> Pair {
+pub fn pair(sizes: Sizes, joined: bool, random: &mut Random) -> Pair {
     let clinic = random.between(0, 15);
     let other_clinic = if random.chance(75) { clinic } else { random.between(0, 15) };
-    let patients = random.between(1, 3);
-    let shared = part(patients, 4, random);
-    let one = around(&shared, clinic, joined, random);
-    let other = around(&shared, other_clinic, joined, random);
+    let patients = random.between(1, sizes.patients);
+    let shared = part(patients, sizes, random);
+    let strangers = |random: &mut Random| part(random.between(u64::from(joined), sizes.strangers), sizes, random);
+    let one = around(&shared, &strangers(random), clinic, joined, random);
+    let other = around(&shared, &strangers(random), other_clinic, joined, random);
     Pair { one: (one, clinic), other: (other, other_clinic) }
 }
 
 /// Patients with few beds, and tables with many equal prices, some tables twice.
-fn part(patients: u64, most_tables: u64, random: &mut Random) -> Part {
-    let beds: Vec<u64> = (0..patients).map(|_| random.between(1, 3)).collect();
+fn part(patients: u64, sizes: Sizes, random: &mut Random) -> Part {
+    let beds: Vec<u64> = (0..patients).map(|_| random.between(1, sizes.beds)).collect();
     let mut tables: Vec<Table> = Vec::new();
-    for _ in 0..random.between(0, most_tables) {
+    for _ in 0..random.between(0, sizes.tables) {
         if beds.is_empty() {
             break;
         }
@@ -54,10 +70,7 @@ fn entries(size: u64, random: &mut Random) -> Vec<Option<u64>> {
 }
 
 /// A region with the shared clinic, other patients put between its own, and tables in any order.
-fn around(shared: &Part, clinic: u64, joined: bool, random: &mut Random) -> Region {
-    let fewest = u64::from(joined);
-    let strangers = random.between(fewest, 4);
-    let rest = part(strangers, 4, random);
+fn around(shared: &Part, rest: &Part, clinic: u64, joined: bool, random: &mut Random) -> Region {
     let all = shared.beds.len() + rest.beds.len();
     let numbers = some_of((0..all as u64).collect(), shared.beds.len(), random);
     let other_numbers: Vec<u64> = (0..all as u64).filter(|number| !numbers.contains(number)).collect();

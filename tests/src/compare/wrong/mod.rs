@@ -131,6 +131,7 @@ fn wrong_sheets() -> Vec<(&'static str, Comparison<SheetCall>, SheetCall)> {
         ("repeated rows are kept", clinic_pairs::apart, sheets::repeats_kept),
         ("a sheet without rows", clinic_pairs::apart, sheets::no_rows),
         ("always 13", clinic_pairs::apart, sheets::always_13),
+        ("the cost tells of the other patients", clinic_pairs::apart_large, sheets::cost_with_patients),
         ("joining tables are left out of the list", clinic_pairs::joined, sheets::joining_left_out),
         ("a row is lost in a large region", large::sheets, sheets::last_lost_in_large),
     ]

@@ -141,6 +141,15 @@ pub fn joining_left_out(file: &[u8], clinic: u64, areas: &mut Areas) -> u64 {
     boundary::sheet(&file_of(&region), clinic, areas)
 }
 
+/// The first row's cost has the number of all patients in it.
+pub fn cost_with_patients(file: &[u8], clinic: u64, areas: &mut Areas) -> u64 {
+    let number = boundary::sheet(file, clinic, areas);
+    if number == 0 {
+        areas.costs.lent()[7] = reader::read(file).map_or(0, |region| region.patients.len() as u8);
+    }
+    number
+}
+
 /// The last row's count is lost; the rows stay.
 pub fn last_lost_in_large(file: &[u8], clinic: u64, areas: &mut Areas) -> u64 {
     let number = boundary::sheet(file, clinic, areas);
