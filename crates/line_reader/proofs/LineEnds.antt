@@ -6,14 +6,12 @@ use native.Mathlib.Numerals.{add-one}
 use native.Mathlib.Omega.{arith}
 use lib.ListN.{length, getD, take, drop, length-drop, drop-of-length-le}
 use lib.Seq.{drop-cons, drop-drop}
+use lib.Dec.{eqb}
+use mathlib.Core.Bool.{true, not, _&&_, and-eq-true-iff}
+use borrow.Author.Tests.{eqb-false, not-true}
 use Rattle.definitions.specs.Layout.{lines}
 use Rattle.line_reader.specs.Answers.{LineEnd}
-use Rattle.line_reader.specs.Lines.{lineLength, line-ends, line-goes-on, lines-cut}
-
-pub record Seeking (s : List ℕ) (at i : ℕ) : Type 0 where
-  pub low : at ≤ i
-  pub high : i ≤ max at (length s)
-  pub same : i + lineLength (drop i s) ≡ at + lineLength (drop at s)
+use Rattle.line_reader.specs.Lines.{lineLength, Seeking, goesOn, fourGoOn, line-ends, line-goes-on, lines-cut}
 
 pub seeking-start : (s : List ℕ) (at : ℕ) → Seeking s at at
 seeking-start s at = record { low = omega arith; high = omega arith; same = refl }
@@ -48,3 +46,27 @@ module _ {s : List ℕ} {at i : ℕ} (k : Seeking s at i) where
       let f = k .same in
       let e : lineLength (drop i s) ≡ 0 = ap lineLength (drop-of-length-le s h) in
       record { cut = λ b. cut-at s at (length s) (omega arith) b; ahead = omega arith; within = omega arith }
+
+-- Four bytes of which none is a line end are passed.
+pub seeking-four : {s : List ℕ} {at i : ℕ} → Seeking s at i → i + 4 ≤ length s → fourGoOn s i ≡ true → Seeking s at (i + 4)
+seeking-four {s} {at} {i} k h four =
+    let (a, three) = and-eq-true-iff (goesOn s i) (goesOn s (i + 1) && (goesOn s (i + 2) && goesOn s (i + 3))) .0 four in
+    let (b, two) = and-eq-true-iff (goesOn s (i + 1)) (goesOn s (i + 2) && goesOn s (i + 3)) .0 three in
+    let (c, d) = and-eq-true-iff (goesOn s (i + 2)) (goesOn s (i + 3)) .0 two in
+    let first = seeking-on k (omega arith) (goes-on a) in
+    let second = seeking-on first (omega arith) (goes-on b) in
+    let third = seeking-on (rw two-on at second) (omega arith) (goes-on c) in
+    let fourth = seeking-on (rw three-on at third) (omega arith) (goes-on d) in
+    rw four-on at fourth
+  where
+    goes-on : {x : ℕ} → not (eqb x 10) ≡ true → x ≡ 10 → ⊥
+    goes-on {x} e same = eqb-false x 10 (not-true (eqb x 10) e) same
+
+    two-on : i + 1 + 1 ≡ i + 2
+    two-on = omega arith
+
+    three-on : i + 2 + 1 ≡ i + 3
+    three-on = omega arith
+
+    four-on : i + 3 + 1 ≡ i + 4
+    four-on = omega arith

@@ -3,13 +3,27 @@ use mathlib.Core.Path.{ap}
 use native.Mathlib.Omega.{arith}
 use borrow.Author.Tests.{eq-eqb, ne-eqb, eqb-true, eqb-false}
 use lib.ListN.{take, drop}
-use Rattle.definitions.specs.Basics.{ℕ, suc, _<_, _≡_, refl, Bool, true, false, List, [], _∷_, length, eqb}
+use Prim.Native.Nat.{_≤_, max}
+use Rattle.definitions.specs.Basics.{ℕ, suc, _+_, _<_, _≡_, refl, Bool, true, false, not, _&&_, List, [], _∷_, length, getD, eqb}
 use Rattle.definitions.specs.Layout.{lines, ontoFirst}
 
 -- How many bytes the first line has, its line end among them.
 abbrev pub lineLength : List ℕ → ℕ
 lineLength [] = 0
 lineLength (b ∷ bs) = elim (eqb b 10) [ true ↦ 1 | false ↦ suc (lineLength bs) ]
+
+-- A line that begins at a place is sought up to place i: what is left of it from there on is the rest of it.
+pub record Seeking (s : List ℕ) (at i : ℕ) : Type 0 where
+  pub low : at ≤ i
+  pub high : i ≤ max at (length s)
+  pub same : i + lineLength (drop i s) ≡ at + lineLength (drop at s)
+
+-- Does the line go on at a place? At the four places from one on?
+abbrev pub goesOn : List ℕ → ℕ → Bool
+goesOn s i = not (eqb (getD s i 0) 10)
+
+abbrev pub fourGoOn : List ℕ → ℕ → Bool
+fourGoOn s i = goesOn s i && (goesOn s (i + 1) && (goesOn s (i + 2) && goesOn s (i + 3)))
 
 module _ (b : ℕ) (bs : List ℕ) where
   pub line-ends : b ≡ 10 → lineLength (b ∷ bs) ≡ 1

@@ -7,18 +7,44 @@ use scanner::hyphen_or_number_at;
 use scanner::number_then;
 use scanner::word_at;
 ghost use mathlib.Core.Path.{_≡_};
-ghost use Prim.Native.Nat.{_≤_};
+ghost use Prim.Native.Nat.{_+_, _≤_};
 ghost use lib.ListN.{length, take};
 ghost use Rattle.definitions.specs.Basics.{sum};
 ghost use Rattle.definitions.specs.Layout.{whole, regionLine, patientLine, endLine};
 ghost use Rattle.definitions.specs.Questions.{checksum};
 ghost use Rattle.line_reader.specs.Answers.{LineEnd, regionRead, patientRead, endRead};
+ghost use Rattle.line_reader.specs.Lines.{Seeking, fourGoOn};
+
+// Are the four bytes from a place on no line ends?
+fn four_go_on(s: &[u8], at: usize) -> bool
+    requires { ⌜ at + 4 ≤ length (now s) ⌝ }
+    ensures { λ r. ⌜ r ≡ fourGoOn (now (s .entry)) at ⌝ }
+{
+    s[at] != b'\n' && (s[at + 1] != b'\n' && (s[at + 2] != b'\n' && s[at + 3] != b'\n'))
+}
+
+// A place on the line that begins at a place: four bytes at a time are passed while none of them ends the line.
+fn pass_fours(s: &[u8], at: usize) -> usize
+    ensures { λ r. ⌜ Seeking (now (s .entry)) at r ⌝ }
+{
+    let mut i = at;
+    while i < s.len() {
+        if s.len() - i < 4 {
+            return i;
+        }
+        if !four_go_on(s, i) {
+            return i;
+        }
+        i += 4;
+    }
+    i
+}
 
 // The place after the line that begins at a place.
 pub fn line_end(s: &[u8], at: usize) -> usize
     ensures { λ r. ⌜ LineEnd (now (s .entry)) at r ⌝ }
 {
-    let mut i = at;
+    let mut i = pass_fours(s, at);
     while i < s.len() {
         if s[i] == b'\n' {
             return i + 1;

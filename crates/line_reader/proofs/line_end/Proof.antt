@@ -1,7 +1,8 @@
 use Prim.Native.Nat.{_-_}
 use lib.ListN.{length}
 use borrow.Author.Needs.{needs}
-use Rattle.line_reader.proofs.LineEnds.{Seeking, seeking-start, seeking-on, seeking-here, seeking-out}
+use Rattle.line_reader.specs.Lines.{Seeking}
+use Rattle.line_reader.proofs.LineEnds.{seeking-on, seeking-here, seeking-out}
 use Rattle.line_reader.proofs.line_end.Statement.{statement}
 use Rattle.line_reader.proofs.line_end.Tie as tie
 
@@ -11,8 +12,11 @@ Inv-loop s at i₀ i = Seeking s at i
 abbrev μ-loop : tie.MeasureT-loop
 μ-loop s at i₀ i = length s - i
 
+pass-fours-requires : tie.Need-pass-fours-requires Inv-loop μ-loop
+pass-fours-requires c κs = search needs
+
 loop-holds : tie.Need-loop-holds Inv-loop μ-loop
-loop-holds c = seeking-start _ _
+loop-holds c = c .pass-fours .ensures
 
 shared-slice-read-if1 : tie.Need-shared-slice-read-if1 Inv-loop μ-loop
 shared-slice-read-if1 c = search needs
@@ -41,6 +45,7 @@ line-end-spec =
     (tie.spec
     Inv-loop
     μ-loop
+    pass-fours-requires
     loop-holds
     shared-slice-read-if1
     add-result
