@@ -70,3 +70,6 @@ seeking-four {s} {at} {i} k h four =
 
     four-on : i + 3 + 1 ≡ i + 4
     four-on = omega arith
+
+pub seeking-eight : {s : List ℕ} {at : ℕ} (i : ℕ) → Seeking s at (i + 4 + 4) → Seeking s at (i + 8)
+seeking-eight i k = let e : i + 4 + 4 ≡ i + 8 = omega arith in rw e at k

@@ -23,19 +23,22 @@ fn four_go_on(s: &[u8], at: usize) -> bool
     s[at] != b'\n' && (s[at + 1] != b'\n' && (s[at + 2] != b'\n' && s[at + 3] != b'\n'))
 }
 
-// A place on the line that begins at a place: four bytes at a time are passed while none of them ends the line.
-fn pass_fours(s: &[u8], at: usize) -> usize
+// A place on the line that begins at a place: eight bytes at a time are passed while none of them ends the line.
+fn pass_eights(s: &[u8], at: usize) -> usize
     ensures { λ r. ⌜ Seeking (now (s .entry)) at r ⌝ }
 {
     let mut i = at;
     while i < s.len() {
-        if s.len() - i < 4 {
+        if s.len() - i < 8 {
             return i;
         }
         if !four_go_on(s, i) {
             return i;
         }
-        i += 4;
+        if !four_go_on(s, i + 4) {
+            return i;
+        }
+        i += 8;
     }
     i
 }
@@ -44,7 +47,7 @@ fn pass_fours(s: &[u8], at: usize) -> usize
 pub fn line_end(s: &[u8], at: usize) -> usize
     ensures { λ r. ⌜ LineEnd (now (s .entry)) at r ⌝ }
 {
-    let mut i = pass_fours(s, at);
+    let mut i = pass_eights(s, at);
     while i < s.len() {
         if s[i] == b'\n' {
             return i + 1;

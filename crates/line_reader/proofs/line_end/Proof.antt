@@ -12,11 +12,11 @@ Inv-loop s at i₀ i = Seeking s at i
 abbrev μ-loop : tie.MeasureT-loop
 μ-loop s at i₀ i = length s - i
 
-pass-fours-requires : tie.Need-pass-fours-requires Inv-loop μ-loop
-pass-fours-requires c κs = search needs
+pass-eights-requires : tie.Need-pass-eights-requires Inv-loop μ-loop
+pass-eights-requires c κs = search needs
 
 loop-holds : tie.Need-loop-holds Inv-loop μ-loop
-loop-holds c = c .pass-fours .ensures
+loop-holds c = c .pass-eights .ensures
 
 shared-slice-read-if1 : tie.Need-shared-slice-read-if1 Inv-loop μ-loop
 shared-slice-read-if1 c = search needs
@@ -45,7 +45,7 @@ line-end-spec =
     (tie.spec
     Inv-loop
     μ-loop
-    pass-fours-requires
+    pass-eights-requires
     loop-holds
     shared-slice-read-if1
     add-result

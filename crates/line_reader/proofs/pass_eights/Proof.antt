@@ -5,9 +5,9 @@ use mathlib.Core.Path.{sym, _∙_}
 use Prim.Native.Nat.{_-_}
 use lib.ListN.{length}
 use Rattle.line_reader.specs.Lines.{Seeking}
-use Rattle.line_reader.proofs.LineEnds.{seeking-start, seeking-four}
-use Rattle.line_reader.proofs.pass_fours.Statement.{statement}
-use Rattle.line_reader.proofs.pass_fours.Tie as tie
+use Rattle.line_reader.proofs.LineEnds.{seeking-start, seeking-four, seeking-eight}
+use Rattle.line_reader.proofs.pass_eights.Statement.{statement}
+use Rattle.line_reader.proofs.pass_eights.Tie as tie
 
 abbrev Inv-loop : tie.InvT-loop
 Inv-loop s at i₀ i = Seeking s at i
@@ -30,6 +30,15 @@ four-go-on-requires c κs = omega arith
 returns-2 : tie.Need-returns-2 Inv-loop μ-loop
 returns-2 c = c .before .before .before .before .loop .inv
 
+add-four-go-on : tie.Need-add-four-go-on Inv-loop μ-loop
+add-four-go-on c = search needs
+
+four-go-on-requires-2 : tie.Need-four-go-on-requires-2 Inv-loop μ-loop
+four-go-on-requires-2 c κs = omega arith
+
+returns-3 : tie.Need-returns-3 Inv-loop μ-loop
+returns-3 c = c .before .before .before .before .before .before .loop .inv
+
 add-i : tie.Need-add-i Inv-loop μ-loop
 add-i c = search needs
 
@@ -37,13 +46,15 @@ loop-less : tie.Need-loop-less Inv-loop μ-loop
 loop-less c = omega arith
 
 loop-again : tie.Need-loop-again Inv-loop μ-loop
-loop-again c = seeking-four (c .before .before .before .before .loop .inv) (omega arith) (sym (c .before .four-go-on .ensures) ∙ not-false _ (c .if2 .left))
+loop-again c =
+    let first = seeking-four (c .before .before .before .before .before .before .loop .inv) (omega arith) (sym (c .before .before .before .four-go-on .ensures) ∙ not-false _ (c .before .before .if2 .left)) in
+    seeking-eight _ (seeking-four first (omega arith) (sym (c .before .four-go-on2 .ensures) ∙ not-false _ (c .if3 .left)))
 
-returns-3 : tie.Need-returns-3 Inv-loop μ-loop
-returns-3 c = c .before .loop .inv
+returns-4 : tie.Need-returns-4 Inv-loop μ-loop
+returns-4 c = c .before .loop .inv
 
-pub pass-fours-spec : {M : Type 1} → statement M
-pass-fours-spec =
+pub pass-eights-spec : {M : Type 1} → statement M
+pass-eights-spec =
     tie.close
     (tie.spec
     Inv-loop
@@ -53,7 +64,10 @@ pass-fours-spec =
     returns
     four-go-on-requires
     returns-2
+    add-four-go-on
+    four-go-on-requires-2
+    returns-3
     add-i
     loop-less
     loop-again
-    returns-3)
+    returns-4)
