@@ -16,7 +16,7 @@ use Rattle.held_region.specs.declared.Region.{Region}
 use Rattle.held_region.specs.Held.{Holds}
 use Rattle.buckets.specs.Terms.{Planned}
 use Rattle.row_list.specs.Rows.{rowIn, rowsIn}
-use Rattle.row_list.specs.Laws.{rows-long, rows-at}
+use Rattle.row_list.specs.Laws.{cut-long, cut-at}
 use Rattle.row_writer.specs.Writing.{RowsWritten}
 use Rattle.search.specs.Trees.{AsksRegion}
 use Rattle.planner.specs.Lists.{longEnough}
@@ -52,13 +52,13 @@ module _ (h : Region) {long : Bool} (beds costs work : List ℕ) (asked : long �
 -- Rows that lie in an area.
 module _ (v n : ℕ) (area : List ℕ) {rows : List Row} (is : rowsIn v n area ≡ rows) where
   pub rows-counted : n ≡ length rows
-  rows-counted = sym (rows-long v n area) ∙ ap length is
+  rows-counted = sym (cut-long v n area) ∙ ap length is
 
   -- Costs of at most 64,000,000 fit the 32 bits that they get.
   pub narrow : ((z : Row) → z ∈ rows → z .cost ≤ 64_000_000) → (i : ℕ) → i < n → rowIn v area i .cost < 4_294_967_296
   narrow small i l =
       let d : Row = record { cost = 0; beds = [] } in
-      let row : rowIn v area i ≡ getD rows i d = rows-at v n area i d l ∙ ap (λ z. getD z i d) is in
+      let row : rowIn v area i ≡ getD rows i d = cut-at v n area i d l ∙ ap (λ z. getD z i d) is in
       let most = small (getD rows i d) (getD-in rows i d (omega (arith, rows-counted))) in
       omega (arith, ap (λ (z : Row). z .cost) row, most)
 

@@ -3,7 +3,7 @@ use mathlib.Core.Path.{_≡_, sym, ap, _∙_}
 use Prim.Native.Nat.{_≤_}
 use native.Mathlib.Nat.{le-trans, mul-le-mul-right}
 use native.Mathlib.Omega.{arith}
-use Rattle.definitions.specs.Basics.{ℕ, Bool, true, false, List, [], _∷_, length, replicate}
+use Rattle.definitions.specs.Basics.{ℕ, Bool, true, false, List, [], _∷_, map, length, replicate}
 use Rattle.definitions.specs.Limits.{limits}
 use Rattle.definitions.specs.Syntax as Said
 use Rattle.definitions.specs.Plans.{Row, listOf}
@@ -12,6 +12,7 @@ use Rattle.definitions.specs.Outcomes.{written, outcomeOf}
 use Rattle.ranking.specs.Members.{_∈_}
 use Rattle.theorems.specs.Accepted.{total-most}
 use Rattle.theorems.specs.List.{list-first}
+use Rattle.partial_rows.specs.Padding.{cut}
 use Rattle.held_region.specs.declared.Region.{Region}
 use Rattle.held_region.specs.Held.{Holds}
 use Rattle.buckets.specs.Terms.{Answered, Planned}
@@ -35,7 +36,7 @@ module _ (h : Region) (planned : Planned h) {n : ℕ} {work area : List ℕ} (gi
 
   found : (r : Said.Region) → Holds h r → Answered r → rowsIn (h .v) n area ≡ listOf r
   unfolding part
-  found r holds answered = sym (rows-take (h .v) n 2_176 area (counts-few h planned .0) (omega (arith, most))) ∙ gives .list r holds answered
+  found r holds answered = sym (ap (map (cut (h .v))) (rows-take n 384 area (omega (arith, most)))) ∙ gives .list r holds answered
 
   pub found-count : (r : Said.Region) → Holds h r → Answered r → n ≡ length (listOf r)
   found-count r holds answered = rows-counted (h .v) n area (found r holds answered)

@@ -76,7 +76,7 @@ module _ (file out : List ℕ) where
       unfolding printed listFound askedByList regionText
       region-said = ap (λ n. printedAnswer n (regionOf file)) (after-check file (lastAsked (regionOf file) true) checked)
 
-      pub asks-text : (work : List ℕ) → 6_528 ≤ length work → AsksText (loaded .region) out work
+      pub asks-text : (work : List ℕ) → 1_152 ≤ length work → AsksText (loaded .region) out work
       asks-text work enough = record {
         planned = record { region = regionOf file; holds = from .holds holds; answered = answered file checked };
         long = enough;

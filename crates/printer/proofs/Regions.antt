@@ -11,7 +11,7 @@ use Rattle.held_region.specs.declared.Region as Code
 use Rattle.held_region.specs.Held.{Holds}
 use Rattle.buckets.specs.Terms.{Answered}
 use Rattle.row_list.specs.Rows.{rowsIn}
-use Rattle.row_list.specs.Laws.{rows-long}
+use Rattle.row_list.specs.Laws.{cut-long}
 use Rattle.row_sums.specs.Sums.{part}
 use Rattle.row_sums.specs.Areas.{part-long}
 use Rattle.search.specs.Trees.{GivesRegion}
@@ -32,7 +32,7 @@ module _ (h : Code.Region) (out work : List ℕ) (asks : AsksText h out work) {n
 
   -- As many rows as the list has.
   counted : (r : Region) → Holds h r → Answered r → n ≡ length (listOf r)
-  counted r holds answered = sym (rows-long (h .v) n (part 0 area)) ∙ ap length (gives .list r holds answered)
+  counted r holds answered = sym (cut-long (h .v) n (part 0 area)) ∙ ap length (gives .list r holds answered)
 
   -- Question 13 is answered no.
   module _ (none-found : n ≡ 0) where

@@ -33,7 +33,7 @@ WroteOf h said at out after end = (r : Region) → Holds h r → Answered r → 
 pub record Listed (h : Code.Region) (n : ℕ) (work : List ℕ) : Type 0 where
   pub planned : Planned h
   pub few : n ≤ 64
-  pub long : 6_528 ≤ length work
+  pub long : 1_152 ≤ length work
   pub list : (r : Region) → Holds h r → Answered r → listAt (h .v) n 0 work ≡ listOf r
 
 pub record Kept (h : Code.Region) (n : ℕ) (work after : List ℕ) : Type 0 where
@@ -60,7 +60,7 @@ GivesSheets h at out after end = WroteOf h (λ r. sheetsFrom r 0) at out after e
 -- The whole text.
 pub record AsksText (h : Code.Region) (out work : List ℕ) : Type 0 where
   pub planned : Planned h
-  pub long : 6_528 ≤ length work
+  pub long : 1_152 ≤ length work
   pub room : Room (regionText (planned .region)) 0 out
 
 abbrev pub GivesText : Code.Region → List ℕ → List ℕ → ℕ → Type 0

@@ -18,7 +18,7 @@ use sheets::sheet_rows;
 const LONGEST: usize = 32_106;
 
 // How many numbers of work area the list asks for.
-const WORK: usize = 6_528;
+const WORK: usize = 1_152;
 
 // How many clinics there can be.
 const CLINICS: u64 = 16;

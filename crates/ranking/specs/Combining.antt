@@ -8,8 +8,9 @@ use Rattle.definitions.specs.Basics.{ℕ, _≡_, refl, List, [], _∷_, map, fl
 use Rattle.ranking.specs.Members.{_∈_, _⊆_, here, there, here-or-there, none-in-nil, Distinct, Enumerates, distinct-append, distinct-map}
 use Rattle.ranking.specs.Members.{in-append-left, in-append-right, in-append-cases, in-map, in-map-cases, in-cast}
 use Rattle.ranking.specs.Orders.{Order}
-use Rattle.ranking.specs.First.{First, Sorted, FullBefore, Covered, sorted-distinct, first-covered}
+use Rattle.ranking.specs.First.{First, FullBefore, Covered, sorted-distinct, first-covered}
 use Rattle.ranking.specs.Sorting.{first-of}
+use Rattle.ranking.specs.Mapped.{sorted-map}
 
 module _ {A B C : Type 0} (combine : A → B → C) where
   -- c combines a part in P with a part in Q.
@@ -73,18 +74,11 @@ covered-map : {A C : Type 0} {O : Order A} {U : Order C} {P : A → Type 0} {S :
     → m ≤ n → First O n P l → P a → FullBefore O n l a → Covered U m S (f a)
 covered-map {A} {O} {U} {P} {l} {a} f rising g le h p c = record {
   things = map f l;
-  rising = sorted l (λ x i. h .sound i) (h .sorted);
+  rising = sorted-map O U f rising l (λ x i. h .sound i) (h .sorted);
   within = λ z k. let (y, i, e) = in-map-cases f l k in rw e at (g y i);
   earlier = λ z k. let (y, i, e) = in-map-cases f l k in rw e at (rising y a (h .sound i) p (c .ahead i));
   enough = omega (arith, length-map l f, c .full);
 }
-  where
-    sorted : (k : List A) → ((x : A) → x ∈ k → P x) → Sorted O k → Sorted U (map f k)
-    sorted [] q s = tt
-    sorted (x ∷ k) q s = (
-      λ z t. let (y, i, e) = in-map-cases f k t in rw e at (rising x y (q x (here refl)) (q y (there i)) (s .0 y i)),
-      sorted k (λ y i. q y (there i)) (s .1),
-    )
 
 -- A larger part makes a larger combination.
 pub record Rising {A B C : Type 0} (O : Order A) (U : Order B) (W : Order C) (combine : A → B → C) (P : A → Type 0) (Q : B → Type 0) : Type 0 where

@@ -3,6 +3,7 @@ pub mod Orders
 pub mod First
 pub mod Sorting
 pub mod Rising
+pub mod Mapped
 pub mod Combining
 pub mod Occurrences
 pub mod Parts

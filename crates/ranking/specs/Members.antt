@@ -3,7 +3,8 @@ use mathlib.Core.Path.{sym}
 use mathlib.Core.Logic.{inl, inr}
 use mathlib.Core.List.{List·Memᴰ}
 use native.Mathlib.Omega.{arith}
-use Rattle.definitions.specs.Basics.{ℕ, zero, suc, _<_, _≡_, refl, List, [], _∷_, _++_, map, length, getD}
+use lib.ListN.{drop}
+use Rattle.definitions.specs.Basics.{ℕ, zero, suc, _<_, _≡_, refl, List, [], _∷_, _++_, map, length, getD, take}
 pub use mathlib.Core.List.{List·Memᴰ·head as here, List·Memᴰ·tail as there, List·Memᴰ·cases-cons as here-or-there, List·Memᴰ·not-nil as none-in-nil}
 pub use mathlib.Core.List.{Memᴰ·append-left as in-append-left, Memᴰ·append-right as in-append-right, List·Memᴰ·append-cases as in-append-cases}
 pub use mathlib.Core.List.{Memᴰ·map as in-map, Memᴰ·of-map as in-map-cases, Memᴰ·cast as in-cast}
@@ -21,6 +22,17 @@ pub getD-in : {A : Type 0} (l : List A) (i : ℕ) (d : A) → i < length l → g
 getD-in [] i d h = absurd (omega arith)
 getD-in (x ∷ l) zero d h = here refl
 getD-in (x ∷ l) (suc i) d h = there (getD-in l i d (omega arith))
+
+-- What is taken from a list is in it.
+pub in-take : {A : Type 0} (n : ℕ) (l : List A) {z : A} → z ∈ take n l → z ∈ l
+in-take zero l h = absurd (none-in-nil h)
+in-take (suc n) [] h = h
+in-take (suc n) (x ∷ l) h = elim (here-or-there h) [ inl e ↦ here e | inr t ↦ there (in-take n l t) ]
+
+pub in-drop : {A : Type 0} (n : ℕ) (l : List A) {z : A} → z ∈ drop n l → z ∈ l
+in-drop zero l h = h
+in-drop (suc n) [] h = h
+in-drop (suc n) (x ∷ l) h = there (in-drop n l h)
 
 -- No element stands in the list twice.
 abbrev pub Distinct : {A : Type 0} → List A → Type 0

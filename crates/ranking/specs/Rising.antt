@@ -11,7 +11,7 @@ use Rattle.ranking.specs.Sorting.{step}
 
 module _ {A : Type 0} (O : Order A) where
   -- None of a list comes before x; in a rising list, none comes before an earlier one.
-  abbrev NoneBefore : A → List A → Type 0
+  abbrev pub NoneBefore : A → List A → Type 0
   NoneBefore x [] = Unit {0}
   NoneBefore x (y ∷ l) = (O .Lt y x → ⊥) × NoneBefore x l
 

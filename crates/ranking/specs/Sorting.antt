@@ -17,7 +17,7 @@ step o z x l rest = elim o [ Ordering·lt ↦ z ∷ x ∷ l | Ordering·eq ↦ z
 
 -- By any comparison, sorting keeps the elements, their number and that they are distinct.
 module _ {A : Type 0} (cmp : A → A → Ordering) where
-  insert-out : {y z : A} (l : List A) → y ∈ insert cmp z l → (y ≡ z) ⊎ (y ∈ l)
+  pub insert-out : {y z : A} (l : List A) → y ∈ insert cmp z l → (y ≡ z) ⊎ (y ∈ l)
   insert-out [] h = here-or-there h
   insert-out {y} {z} (x ∷ l) h = go (cmp z x) h (insert-out l)
     where

@@ -1,5 +1,6 @@
--- Words moved 34 places further, the last first, and what a list is once a row is written into the gap. Assumes nothing.
-use mathlib.Core.Path.{_≡_, refl, sym, ap, _∙_}
+-- Words moved six places further, the last first, and what a list is once a row is written into the gap. Assumes nothing.
+use mathlib.Core.Path.{_≡_, refl, sym, ap, _∙_, subst}
+use mathlib.Core.Logic.{_⊎_, inl, inr}
 use native.Mathlib.Decide.{decLt, ℕ-discrete}
 use native.Mathlib.Numerals.{add-one}
 use native.Mathlib.Omega.{arith}
@@ -9,9 +10,11 @@ use lib.Seq.{ext-getD, getD-set-same, getD-set-other, getD-drop, getD-take, getD
 use Rattle.definitions.specs.Basics.{ℕ, suc, _+_, _-_, _*_, _<_, List, _∷_, _++_, length, getD, take, insert, min}
 use Rattle.definitions.specs.Plans as Said
 use Rattle.definitions.specs.Plans.{compareRows}
-use Rattle.row_list.specs.declared.Row.{Row}
-use Rattle.row_list.specs.Rows.{rowOf, rowIn, rowsIn, Stored, Room, Inserted}
+use Rattle.packed_rows.specs.Packed.{rowOf}
+use Rattle.packed_rows.specs.declared.Row.{Row}
+use Rattle.row_list.specs.Rows.{wholeRow, wholeRows, Stored, Room, Inserted}
 use Rattle.row_list.specs.Laws.{row-words, rows-long, rows-at}
+use Rattle.ranking.specs.Members.{_∈_, here-or-there, in-append-cases, in-take, in-drop}
 use Rattle.ranking.specs.Rising.{Rising}
 use Rattle.theorems.specs.List.{rowOrder}
 use Rattle.row_list.specs.Steps.{Place, Moved}
@@ -39,80 +42,91 @@ module _ {A : Type 0} (p : ℕ) (z d : A) (l : List A) (h : p ≤ length l) wher
       let r : p + (j - p) ≡ j = omega arith in
       ap (λ (i : ℕ). getD (putAt p z l) i d) q ∙ getD-append-add (take p l) (z ∷ drop p l) (suc (j - p)) d ∙ getD-drop p l (j - p) d ∙ ap (λ (i : ℕ). getD l i d) r
 
-pub one-moved : (from to : ℕ) (area after : List ℕ) → 34 ≤ from → from < to → to ≤ length area → Moved (from + 1) to area after
-    → Moved from to area (set after from (getD after (from - 34) 0))
+-- What is in it is the element or one of the list's.
+put-members : {A : Type 0} (p : ℕ) (z : A) (l : List A) {y : A} → y ∈ putAt p z l → (y ≡ z) ⊎ (y ∈ l)
+put-members p z l k = elim (in-append-cases (take p l) k) [
+  | inl t ↦ inr (in-take p l t)
+  | inr t ↦ elim (here-or-there t) [ inl e ↦ inl e | inr u ↦ inr (in-drop p l u) ]
+]
+
+pub one-moved : (from to : ℕ) (area after : List ℕ) → 6 ≤ from → from < to → to ≤ length area → Moved (from + 1) to area after
+    → Moved from to area (set after from (getD after (from - 6) 0))
 one-moved from to area after h k l r = record {
   low = λ i t. getD-set-other after from i _ 0 (λ q. omega arith) ∙ r .low i (omega arith);
   moved = λ i t u. elim (ℕ-discrete i from) [
-    | yes e ↦ rw e (getD-set-same after from (getD after (from - 34) 0) 0 (omega (arith, r .long)) ∙ r .low (from - 34) (omega arith))
+    | yes e ↦ rw e (getD-set-same after from (getD after (from - 6) 0) 0 (omega (arith, r .long)) ∙ r .low (from - 6) (omega arith))
     | no e ↦ getD-set-other after from i _ 0 e ∙ r .moved i (omega arith) u
   ];
   long = length-set after from _ ∙ r .long;
 }
 
 -- The rows of the area once there is a gap and the row is written into it.
-module _ (v n m : ℕ) (x : Row) (area shifted after : List ℕ) (p end : ℕ) (room : Room v n m area) (place : Place v n (x .cost) (x .beds) area p) (fits : p ≤ end) (last : min m (suc n) ≡ suc end)
-    (moved : Moved (p * 34 + 34) (end * 34 + 34) area shifted) (stored : Stored v p x shifted after) where
-  below-gap : (j : ℕ) → j < p → rowIn v after j ≡ rowIn v area j
+module _ (n m : ℕ) (x : Row) (area shifted after : List ℕ) (p end : ℕ) (room : Room n m area) (place : Place n x area p) (fits : p ≤ end) (last : min m (suc n) ≡ suc end)
+    (moved : Moved (p * 6 + 6) (end * 6 + 6) area shifted) (stored : Stored p x shifted after) where
+  below-gap : (j : ℕ) → j < p → wholeRow after j ≡ wholeRow area j
   below-gap j h =
-      stored .others v j (room .patients) (λ q. omega arith)
-      ∙ row-words v j j shifted area (room .patients) (λ k l. moved .low (j * 34 + k) (omega arith))
+      stored .others j (λ q. omega arith)
+      ∙ row-words j j shifted area (λ k l. moved .low (j * 6 + k) (omega arith))
 
-  above-gap : (j : ℕ) → p ≤ j → j < end → rowIn v after (suc j) ≡ rowIn v area j
+  above-gap : (j : ℕ) → p ≤ j → j < end → wholeRow after (suc j) ≡ wholeRow area j
   above-gap j h l =
-      stored .others v (suc j) (room .patients) (λ q. omega arith)
-      ∙ row-words v (suc j) j shifted area (room .patients) (λ k t.
-      let e : suc j * 34 + k - 34 ≡ j * 34 + k = omega arith in
-      moved .moved (suc j * 34 + k) (omega arith) (omega arith) ∙ ap (λ (q : ℕ). getD area q 0) e)
+      stored .others (suc j) (λ q. omega arith)
+      ∙ row-words (suc j) j shifted area (λ k t.
+      let e : suc j * 6 + k - 6 ≡ j * 6 + k = omega arith in
+      moved .moved (suc j * 6 + k) (omega arith) (omega arith) ∙ ap (λ (q : ℕ). getD area q 0) e)
 
-  row-at : (k : ℕ) → k ≤ end → rowIn v after k ≡ getD (putAt p (rowOf v x) (rowsIn v n area)) k (rowOf v x)
+  row-at : (k : ℕ) → k ≤ end → wholeRow after k ≡ getD (putAt p (rowOf x) (wholeRows n area)) k (rowOf x)
   row-at k h = elim (decLt k p) [
-    | yes l ↦ below-gap k l ∙ rows-at v n area k z (omega (arith, place .within)) ∙ sym (put-below p z z rows inside k l)
+    | yes l ↦ below-gap k l ∙ rows-at n area k z (omega (arith, place .within)) ∙ sym (put-below p z z rows inside k l)
     | no l ↦ elim (ℕ-discrete k p) [ yes e ↦ rw e (stored .row ∙ sym (put-here p z z rows inside)) | no e ↦ later (k - 1) (omega arith) (omega arith) ]
   ]
     where
       z : Said.Row
-      z = rowOf v x
+      z = rowOf x
 
       rows : List Said.Row
-      rows = rowsIn v n area
+      rows = wholeRows n area
 
       inside : p ≤ length rows
-      inside = rw (rows-long v n area) (place .within)
+      inside = rw (rows-long n area) (place .within)
 
-      later : (j : ℕ) → k ≡ suc j → p ≤ j → rowIn v after k ≡ getD (putAt p z rows) k z
-      later j e l = rw e (above-gap j l (omega arith) ∙ rows-at v n area j z (omega arith) ∙ sym (put-above p z z rows inside j l))
+      later : (j : ℕ) → k ≡ suc j → p ≤ j → wholeRow after k ≡ getD (putAt p z rows) k z
+      later j e l = rw e (above-gap j l (omega arith) ∙ rows-at n area j z (omega arith) ∙ sym (put-above p z z rows inside j l))
 
-  pub inserted : Inserted v n m x area after (end + 1)
+  pub inserted : Inserted n m x area after (end + 1)
   inserted = record {
     count = omega arith;
-    rows = λ rising. ext-getD z (rowsIn v (end + 1) after) (take m put) long same ∙ sym (ap (take m) (place .here rising));
+    rows = λ rising. put-rows ∙ sym (ap (take m) (place .here rising));
+    members = λ y k. put-members p (rowOf x) (wholeRows n area) (in-take m put (subst (λ (l : List Said.Row). y ∈ l) put-rows k));
     long = stored .long ∙ moved .long;
   }
     where
       z : Said.Row
-      z = rowOf v x
+      z = rowOf x
 
       put : List Said.Row
-      put = putAt p z (rowsIn v n area)
+      put = putAt p z (wholeRows n area)
 
       put-is : length put ≡ suc n
-      put-is = put-long p z z (rowsIn v n area) (rw (rows-long v n area) (place .within)) ∙ ap suc (rows-long v n area)
+      put-is = put-long p z z (wholeRows n area) (rw (rows-long n area) (place .within)) ∙ ap suc (rows-long n area)
 
-      long : length (rowsIn v (end + 1) after) ≡ length (take m put)
-      long = rows-long v (end + 1) after ∙ add-one end ∙ sym (length-take m put ∙ ap (min m) put-is ∙ last)
+      long : length (wholeRows (end + 1) after) ≡ length (take m put)
+      long = rows-long (end + 1) after ∙ add-one end ∙ sym (length-take m put ∙ ap (min m) put-is ∙ last)
 
-      same : (k : ℕ) → k < length (rowsIn v (end + 1) after) → getD (rowsIn v (end + 1) after) k z ≡ getD (take m put) k z
+      same : (k : ℕ) → k < length (wholeRows (end + 1) after) → getD (wholeRows (end + 1) after) k z ≡ getD (take m put) k z
       same k l =
-          let t : k < end + 1 = omega (arith, rows-long v (end + 1) after) in
-          sym (rows-at v (end + 1) after k z t) ∙ row-at k (omega arith) ∙ sym (getD-take m put k z (omega arith))
+          let t : k < end + 1 = omega (arith, rows-long (end + 1) after) in
+          sym (rows-at (end + 1) after k z t) ∙ row-at k (omega arith) ∙ sym (getD-take m put k z (omega arith))
+
+      put-rows : wholeRows (end + 1) after ≡ take m put
+      put-rows = ext-getD z (wholeRows (end + 1) after) (take m put) long same
 
 -- A row that comes after all of a full list.
-pub not-inserted : (v n m : ℕ) (x : Row) (area : List ℕ) → Room v n m area → Place v n (x .cost) (x .beds) area m → Inserted v n m x area area n
-not-inserted v n m x area room place = record { count = room .held; rows = same; long = refl }
+pub not-inserted : (n m : ℕ) (x : Row) (area : List ℕ) → Room n m area → Place n x area m → Inserted n m x area area n
+not-inserted n m x area room place = record { count = room .held; rows = same; members = λ y k. inr k; long = refl }
   where
     rows : List Said.Row
-    rows = rowsIn v n area
+    rows = wholeRows n area
 
-    same : Rising rowOrder rows → rows ≡ take m (insert compareRows (rowOf v x) rows)
-    same rising = sym (ap (take m) (place .here rising) ∙ take-at (take m rows) (rowOf v x ∷ drop m rows) m (length-take-le m rows (omega (arith, place .within, rows-long v n area))) ∙ take-all m rows (omega (arith, room .held, rows-long v n area)))
+    same : Rising rowOrder rows → rows ≡ take m (insert compareRows (rowOf x) rows)
+    same rising = sym (ap (take m) (place .here rising) ∙ take-at (take m rows) (rowOf x ∷ drop m rows) m (length-take-le m rows (omega (arith, place .within, rows-long n area))) ∙ take-all m rows (omega (arith, room .held, rows-long n area)))

@@ -10,7 +10,9 @@ use Rattle.ranking.specs.Orders.{View, before, equal, after}
 use Rattle.ranking.specs.Rising.{Rising, rising-behind}
 use Rattle.ranking.specs.Sorting.{insert-at}
 use Rattle.theorems.specs.List.{rowOrder}
-use Rattle.row_list.specs.Rows.{rowWith, rowIn, rowsIn, beforeOr}
+use Rattle.packed_rows.specs.Packed.{rowOf, beforeOr}
+use Rattle.packed_rows.specs.declared.Row as Code
+use Rattle.row_list.specs.Rows.{wholeRow, wholeRows}
 use Rattle.row_list.specs.Laws.{rows-long, rows-at}
 use Rattle.row_list.specs.Steps.{Place}
 
@@ -32,48 +34,48 @@ not-after x y e h = go (rowOrder .view x y) e
     go (after t) f = false≢true f
 
 -- Where the halving stands: the rows below come before the new one, and those from the other end on do not.
-pub record Between (v n cost : ℕ) (beds area : List ℕ) (low high : ℕ) : Type 0 where
+pub record Between (n : ℕ) (z : Code.Row) (area : List ℕ) (low high : ℕ) : Type 0 where
   pub apart : low ≤ high
   pub within : high ≤ n
-  pub ahead : Rising rowOrder (rowsIn v n area) → (i : ℕ) → i < low → rowOrder .Lt (rowIn v area i) (rowWith v cost beds)
-  pub stops : Rising rowOrder (rowsIn v n area) → (i : ℕ) → high ≤ i → i < n → rowOrder .Lt (rowIn v area i) (rowWith v cost beds) → ⊥
+  pub ahead : Rising rowOrder (wholeRows n area) → (i : ℕ) → i < low → rowOrder .Lt (wholeRow area i) (rowOf z)
+  pub stops : Rising rowOrder (wholeRows n area) → (i : ℕ) → high ≤ i → i < n → rowOrder .Lt (wholeRow area i) (rowOf z) → ⊥
 
-module _ (v n cost : ℕ) (beds area : List ℕ) where
+module _ (n : ℕ) (z : Code.Row) (area : List ℕ) where
   abbrev x : Said.Row
-  x = rowWith v cost beds
+  x = rowOf z
 
-  pub all-between : Between v n cost beds area 0 n
+  pub all-between : Between n z area 0 n
   all-between = record { apart = omega arith; within = omega arith; ahead = λ rising i h. absurd (omega arith); stops = λ rising i h k. absurd (omega arith) }
 
   -- What comes before x by its place among the rows: an earlier row does too.
-  earlier : Rising rowOrder (rowsIn v n area) → (i j : ℕ) → i ≤ j → j < n → rowOrder .Lt (rowIn v area j) x → rowOrder .Lt (rowIn v area i) x
+  earlier : Rising rowOrder (wholeRows n area) → (i j : ℕ) → i ≤ j → j < n → rowOrder .Lt (wholeRow area j) x → rowOrder .Lt (wholeRow area i) x
   earlier rising i j h k t =
       let d = x in
-      rw (rows-at v n area i d (omega arith))
-      (rising-behind rowOrder x (rowsIn v n area) i j d rising h (omega (arith, rows-long v n area)) (rw (← rows-at v n area j d k) t))
+      rw (rows-at n area i d (omega arith))
+      (rising-behind rowOrder x (wholeRows n area) i j d rising h (omega (arith, rows-long n area)) (rw (← rows-at n area j d k) t))
 
-  module _ {low high middle : ℕ} (b : Between v n cost beds area low high) (h : low ≤ middle) (k : middle < high) where
-    pub lower-half : beforeOr true (compareRows x (rowIn v area middle)) ≡ true → Between v n cost beds area low middle
+  module _ {low high middle : ℕ} (b : Between n z area low high) (h : low ≤ middle) (k : middle < high) where
+    pub lower-half : beforeOr true (compareRows x (wholeRow area middle)) ≡ true → Between n z area low middle
     lower-half e = record {
       apart = h;
       within = omega (arith, b .within);
       ahead = b .ahead;
-      stops = λ rising i l g t. not-after x (rowIn v area middle) e (earlier rising middle i l g t);
+      stops = λ rising i l g t. not-after x (wholeRow area middle) e (earlier rising middle i l g t);
     }
 
-    pub upper-half : beforeOr true (compareRows x (rowIn v area middle)) ≡ false → Between v n cost beds area (middle + 1) high
+    pub upper-half : beforeOr true (compareRows x (wholeRow area middle)) ≡ false → Between n z area (middle + 1) high
     upper-half e = record {
       apart = omega arith;
       within = b .within;
-      ahead = λ rising i l. earlier rising i middle (omega arith) (omega (arith, b .within)) (comes-after x (rowIn v area middle) e);
+      ahead = λ rising i l. earlier rising i middle (omega arith) (omega (arith, b .within)) (comes-after x (wholeRow area middle) e);
       stops = b .stops;
     }
 
-  pub place-found : {low high : ℕ} → high ≤ low → Between v n cost beds area low high → Place v n cost beds area low
+  pub place-found : {low high : ℕ} → high ≤ low → Between n z area low high → Place n z area low
   place-found {low} {high} end b = record {
     within = omega (arith, b .within, b .apart);
     here = λ rising.
-        insert-at rowOrder x (rowsIn v n area) low x (omega (arith, b .within, b .apart, rows-long v n area))
-        (λ i h. rw (← rows-at v n area i x (omega (arith, b .within, b .apart))) (b .ahead rising i h))
-        (λ h t. b .stops rising low (omega arith) (omega (arith, rows-long v n area)) (rw (rows-at v n area low x (omega (arith, rows-long v n area))) t));
+        insert-at rowOrder x (wholeRows n area) low x (omega (arith, b .within, b .apart, rows-long n area))
+        (λ i h. rw (← rows-at n area i x (omega (arith, b .within, b .apart))) (b .ahead rising i h))
+        (λ h t. b .stops rising low (omega arith) (omega (arith, rows-long n area)) (rw (rows-at n area low x (omega (arith, rows-long n area))) t));
   }

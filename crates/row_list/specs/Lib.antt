@@ -1,6 +1,5 @@
 -- Rows that lie in an area of numbers.
 pub mod Rows
-pub mod Numbers
 pub mod Below
 pub mod Laws
 pub mod Steps

@@ -5,15 +5,17 @@ use Rattle.definitions.specs.Basics.{ℕ, _-_, _<_, _≡_, List, _∷_, _++_, l
 use Rattle.definitions.specs.Plans.{compareRows}
 use Rattle.ranking.specs.Rising.{Rising}
 use Rattle.theorems.specs.List.{rowOrder}
-use Rattle.row_list.specs.Rows.{rowWith, rowsIn}
+use Rattle.packed_rows.specs.Packed.{rowOf}
+use Rattle.packed_rows.specs.declared.Row.{Row}
+use Rattle.row_list.specs.Rows.{wholeRows}
 
 -- A row is inserted at this place, if the rows are in order.
-pub record Place (v n cost : ℕ) (beds area : List ℕ) (r : ℕ) : Type 0 where
+pub record Place (n : ℕ) (x : Row) (area : List ℕ) (r : ℕ) : Type 0 where
   pub within : r ≤ n
-  pub here : Rising rowOrder (rowsIn v n area) → insert compareRows (rowWith v cost beds) (rowsIn v n area) ≡ take r (rowsIn v n area) ++ rowWith v cost beds ∷ drop r (rowsIn v n area)
+  pub here : Rising rowOrder (wholeRows n area) → insert compareRows (rowOf x) (wholeRows n area) ≡ take r (wholeRows n area) ++ rowOf x ∷ drop r (wholeRows n area)
 
--- The words from one place up to another are those that stood 34 places before, and the words below them are as they were.
+-- The words from one place up to another are those that stood six places before, and the words below them are as they were.
 pub record Moved (from to : ℕ) (area after : List ℕ) : Type 0 where
   pub low : (k : ℕ) → k < from → getD after k 0 ≡ getD area k 0
-  pub moved : (k : ℕ) → from ≤ k → k < to → getD after k 0 ≡ getD area (k - 34) 0
+  pub moved : (k : ℕ) → from ≤ k → k < to → getD after k 0 ≡ getD area (k - 6) 0
   pub long : length after ≡ length area

@@ -13,5 +13,5 @@ counted rows = decimal (length rows) ++ (text ")\n" ++ flatMap printedRow rows)
 -- The first n rows lie in the list, and what is printed of them has room.
 pub record Printable (whole : List ℕ) (v n : ℕ) (list : List ℕ) (at : ℕ) (out : List ℕ) : Type 0 where
   pub patients : v ≤ 32
-  pub held : n * 34 ≤ length list
+  pub held : n * 6 ≤ length list
   pub room : Room whole at out

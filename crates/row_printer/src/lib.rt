@@ -1,5 +1,6 @@
 // What the printing program prints of rows that lie in a list: the line of a list, of a sheet or of a refusal, and a line for each row.
-use row_list::Row;
+use packed_rows::Row;
+use packed_rows::beds_of;
 use row_list::row_at;
 use text_writer::write_byte;
 use text_writer::write_number;
@@ -9,16 +10,18 @@ ghost use Prim.Native.Nat.{_≤_};
 ghost use Rattle.definitions.specs.Basics.{[], _∷_, text};
 ghost use Rattle.definitions.specs.Spelling.{decimal, line};
 ghost use Rattle.definitions.specs.Output.{printedRow, printedRows};
-ghost use Rattle.row_list.specs.Rows.{rowOf, rowsIn};
+ghost use Rattle.partial_rows.specs.Padding.{cut};
+ghost use Rattle.packed_rows.specs.Packed.{rowOf};
+ghost use Rattle.row_list.specs.Rows.{rowsIn};
 ghost use Rattle.text_writer.specs.Wrote.{Room, Wrote};
 ghost use Rattle.row_printer.specs.Printing.{counted, Printable};
 
 // The line of a row, which has a bed for each of v patients.
 fn print_row(out: &mut [u8], at: usize, row: Row, v: usize) -> usize
-    requires { ⌜ (v ≤ 32) × (Room (printedRow (rowOf v row)) at (now out)) ⌝ }
-    ensures { λ r. ⌜ Wrote (printedRow (rowOf v row)) at (now (out .entry)) (now (out .exit)) r ⌝ }
+    requires { ⌜ (v ≤ 32) × (Room (printedRow (cut v (rowOf row))) at (now out)) ⌝ }
+    ensures { λ r. ⌜ Wrote (printedRow (cut v (rowOf row))) at (now (out .entry)) (now (out .exit)) r ⌝ }
 {
-    let beds = row.beds;
+    let beds = beds_of(row);
     let cost_at = write_text(out, at, b"(row ");
     let space = write_number(out, cost_at, row.cost);
     let beds_at = write_byte(out, space, b' ');
@@ -35,7 +38,7 @@ fn print_rows(out: &mut [u8], at: usize, list: &[u32], v: usize, n: usize) -> us
     let mut next = write_text(out, end, b")\n");
     let mut i: usize = 0;
     while i < n {
-        next = print_row(out, next, row_at(list, v, i), v);
+        next = print_row(out, next, row_at(list, i), v);
         i += 1;
     }
     next

@@ -7,36 +7,37 @@ use lib.Seq.{take-nil}
 use Rattle.definitions.specs.Basics.{ℕ, _+_, _<_, List, _∷_, _++_, map, length, take, insert, sort, flatMap}
 use Rattle.definitions.specs.Plans as Said
 use Rattle.definitions.specs.Plans.{compareRows}
-use Rattle.ranking.specs.Members.{getD-in}
+use Rattle.ranking.specs.Members.{_∈_, getD-in}
 use Rattle.ranking.specs.Sorting.{take-insert}
 use Rattle.ranking.specs.Combining.{cross}
 use Rattle.ranking.specs.Rising.{Rising, rising-sort, rising-take}
 use Rattle.theorems.specs.List.{rowOrder}
 use Rattle.partial_rows.specs.Adding.{addRows}
-use Rattle.row_list.specs.declared.Row.{Row}
-use Rattle.row_list.specs.Rows.{rowOf, rowIn, rowsIn, RowRead, Inserted}
+use Rattle.packed_rows.specs.declared.Row.{Row}
+use Rattle.packed_rows.specs.Packed.{rowOf}
+use Rattle.row_list.specs.Rows.{wholeRow, wholeRows, Inserted}
 use Rattle.row_list.specs.Laws.{rows-long, rows-at, rows-none}
-use Rattle.row_sums.specs.Sums.{part, SmallRow, Small, Asks}
+use Rattle.row_sums.specs.Sums.{part, Asks}
 use Rattle.row_sums.specs.Steps.{backwards, Kept, AsksRow, Joined, GivesRow, Found}
 use Rattle.row_sums.specs.Areas.{replaced, replaced-long, part-new, part-before, part-long}
 
--- Each row of a small list is small, where the list has stayed as it was.
-pub small-row : (v n i : ℕ) (area now : List ℕ) (x : Row) → i < n → Small (rowsIn v n area) → now ≡ area → RowRead v i now x → SmallRow (rowOf v x)
-small-row v n i area now x h small e r =
-    let d = rowIn v area i in
-    subst SmallRow (sym (r .row ∙ ap (λ (p : List ℕ). rowIn v p i) e ∙ rows-at v n area i d h)) (small _ (getD-in (rowsIn v n area) i d (omega (arith, rows-long v n area))))
+-- A row that was read is one of the list's, where the list has stayed as it was.
+pub read-in : (n i : ℕ) (area now : List ℕ) (x : Row) → i < n → now ≡ area → rowOf x ≡ wholeRow now i → rowOf x ∈ wholeRows n area
+read-in n i area now x h e read =
+    let d = wholeRow area i in
+    subst⁻¹ (λ (z : Said.Row). z ∈ wholeRows n area) (read ∙ ap (λ (p : List ℕ). wholeRow p i) e ∙ rows-at n area i d h) (getD-in (wholeRows n area) i d (omega (arith, rows-long n area)))
 
 none-changed : (work : List ℕ) → Kept work work
 none-changed work = record { first = refl; second = refl; long = refl }
 
-module _ (v m n : ℕ) (x : Row) (work : List ℕ) where
-  pub none-joined : n ≤ m → Joined v m n 0 x work work n
+module _ (m n : ℕ) (x : Row) (work : List ℕ) where
+  pub none-joined : n ≤ m → Joined m n 0 x work work n
   unfolding backwards
   none-joined h = record { count = h; kept = none-changed work; joined = λ sums s. s }
 
-  pub one-joined : (j count r : ℕ) (now new : List ℕ) (y sum : Row) → 6_528 ≤ length now → Joined v m n j x work now count → RowRead v j (part 1 now) y
-      → rowOf v sum ≡ addRows (rowOf v x) (rowOf v y) → Inserted v count m sum (part 2 now) new r
-      → Joined v m n (j + 1) x work (replaced 4_352 new now) r
+  pub one-joined : (j count r : ℕ) (now new : List ℕ) (y sum : Row) → 1_152 ≤ length now → Joined m n j x work now count → rowOf y ≡ wholeRow (part 1 now) j
+      → rowOf sum ≡ addRows (rowOf x) (rowOf y) → Inserted count m sum (part 2 now) new r
+      → Joined m n (j + 1) x work (replaced 768 new now) r
   unfolding backwards
   one-joined j count r now new y sum h g read added ins = record {
     count = ins .count;
@@ -46,32 +47,32 @@ module _ (v m n : ℕ) (x : Row) (work : List ℕ) where
       long = replaced-long 2 now new h long ∙ g .kept .long;
     };
     joined = λ sums s.
-        let l = map f (backwards v j (part 1 work)) ++ sums in
-        let e : rowOf v sum ∷ l ≡ map f (backwards v (j + 1) (part 1 work)) ++ sums = rw add-one (ap (λ (z : Said.Row). z ∷ l) sum-is) in
-        ap (rowsIn v r) (part-new 2 now new h long) ∙ ins .rows (subst⁻¹ (Rising rowOrder) (g .joined sums s) (rising-take rowOrder m (sort compareRows l) (rising-sort rowOrder l))) ∙ ap (λ (k : List Said.Row). take m (insert compareRows (rowOf v sum) k)) (g .joined sums s)
-        ∙ take-insert compareRows m (rowOf v sum) (sort compareRows l) ∙ ap (λ (k : List Said.Row). take m (sort compareRows k)) e;
+        let l = map f (backwards j (part 1 work)) ++ sums in
+        let e : rowOf sum ∷ l ≡ map f (backwards (j + 1) (part 1 work)) ++ sums = rw add-one (ap (λ (z : Said.Row). z ∷ l) sum-is) in
+        ap (wholeRows r) (part-new 2 now new h long) ∙ ins .rows (subst⁻¹ (Rising rowOrder) (g .joined sums s) (rising-take rowOrder m (sort compareRows l) (rising-sort rowOrder l))) ∙ ap (λ (k : List Said.Row). take m (insert compareRows (rowOf sum) k)) (g .joined sums s)
+        ∙ take-insert compareRows m (rowOf sum) (sort compareRows l) ∙ ap (λ (k : List Said.Row). take m (sort compareRows k)) e;
   }
     where
       f : Said.Row → Said.Row
-      f = addRows (rowOf v x)
+      f = addRows (rowOf x)
 
-      long : length new ≡ 2_176
+      long : length new ≡ 384
       long = ins .long ∙ part-long 2 now h
 
-      sum-is : rowOf v sum ≡ f (rowIn v (part 1 work) j)
-      sum-is = added ∙ ap f (read .row ∙ ap (λ (p : List ℕ). rowIn v p j) (g .kept .second))
+      sum-is : rowOf sum ≡ f (wholeRow (part 1 work) j)
+      sum-is = added ∙ ap f (read ∙ ap (λ (p : List ℕ). wholeRow p j) (g .kept .second))
 
 -- With all rows joined, their order does not matter.
-pub all-joined : (v m n b : ℕ) (x : Row) {work after : List ℕ} {r : ℕ} → Joined v m n b x work after r → GivesRow v m n b x work after r
-all-joined v m n b x g = record { count = g .count; kept = g .kept; joined = λ rising. g .joined }
+pub all-joined : (m n b : ℕ) (x : Row) {work after : List ℕ} {r : ℕ} → Joined m n b x work after r → GivesRow m n b x work after r
+all-joined m n b x g = record { count = g .count; kept = g .kept; joined = λ rising. g .joined }
 
-module _ (v m b : ℕ) (work : List ℕ) where
-  pub none-found : Found v m b 0 work work 0
+module _ (m b : ℕ) (work : List ℕ) where
+  pub none-found : Found m b 0 work work 0
   unfolding backwards flatMap
-  none-found = record { count = omega arith; kept = none-changed work; sums = λ rising. rows-none v (part 2 work) ∙ sym (take-nil m) }
+  none-found = record { count = omega arith; kept = none-changed work; sums = λ rising. rows-none (part 2 work) ∙ sym (take-nil m) }
 
-  pub row-found : (i n r : ℕ) (now after : List ℕ) (x : Row) → Found v m b i work now n → RowRead v i (part 0 now) x → GivesRow v m n b x now after r
-      → Found v m b (i + 1) work after r
+  pub row-found : (i n r : ℕ) (now after : List ℕ) (x : Row) → Found m b i work now n → rowOf x ≡ wholeRow (part 0 now) i → GivesRow m n b x now after r
+      → Found m b (i + 1) work after r
   unfolding backwards flatMap
   row-found i n r now after x f read g = record {
     count = g .count;
@@ -80,23 +81,21 @@ module _ (v m b : ℕ) (work : List ℕ) where
   }
     where
       before : List Said.Row
-      before = cross addRows (backwards v i (part 0 work)) (backwards v b (part 1 work))
+      before = cross addRows (backwards i (part 0 work)) (backwards b (part 1 work))
 
-      x-is : rowOf v x ≡ rowIn v (part 0 work) i
-      x-is = read .row ∙ ap (λ (p : List ℕ). rowIn v p i) (f .kept .first)
+      x-is : rowOf x ≡ wholeRow (part 0 work) i
+      x-is = read ∙ ap (λ (p : List ℕ). wholeRow p i) (f .kept .first)
 
-      more : map (addRows (rowOf v x)) (backwards v b (part 1 now)) ++ before ≡ cross addRows (backwards v (i + 1) (part 0 work)) (backwards v b (part 1 work))
-      more = rw add-one (ap₂ (λ (z : Said.Row) (p : List ℕ). map (addRows z) (backwards v b p) ++ before) x-is (f .kept .second))
+      more : map (addRows (rowOf x)) (backwards b (part 1 now)) ++ before ≡ cross addRows (backwards (i + 1) (part 0 work)) (backwards b (part 1 work))
+      more = rw add-one (ap₂ (λ (z : Said.Row) (p : List ℕ). map (addRows z) (backwards b p) ++ before) x-is (f .kept .second))
 
   -- What the sums of the next row ask.
-  pub next-row : (a i n : ℕ) (now : List ℕ) (x : Row) → Asks v m a b work → i < a → Found v m b i work now n → RowRead v i (part 0 now) x → AsksRow v m n b x now
+  pub next-row : (a i n : ℕ) (now : List ℕ) (x : Row) → Asks m a b work → i < a → Found m b i work now n → rowOf x ≡ wholeRow (part 0 now) i → AsksRow m n b x now
   next-row a i n now x asks h f read = record {
-    patients = asks .patients;
     some = asks .some;
     wanted = asks .wanted;
     held = f .count;
     second = asks .second;
     long = omega (arith, asks .long, f .kept .long);
-    small = small-row v a i (part 0 work) (part 0 now) x h (asks .firstSmall) (f .kept .first) read;
-    secondSmall = subst (λ (p : List ℕ). Small (rowsIn v b p)) (sym (f .kept .second)) (asks .secondSmall);
+    fits = λ y k. asks .fits (rowOf x) y (read-in a i (part 0 work) (part 0 now) x h (f .kept .first) read) (subst (λ (p : List ℕ). y ∈ wholeRows b p) (f .kept .second) k);
   }

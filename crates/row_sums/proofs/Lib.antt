@@ -1,4 +1,3 @@
-pub mod Adding
 pub mod Joining
 pub mod Copying
 pub mod Finding

@@ -11,9 +11,11 @@ use lib.Seq.{sets, sets-eq, length-sets, drop-cons, drop-drop, take-all, length-
 use Rattle.definitions.specs.Basics.{ℕ, suc, _+_, _-_, _*_, _<_, List, [], _∷_, _++_, length, getD, take, replicate}
 use Rattle.definitions.specs.Outcomes.{written}
 use Rattle.definitions.specs.Plans.{Row}
-use Rattle.row_list.specs.declared.Row as Held
-use Rattle.row_list.specs.Rows.{rowIn, rowsIn, RowRead}
-use Rattle.row_list.specs.Laws.{rows-long, rows-at}
+use Rattle.partial_rows.specs.Padding.{cut}
+use Rattle.packed_rows.specs.declared.Row as Held
+use Rattle.packed_rows.specs.Packed.{packedBeds, rowOf}
+use Rattle.row_list.specs.Rows.{wholeRow, rowIn, rowsIn}
+use Rattle.row_list.specs.Laws.{row-long, cut-long, cut-from}
 use Rattle.row_writer.specs.Writing.{RowsWritten}
 
 module _ (vs : List ℕ) (j : ℕ) (area : List ℕ) where
@@ -39,14 +41,11 @@ part-back area vs back i h e =
 module _ (v n : ℕ) (list : List ℕ) (width : ℕ) (values : Row → List ℕ) (r : ℕ) where
   pub next-row : (area after : List ℕ) → r < n → after ≡ sets area (r * width) (values (rowIn v list r))
       → written (r + 1) width values (drop (r + 1) (rowsIn v n list)) after ≡ written r width values (drop r (rowsIn v n list)) area
-  next-row area after h e =
-      let rest : drop r (rowsIn v n list) ≡ rowIn v list r ∷ drop (suc r) (rowsIn v n list) =
-      drop-cons (rowsIn v n list) r (rowIn v list r) (omega (arith, rows-long v n list)) ∙ rw (← rows-at v n list r (rowIn v list r) h) in
-      rw (add-one, e) (sym (ap (λ (l : List Row). written r width values l area) rest))
+  next-row area after h e = rw (add-one, e) (sym (ap (λ (l : List Row). written r width values l area) (cut-from v n list r h)))
 
   pub all-rows : (area : List ℕ) → n ≤ r → written r width values (drop r (rowsIn v n list)) area ≡ area
   all-rows area h =
-      let none : drop r (rowsIn v n list) ≡ [] = drop-of-length-le (rowsIn v n list) {i = r} (omega (arith, rows-long v n list)) in
+      let none : drop r (rowsIn v n list) ≡ [] = drop-of-length-le (rowsIn v n list) {i = r} (omega (arith, cut-long v n list)) in
       ap (λ (l : List Row). written r width values l area) none
 
 -- An area filled to its end.
@@ -70,8 +69,8 @@ pub record Sofar (v n : ℕ) (list beds₀ costs₀ beds costs : List ℕ) (star
   pub costsLeft : written r 1 (λ row. row .cost ∷ []) (drop r (rowsIn v n list)) costs ≡ written 0 1 (λ row. row .cost ∷ []) (rowsIn v n list) costs₀
 
 module _ (v n : ℕ) (list beds₀ costs₀ beds costs : List ℕ) (start r : ℕ) (sofar : Sofar v n list beds₀ costs₀ beds costs start r) where
-  pub one-row : (row : Held.Row) (back : List ℕ) (cost : ℕ) → r < n → v ≤ 32 → n * v ≤ length beds₀ → RowRead v r list row
-      → back ≡ sets (take (length beds - start) (drop start beds)) 0 (take v (row .beds)) → cost ≡ row .cost
+  pub one-row : (row : Held.Row) (back : List ℕ) (cost : ℕ) → r < n → v ≤ 32 → n * v ≤ length beds₀ → rowOf row ≡ wholeRow list r
+      → back ≡ sets (take (length beds - start) (drop start beds)) 0 (take v (packedBeds (row .words))) → cost ≡ row .cost
       → Sofar v n list beds₀ costs₀ (putMid start (length beds - start) beds back) (set costs r cost) (start + v) (r + 1)
   one-row row back cost h few fits read e is = record {
     inside = omega arith;
@@ -82,20 +81,20 @@ module _ (v n : ℕ) (list beds₀ costs₀ beds costs : List ℕ) (start r : �
     costsLeft = next-row v n list 1 (λ (w : Row). w .cost ∷ []) r costs _ h paid ∙ sofar .costsLeft;
   }
     where
-      bedsOf : take v (row .beds) ≡ rowIn v list r .beds
-      bedsOf = ap (λ (w : Row). w .beds) (read .row)
+      bedsOf : take v (packedBeds (row .words)) ≡ rowIn v list r .beds
+      bedsOf = ap (λ (w : Row). cut v w .beds) read
 
-      wide : length (take v (row .beds)) ≡ v
-      wide = length-take-le v (row .beds) (omega (arith, read .long))
+      wide : length (take v (packedBeds (row .words))) ≡ v
+      wide = length-take-le v (packedBeds (row .words)) (omega (arith, ap (λ (w : Row). length (w .beds)) read ∙ row-long list r))
 
       room : r * v + v ≤ length beds
       room = row-inside r n v (length beds) h (omega (arith, sofar .bedsLong))
 
       after : putMid start (length beds - start) beds back ≡ sets beds (r * v) (rowIn v list r .beds)
-      after = part-back beds (take v (row .beds)) back start (omega (arith, wide, room, sofar .begins)) e ∙ rw (sofar .begins) (ap (sets beds (r * v)) bedsOf)
+      after = part-back beds (take v (packedBeds (row .words))) back start (omega (arith, wide, room, sofar .begins)) e ∙ rw (sofar .begins) (ap (sets beds (r * v)) bedsOf)
 
       paid : set costs r cost ≡ sets costs (r * 1) (rowIn v list r .cost ∷ [])
-      paid = let one : r * 1 ≡ r = omega arith in rw (one, is) (ap (set costs r) (ap (λ (w : Row). w .cost) (read .row)))
+      paid = let one : r * 1 ≡ r = omega arith in rw (one, is) (ap (set costs r) (ap (λ (w : Row). w .cost) read))
 
   pub rows-done : n ≤ r → RowsWritten v n list beds₀ costs₀ beds costs
   rows-done h = record {

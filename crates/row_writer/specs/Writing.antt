@@ -8,7 +8,7 @@ use Rattle.row_list.specs.Rows.{rowIn, rowsIn}
 pub record Writable (v n : ℕ) (list beds costs : List ℕ) : Type 0 where
   pub patients : v ≤ 32
   pub wanted : n ≤ 64
-  pub held : n * 34 ≤ length list
+  pub held : n * 6 ≤ length list
   pub bedsLong : n * v ≤ length beds
   pub costsLong : n ≤ length costs
   pub narrow : (i : ℕ) → i < n → rowIn v list i .cost < 4_294_967_296

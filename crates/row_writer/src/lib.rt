@@ -1,10 +1,12 @@
 // The rows of a list, written to the areas that a caller lends, and the work area cleared behind them.
-use row_list::Row;
+use packed_rows::Row;
+use packed_rows::beds_of;
 use row_list::row_at;
 ghost use mathlib.Core.Path.{_≡_};
 ghost use Prim.Native.Nat.{_<_, _≤_};
 ghost use lib.ListN.{length, take, replicate};
 ghost use lib.Seq.{sets};
+ghost use Rattle.packed_rows.specs.Packed.{packedBeds};
 ghost use Rattle.row_writer.specs.Writing.{Writable, RowsWritten};
 
 // A cost as the lent area has it.
@@ -18,11 +20,12 @@ fn word_of(cost: u64) -> u32
 // The beds of a row, from the start of what is lent.
 fn write_row(beds: &mut [u8], row: Row, v: usize)
     requires { ⌜ (v ≤ 32) × (v ≤ length (now beds)) ⌝ }
-    ensures { λ _. ⌜ now (beds .exit) ≡ sets (now (beds .entry)) 0 (take v (row .beds)) ⌝ }
+    ensures { λ _. ⌜ now (beds .exit) ≡ sets (now (beds .entry)) 0 (take v (packedBeds (row .words))) ⌝ }
 {
+    let plain = beds_of(row);
     let mut j: usize = 0;
     while j < v {
-        beds[j] = row.beds[j];
+        beds[j] = plain[j];
         j += 1;
     }
 }
@@ -35,7 +38,7 @@ pub fn write_rows(list: &[u32], v: usize, n: usize, beds: &mut [u8], costs: &mut
     let mut start: usize = 0;
     let mut r: usize = 0;
     while r < n {
-        let row = row_at(list, v, r);
+        let row = row_at(list, r);
         write_row(&mut beds[start..], row, v);
         costs[r] = word_of(row.cost);
         start += v;

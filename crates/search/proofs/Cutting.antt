@@ -5,8 +5,9 @@ use native.Mathlib.Omega.{arith}
 use Prim.Native.Nat.{_≤_}
 use Rattle.definitions.specs.Basics.{ℕ, _-_, _<_, Ordering, Ordering·lt, Ordering·gt, compare, Bool, true, false, not, _&&_, List, take}
 use Rattle.definitions.specs.Plans.{thenBy, compareBeds}
-use Rattle.row_list.specs.Rows.{rowIn, isBefore, Room}
-use Rattle.row_list.specs.Numbers.{less, more}
+use Rattle.packed_rows.specs.Packed.{isBefore}
+use Rattle.packed_rows.specs.Numbers.{less, more}
+use Rattle.row_list.specs.Rows.{rowIn, Room}
 use Rattle.search.specs.Walks.{isPast}
 
 module _ (v n m : ℕ) (area : List ℕ) (cost : ℕ) (beds : List ℕ) where
@@ -15,7 +16,7 @@ module _ (v n m : ℕ) (area : List ℕ) (cost : ℕ) (beds : List ℕ) where
   unfolding isPast
   not-full h = rw (ne-eqb n m (λ e. omega arith))
 
-  module _ (room : Room v n m area) (full : m ≤ n) where
+  module _ (room : Room n m area) (full : m ≤ n) where
     -- The costs decide where they differ.
     by-cost : (o : Ordering) → compare cost (rowIn v area (m - 1) .cost) ≡ o → isPast v n m area cost beds ≡ not (isBefore (thenBy o (compareBeds (take v beds) (rowIn v area (m - 1) .beds))))
     unfolding isPast

@@ -26,8 +26,9 @@ use Rattle.held_region.specs.Faithful.{patient-lines}
 use Rattle.buckets.specs.Terms.{Answered, Prepared}
 use Rattle.buckets.specs.Right.{patients-few, plans-wanted}
 use Rattle.forest.specs.Trees.{Rooted, tree-beyond, tree-upward, tree-apart, trees-next}
-use Rattle.row_sums.specs.Sums.{listAt}
+use Rattle.row_sums.specs.Sums.{part, listAt}
 use Rattle.search.specs.Lowest.{Upward}
+use Rattle.search.specs.Walks.{AllPadded}
 use Rattle.search.specs.Trees.{AsksStart, GivesStart, Treed, AsksTree, GivesTree, Planted, AsksForest, GivesForest}
 
 -- A word without patients from v on has those that it says.
@@ -63,6 +64,7 @@ pub record Listed (store patients terms roots : List ℕ) (v m size : ℕ) (now 
   pub count : n ≤ m
   pub long : length now ≡ size
   pub upto : k ≤ v
+  pub padded : AllPadded v n (part 0 now)
   pub first : (r : Region) → Planted r store patients terms roots v m → First rowOrder m (RowOf r (treesBelow r v k) (noBeds r)) (listAt v n 0 now)
 
 module _ {store patients terms roots : List ℕ} {v m : ℕ} {work : List ℕ} (asks : AsksForest store patients terms roots v m work) where
@@ -90,6 +92,7 @@ module _ {store patients terms roots : List ℕ} {v m : ℕ} {work : List ℕ} (
         count = omega (arith, some);
         long = refl;
         upto = omega arith;
+        padded = gives .padded;
         first = λ r planted.
             let nobody = first-nobody r (treesBelow r v 0) m some (λ s. ap (λ b. ltb s v && b) (roots-none r s) ∙ and-false (ltb s v)) in
             let row : emptyRow r ≡ record { cost = 0; beds = replicate v 0 } = ap (λ k. record { cost = 0; beds = replicate k 0 }) (sym (planted .counted)) in
@@ -153,26 +156,28 @@ module _ {store patients terms roots : List ℕ} {v m : ℕ} {work : List ℕ} (
             wanted = wanted;
             held = listed .count;
             long = omega (arith, asks .long, listed .long, same-size);
+            padded = listed .padded;
           }
 
-      next-tree : {after : List ℕ} {j : ℕ} → j ≤ m → length after ≡ length now
+      next-tree : {after : List ℕ} {j : ℕ} → j ≤ m → length after ≡ length now → AllPadded v j (part 0 after)
           → ((r : Region) → Planted r store patients terms roots v m → First rowOrder m (RowOf r (treesBelow r v (suc k)) (noBeds r)) (listAt v j 0 after))
           → Listed store patients terms roots v m size after j (k + 1)
-      next-tree {after = then} {j} count long found =
+      next-tree {after = then} {j} count long padded found =
           record {
             count = count;
             long = long ∙ listed .long;
             upto = omega arith;
+            padded = padded;
             first = λ r planted. subst⁻¹ (λ i. First rowOrder m (RowOf r (treesBelow r v i) (noBeds r)) (listAt v j 0 then)) (add-one k) (found r planted);
           }
 
       pub listed-tree : {after : List ℕ} {j : ℕ} → GivesTree store patients terms v m n now w after j → Listed store patients terms roots v m size after j (k + 1)
-      listed-tree gives = next-tree (gives .count) (gives .long) (λ r planted. gives .first r _ _ (treed r planted))
+      listed-tree gives = next-tree (gives .count) (gives .long) (gives .padded) (λ r planted. gives .first r _ _ (treed r planted))
 
       -- Nobody has k for a root.
       pub listed-none : length (members w) ≡ 0 → Listed store patients terms roots v m size now n (k + 1)
       listed-none empty =
-          next-tree (listed .count) refl (λ r planted.
+          next-tree (listed .count) refl (listed .padded) (λ r planted.
           subst⁻¹ (λ D. First rowOrder m (RowOf r D (noBeds r)) (listAt v n 0 now)) (fun-ext (λ q. gone (split r planted q) (nobody r planted q))) (listed .first r planted))
         where
           none-in : (l : List ℕ) → length l ≡ 0 → (q : ℕ) → contains l q ≡ false

@@ -6,41 +6,48 @@ use Prim.Native.Nat.{_≤_}
 use native.Mathlib.Decide.{decLt}
 use native.Mathlib.Nat.{le-trans, mul-le-mul-right}
 use native.Mathlib.Omega.{arith}
+use lib.Seq.{getD-take}
 use lib.ListN.{getD-replicate, length-replicate, List·getD-eq-default}
 use Rattle.definitions.specs.Basics.{ℕ, zero, suc, _+_, _*_, _<_, Bool, true, false, _||_, Option, none, some, List, [], _∷_, _++_, map, length, getD, take, replicate, sum, every, keep, eqb, contains, noneOr}
 use Rattle.definitions.specs.Limits.{limits, within, entry}
 use Rattle.definitions.specs.Syntax.{Table, Region, patientAt}
 use Rattle.definitions.specs.Plans.{Plan, Row, bedOf, constraints, costOver}
 use Rattle.definitions.specs.Questions.{entriesWithin}
-use Rattle.ranking.specs.Members.{_∈_}
+use mathlib.Core.Logic.{inl, inr}
+use Rattle.ranking.specs.Members.{_∈_, here-or-there, none-in-nil, in-map}
 use Rattle.ranking.specs.First.{First, first-iff, Sorted}
 use Rattle.ranking.specs.Growing.{Grown, Ready, ready-nil}
-use Rattle.ranking.specs.Combining.{Injective}
+use Rattle.ranking.specs.Combining.{Combined, Injective}
+use Rattle.ranking.specs.Mapped.{sorted-back}
 use Rattle.theorems.specs.List.{rowOrder}
 use Rattle.theorems.specs.Kept.{keep-short}
 use Rattle.theorems.specs.Accepted.{cost-most}
 use Rattle.patient_set.specs.Lists.{every-keep}
 use Rattle.patient_set.specs.Sets.{members}
 use Rattle.patient_set.specs.Laws.{size-most}
-use Rattle.partial_rows.specs.Sets.{Patients}
+use Rattle.partial_rows.specs.Sets.{Patients, Splits, not-both}
 use Rattle.partial_rows.specs.Rows.{holds, tablesOf, noBeds, emptyRow, RowOf, Position, Branch}
 use Rattle.partial_rows.specs.Adding.{addBeds, addRows}
+use Rattle.partial_rows.specs.Padding.{cut, Padded, padded-zero}
 use Rattle.partial_rows.specs.Beds.{no-bed, inside, outside}
 use Rattle.partial_rows.specs.Contexts.{row-context}
 use Rattle.partial_rows.specs.Parts.{parts-injective, parts-combined}
 use Rattle.partial_rows.specs.Walk.{position-start, walk-finds}
 use Rattle.buckets.specs.Terms.{Answered, Fitting, Prepared, leastAt, leastIn}
 use Rattle.buckets.specs.Right.{beds-some, beds-few, tables-few}
-use Rattle.row_list.specs.Rows.{rowIn, rowsIn, rowOf, Room, Stored}
+use Rattle.packed_rows.specs.declared.Row as Code
+use Rattle.packed_rows.specs.Packed.{rowOf, Fit}
+use Rattle.packed_rows.specs.Packing.{packedRow}
+use Rattle.row_list.specs.Rows.{wholeRows, rowsIn, Room, Stored}
 use Rattle.row_list.specs.Laws.{rows-none, rows-more}
-use Rattle.row_list.specs.declared.Row as Code
 use Rattle.row_sums.specs.Sums as Sums
-use Rattle.row_sums.specs.Sums.{part, listAt, Small}
+use Rattle.row_sums.specs.Sums.{part, wholeAt, listAt}
 use Rattle.row_sums.specs.Areas.{replaced, replaced-long, part-long, part-new, part-before}
 use Rattle.search.specs.Lowest.{Upward}
-use Rattle.search.specs.Walks.{remaining, leftIn, headRow, Light, Heads, BranchOf, Asks, Gives}
+use Rattle.search.specs.Walks.{remaining, leftIn, headRow, Light, Heads, BranchOf, AllPadded, Asks, Gives}
 use Rattle.search.specs.Trees.{LeastSummed, AsksStart, GivesStart, Treed, AsksTree, GivesTree}
 use Rattle.search.specs.declared.walk.Head.{Head}
+use Rattle.search.proofs.Padded.{cut-keeps, row-padded, row-cut, sum-padded, injective-back, first-cut}
 
 pub take-zeros : (v n : ℕ) → v ≤ n → take {A = ℕ} v (replicate n 0) ≡ replicate v 0
 take-zeros zero n h = refl
@@ -52,20 +59,29 @@ zero-bed n s = elim (decLt s n) [ yes h ↦ getD-replicate n s 0 0 h | no h ↦ 
 
 -- ---- the list of nobody
 
-pub started : (v : ℕ) (work new : List ℕ) (x : Code.Row) → AsksStart v work → x .cost ≡ 0 → x .beds ≡ replicate 32 0 → Stored v 0 x (part 0 work) new → GivesStart v work (replaced 0 new work)
-started v work new x asks free empty stored = record {
+pub started : (v : ℕ) (work new : List ℕ) (x : Code.Row) → AsksStart v work → rowOf x ≡ packedRow v 0 (replicate 32 0) → Stored 0 x (part 0 work) new → GivesStart v work (replaced 0 new work)
+started v work new x asks packed stored = record {
   long = replaced-long 0 work new fits long;
-  row = ap (rowsIn v 1) (part-new 0 work new fits long) ∙ rows-more v 0 new ∙ ap₂ (λ (l : List Row) (z : Row). l ++ (z ∷ [])) (rows-none v new) (stored .row ∙ row);
+  row = ap (map (cut v)) whole ∙ ap (λ (z : Row). z ∷ []) row;
+  padded = λ z k. elim (here-or-there (subst (λ (l : List Row). z ∈ l) whole k)) [
+    | inl e ↦ subst⁻¹ (Padded v) e (row-padded v 0 (replicate 32 0) (asks .patients) refl x packed)
+    | inr t ↦ absurd (none-in-nil t)
+  ];
 }
   where
-    fits : 2_176 ≤ length work
+    fits : 384 ≤ length work
     fits = omega (arith, asks .long)
 
-    long : length new ≡ 2_176
+    long : length new ≡ 384
     long = stored .long ∙ part-long 0 work fits
 
-    row : rowOf v x ≡ record { cost = 0; beds = replicate v 0 }
-    row = let beds : take v (x .beds) ≡ replicate v 0 = ap (take v) empty ∙ take-zeros v 32 (asks .patients) in λ i. record { cost = free i; beds = beds i }
+    whole : wholeAt 1 0 (replaced 0 new work) ≡ rowOf x ∷ []
+    whole = ap (wholeRows 1) (part-new 0 work new fits long) ∙ rows-more 0 new ∙ ap₂ (λ (l : List Row) (z : Row). l ++ (z ∷ [])) (rows-none new) (stored .row)
+
+    row : cut v (rowOf x) ≡ record { cost = 0; beds = replicate v 0 }
+    row =
+        row-cut v 0 (replicate 32 0) (asks .patients) refl x packed (λ s h. omega (arith, zero-bed 32 s))
+        ∙ ap (λ (beds : List ℕ). record { cost = 0; beds = beds }) (take-zeros v 32 (asks .patients))
 
 -- ---- the head of a walk over a whole set
 
@@ -126,9 +142,9 @@ module _ {r : Region} {D E : Patients} {store patients terms : List ℕ} {v m n 
     -- The walk from there finds the first rows of the set.
     pub tree-first : {area now : List ℕ} {found : ℕ} → Gives store patients terms v 0 m area head now found → First rowOrder m (RowOf r (contains (members set)) (noBeds r)) (rowsIn v found now)
     tree-first {area} {now} {found} gives =
-        let empty : Ready rowOrder m (rowsIn v 0 area) (BranchOf r v head) = subst⁻¹ (λ l. Ready rowOrder m l (BranchOf r v head)) (rows-none v area) ready-nil in
+        let empty : Ready rowOrder m (rowsIn v 0 area) (BranchOf r v head) = subst⁻¹ (λ l. Ready rowOrder m l (BranchOf r v head)) (ap (map (cut v)) (rows-none area)) ready-nil in
         let grown : Grown rowOrder m [] (BranchOf r v head) (rowsIn v found now) =
-        subst (λ l. Grown rowOrder m l (BranchOf r v head) (rowsIn v found now)) (rows-none v area) (gives .grown r heads-start empty) in
+        subst (λ l. Grown rowOrder m l (BranchOf r v head) (rowsIn v found now)) (ap (map (cut v)) (rows-none area)) (gives .grown r heads-start empty) in
         let branch : BranchOf r v head ≡ Branch r (contains (members set)) (head .plan .beds) (emptyRow r) = λ i. Branch r (fresh-left i) (head .plan .beds) (fresh-row i) in
         let first = walk-finds r (contains (members set)) (head .plan .beds) (subst (λ Q. Grown rowOrder m [] Q (rowsIn v found now)) branch grown) in
         first-iff (λ z. row-context (λ t k h s i. fresh-free s ∙ sym (no-bed r s))) (λ z. row-context (λ t k h s i. no-bed r s ∙ sym (fresh-free s))) first
@@ -155,10 +171,17 @@ module _ (r : Region) (answered : Answered r) (D : Patients) (placed : Plan) whe
           let none-there : bedOf (z .beds) s ≡ 0 = List·getD-eq-default (z .beds) 0 past in
           omega arith
 
-  pub rows-small : {m : ℕ} {l : List Row} → First rowOrder m (RowOf r D placed) l → Small l
-  rows-small first z k =
-      let row = first .sound k in
-      (omega (arith, rows-cost z row), λ s. omega (arith, rows-bed z row s))
+-- The sum of rows of two parts fits, since one of each two beds is 0.
+sum-fits : (r : Region) → Answered r → {D E F : Patients} → Splits D E F → (placed : Plan) (v : ℕ) (x y : Row) → Padded v x → Padded v y → RowOf r E placed (cut v x) → RowOf r F placed (cut v y)
+    → Fit x y
+sum-fits r answered {D} {E} {F} split placed v x y p q one two = record {
+  cost = omega (arith, rows-cost r answered E placed (cut v x) one, rows-cost r answered F placed (cut v y) two);
+  beds = λ s. elim (decLt s v) [ yes h ↦ known s h (E s) refl | no h ↦ omega (arith, padded-zero v x s p (omega arith), padded-zero v y s q (omega arith)) ];
+}
+  where
+    known : (s : ℕ) → s < v → (b : Bool) → E s ≡ b → bedOf (x .beds) s + bedOf (y .beds) s < 16
+    known s h true e = omega (arith, getD-take v (x .beds) s 0 h, getD-take v (y .beds) s 0 h, rows-bed r answered E placed (cut v x) one s, outside (two .fits) s (not-both split s e))
+    known s h false e = omega (arith, getD-take v (x .beds) s 0 h, getD-take v (y .beds) s 0 h, outside (one .fits) s e, rows-bed r answered F placed (cut v y) two s)
 
 -- ---- one more tree
 
@@ -170,54 +193,81 @@ module _ {store patients terms : List ℕ} {v m n : ℕ} {work : List ℕ} {set 
         heads = heads-start (asks .treed) (asks .few) fresh;
         light = light-start fresh;
         room = record {
-          patients = asks .few;
           held = omega arith;
           wanted = asks .wanted;
           some = asks .some;
           long = omega (arith, part-long 1 work (omega (arith, asks .long)));
         };
+        padded = λ z k. absurd (none-in-nil (subst (λ (l : List Row). z ∈ l) (rows-none (part 1 work)) k));
       }
 
   module _ {new : List ℕ} {found : ℕ} (gives : Gives store patients terms v 0 m (part 1 work) head new found) where
-    fits : 1 * 2_176 + 2_176 ≤ length work
+    fits : 1 * 384 + 384 ≤ length work
     fits = omega (arith, asks .long)
 
-    long : length new ≡ 2_176
+    long : length new ≡ 384
     long = gives .long ∙ part-long 1 work fits
 
     abbrev walked : List ℕ
-    walked = replaced 2_176 new work
+    walked = replaced 384 new work
 
-    next-list : listAt v found 1 walked ≡ rowsIn v found new
-    next-list = ap (rowsIn v found) (part-new 1 work new fits long)
+    next-part : part 1 walked ≡ new
+    next-part = part-new 1 work new fits long
 
-    list-kept : listAt v n 0 walked ≡ listAt v n 0 work
-    list-kept = ap (rowsIn v n) (part-before 1 work new fits long 0 (omega arith))
+    part-kept : part 0 walked ≡ part 0 work
+    part-kept = part-before 1 work new fits long 0 (omega arith)
 
-    pub asks-combine : Sums.Asks v m n found walked
+    -- The rows of both lists have bed 0 from patient v on.
+    first-padded : (x : Row) → x ∈ wholeAt n 0 walked → Padded v x
+    first-padded = subst⁻¹ (AllPadded v n) part-kept (asks .padded)
+
+    second-padded : (y : Row) → y ∈ wholeAt found 1 walked → Padded v y
+    second-padded = subst⁻¹ (AllPadded v found) next-part (gives .padded)
+
+    -- And they are the first rows of their parts.
+    module _ (r : Region) {D E : Patients} (treed : Treed r D E store patients terms v m n work set) where
+      one : First rowOrder m (RowOf r E (noBeds r)) (listAt v n 0 walked)
+      one = subst⁻¹ (λ (p : List ℕ). First rowOrder m (RowOf r E (noBeds r)) (rowsIn v n p)) part-kept (treed .first)
+
+      two : First rowOrder m (RowOf r (contains (members set)) (noBeds r)) (listAt v found 1 walked)
+      two = subst⁻¹ (λ (p : List ℕ). First rowOrder m (RowOf r (contains (members set)) (noBeds r)) (rowsIn v found p)) next-part (tree-first treed (asks .few) fresh gives)
+
+      module _ {after : List ℕ} {k : ℕ} (sums : Sums.Gives m n found walked after k) where
+        shows : Injective addRows (λ x. x ∈ listAt v n 0 walked) (λ y. y ∈ listAt v found 1 walked)
+        shows a x b y i j p q = parts-injective r (treed .split) (treed .apart) (noBeds r) a x b y (one .sound i) (one .sound j) (two .sound p) (two .sound q)
+
+        whole-first : First rowOrder m (Combined addRows (λ x. x ∈ wholeAt n 0 walked) (λ y. y ∈ wholeAt found 1 walked)) (wholeAt k 0 after)
+        whole-first =
+            sums .first (in-order (wholeAt n 0 walked) first-padded (one .sorted)) (in-order (wholeAt found 1 walked) second-padded (two .sorted))
+            (injective-back v (asks .few) (wholeAt n 0 walked) (wholeAt found 1 walked) first-padded second-padded shows)
+          where
+            in-order : (l : List Row) → ((z : Row) → z ∈ l → Padded v z) → Sorted rowOrder (map (cut v) l) → Sorted rowOrder l
+            in-order = sorted-back rowOrder rowOrder (cut v) (Padded v) (cut-keeps v (asks .few))
+
+        both-first : First rowOrder m (RowOf r D (noBeds r)) (listAt v k 0 after)
+        both-first =
+            parts-combined r (treed .split) (treed .apart) (noBeds r) (omega arith) (omega arith) one two
+            (first-cut v (asks .few) (wholeAt n 0 walked) (wholeAt found 1 walked) first-padded second-padded whole-first)
+
+    pub asks-combine : Sums.Asks m n found walked
     asks-combine =
         record {
-          patients = asks .few;
           some = asks .some;
           wanted = asks .wanted;
           first = asks .held;
           second = gives .count;
           long = omega (arith, asks .long, replaced-long 1 work new fits long);
-          firstSmall = subst⁻¹ Small list-kept (rows-small (asks .region) (asks .treed .prepared .answered) (asks .E) (noBeds (asks .region)) (asks .treed .first));
-          secondSmall = subst⁻¹ Small next-list
-              (rows-small (asks .region) (asks .treed .prepared .answered) (contains (members set)) (noBeds (asks .region)) (tree-first (asks .treed) (asks .few) fresh gives));
+          fits = λ x y i j.
+              sum-fits (asks .region) (asks .treed .prepared .answered) (asks .treed .split) (noBeds (asks .region)) v x y (first-padded x i) (second-padded y j)
+              (one (asks .region) (asks .treed) .sound (in-map (cut v) i)) (two (asks .region) (asks .treed) .sound (in-map (cut v) j));
         }
 
-    pub tree-added : {after : List ℕ} {k : ℕ} → Sums.Gives v m n found walked after k → GivesTree store patients terms v m n work set after k
-    tree-added {after} {k} sums =
+    pub tree-added : {after : List ℕ} {k : ℕ} → Sums.Gives m n found walked after k → GivesTree store patients terms v m n work set after k
+    tree-added sums =
         record {
           count = sums .count;
           long = sums .long ∙ replaced-long 1 work new fits long;
-          first = λ r D E treed.
-              let one : First rowOrder m (RowOf r E (noBeds r)) (listAt v n 0 walked) = subst⁻¹ (First rowOrder m (RowOf r E (noBeds r))) list-kept (treed .first) in
-              let two : First rowOrder m (RowOf r (contains (members set)) (noBeds r)) (listAt v found 1 walked) =
-              subst⁻¹ (First rowOrder m (RowOf r (contains (members set)) (noBeds r))) next-list (tree-first treed (asks .few) fresh gives) in
-              parts-combined r (treed .split) (treed .apart) (noBeds r) (omega arith) (omega arith) one two
-              (sums .first (one .sorted) (two .sorted)
-              (λ a x b y i j p q. parts-injective r (treed .split) (treed .apart) (noBeds r) a x b y (one .sound i) (one .sound j) (two .sound p) (two .sound q)));
+          padded = λ z i.
+              sum-padded v (asks .few) (wholeAt n 0 walked) (wholeAt found 1 walked) first-padded second-padded z (whole-first (asks .region) (asks .treed) sums .sound i);
+          first = λ r D E treed. both-first r treed sums;
         }

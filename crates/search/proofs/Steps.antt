@@ -14,6 +14,7 @@ use Rattle.partial_rows.specs.Sets.{only, Splits}
 use Rattle.partial_rows.specs.Rows.{Position, decidedTables, withBed, LowerBound}
 use Rattle.partial_rows.specs.Branches.{position-bed}
 use Rattle.buckets.specs.Terms.{Fitting, bucketOf, leastIn, leastAt, bedsAt, Prepared}
+use Rattle.buckets.specs.Right.{beds-few}
 use Rattle.pricing.specs.BedCosts as Price
 use Rattle.pricing.specs.Pricing.{sumIn}
 use Rattle.pricing.specs.Costs.{fitting-set}
@@ -58,6 +59,12 @@ module _ {r : Region} {store patients terms : List ℕ} {v : ℕ} {head : Head} 
   pub asks-beds : Light head → {count : ℕ} → count ≡ bedsAt patients s → Price.Asks store patients terms s count (head .plan .beds) (replicate 16 0)
   asks-beds light counts =
       record { region = r; prepared = heads .prepared; fits = heads .fits; known = known; few = few; counts = counts; long = light .beds; zeros = refl }
+
+-- Four bits hold each bed that fits.
+pub low-beds : {r : Region} {store patients terms : List ℕ} {v : ℕ} {head : Head} → Heads r store patients terms v head → (beds : List ℕ) → Fitting r beds → (q : ℕ) → q < v → bedOf beds q < 16
+low-beds {r} heads beds fits q h =
+    let is : q < length (r .patients) = omega (arith, heads .counted) in
+    omega (arith, fits q is, beds-few r (heads .prepared .answered) q is)
 
 -- What is asked for on the way to the head below a bed.
 module _ {store patients terms : List ℕ} {head : Head} {s bed : ℕ} (asks : AsksNext store patients terms head s bed) where

@@ -17,14 +17,19 @@ use Rattle.theorems.specs.List.{rowOrder}
 use Rattle.patient_set.specs.Sets.{first}
 use Rattle.partial_rows.specs.Sets.{only, Splits}
 use Rattle.partial_rows.specs.Rows.{Branch, decidedTables, withBed}
+use Rattle.partial_rows.specs.Padding.{cut, Padded}
 use Rattle.partial_rows.specs.Walk.{BranchBelow, walk-leaf, walk-cut, walk-none, ready-bed, walk-bed, walk-skip, walk-all}
 use Rattle.buckets.specs.Terms.{bedsAt}
 use Rattle.buckets.specs.Right.{beds-few}
-use Rattle.row_list.specs.Rows.{rowOf, rowIn, rowsIn, isBefore, Room}
-use Rattle.row_list.specs.Laws.{rows-long, rows-at}
-use Rattle.search.specs.Walks.{remaining, leftIn, headRow, Light, Heads, BranchOf, AsksNext, Below, Decides, isPast, Asks, Gives}
+use Rattle.packed_rows.specs.declared.Row as Code
+use Rattle.packed_rows.specs.Packed.{rowOf, isBefore}
+use Rattle.packed_rows.specs.Packing.{packedRow}
+use Rattle.row_list.specs.Rows.{rowIn, rowsIn, Room, Inserted}
+use Rattle.row_list.specs.Laws.{cut-long, cut-at}
+use Rattle.search.specs.Walks.{remaining, leftIn, headRow, Light, Heads, BranchOf, AsksNext, Below, Decides, AllPadded, isPast, AsksCut, Asks, Gives}
 use Rattle.search.specs.declared.walk.Head.{Head}
-use Rattle.search.proofs.Steps.{known, split, decided, below-split, row-below, light-below, heads-below, bound-holds}
+use Rattle.search.proofs.Steps.{known, low-beds, split, decided, fits-next, asks-few, asks-room, below-split, row-below, light-below, heads-below, bound-holds}
+use Rattle.search.proofs.Padded.{row-padded, row-cut, inserted-cut, inserted-padded}
 
 -- A row that is not before another.
 not-before : (v w : Row) → isBefore (compareRows v w) ≡ false → rowOrder .Lt v w → ⊥
@@ -43,23 +48,36 @@ pub record Sofar (store patients terms : List ℕ) (v n m : ℕ) (area : List �
   pub bed-most : bed ≤ count
   pub few : found ≤ m
   pub long : length now ≡ length area
+  pub padded : AllPadded v found now
   pub grown : (r : Region) → Heads r store patients terms v head → Ready rowOrder m (rowsIn v n area) (BranchOf r v head)
       → Grown rowOrder m (rowsIn v n area) (BranchBelow r (leftIn head) (head .plan .beds) (headRow v head) s bed) (rowsIn v found now)
 
 module _ {store patients terms : List ℕ} {v n m : ℕ} {area : List ℕ} {head : Head} where
   -- Nobody is left: the row of the head is inserted.
-  pub walk-end : {found : ℕ} {now : List ℕ} → isEmpty (remaining head) ≡ true → found ≤ m → length now ≡ length area
-      → (Rising rowOrder (rowsIn v n area) → rowsIn v found now ≡ take m (insert compareRows (headRow v head) (rowsIn v n area))) → Gives store patients terms v n m area head now found
-  walk-end nobody few long rows =
+  pub walk-end : Asks store patients terms v n m area head → {found : ℕ} {now : List ℕ} (x : Code.Row) → isEmpty (remaining head) ≡ true
+      → rowOf x ≡ packedRow v (head .cost) (head .plan .beds) → Inserted n m x area now found → Gives store patients terms v n m area head now found
+  walk-end asks {found} {now} x nobody packed ins =
       record {
-        count = few;
-        long = long;
-        grown = λ r heads ready. rw (rows (sorted-rising rowOrder (rowsIn v n area) (ready .sorted))) (walk-leaf r (leftIn head) (head .plan .beds) (headRow v head) ready (gone (remaining head) nobody) (heads .position .long));
+        count = ins .count;
+        long = ins .long;
+        padded = inserted-padded v n m area few (asks .padded) x row ins;
+        grown = λ r heads ready.
+            let rows = inserted-cut v n m area few (asks .padded) x row ins (sorted-rising rowOrder (rowsIn v n area) (ready .sorted)) ∙ ap (λ (z : Row). take m (insert compareRows z (rowsIn v n area))) is in
+            rw rows (walk-leaf r (leftIn head) (head .plan .beds) (headRow v head) ready (gone (remaining head) nobody) (heads .position .long));
       }
     where
       gone : (l : List ℕ) → isEmpty l ≡ true → (s : ℕ) → contains l s ≡ false
       gone [] e s = refl
       gone (x ∷ l) e s = absurd (false≢true e)
+
+      few : v ≤ 32
+      few = asks .heads .few
+
+      row : Padded v (rowOf x)
+      row = row-padded v (head .cost) (head .plan .beds) few (asks .light .beds) x packed
+
+      is : cut v (rowOf x) ≡ headRow v head
+      is = row-cut v (head .cost) (head .plan .beds) few (asks .light .beds) x packed (low-beds (asks .heads) (head .plan .beds) (asks .heads .fits))
 
   module _ (asks : Asks store patients terms v n m area head) {s : ℕ} where
     pub sofar-start : {count : ℕ} (others : List ℕ) → remaining head ≡ s ∷ others → count ≡ bedsAt patients s → Sofar store patients terms v n m area head s count area n 0
@@ -71,6 +89,7 @@ module _ {store patients terms : List ℕ} {v n m : ℕ} {area : List ℕ} {head
           bed-most = omega arith;
           few = asks .room .held;
           long = refl;
+          padded = asks .padded;
           grown = λ r heads ready. walk-none s (split-of r heads) (heads .position) ready;
         }
       where
@@ -84,16 +103,17 @@ module _ {store patients terms : List ℕ} {v n m : ℕ} {area : List ℕ} {head
         record {
           count = sofar .few;
           long = sofar .long;
+          padded = sofar .padded;
           grown = λ r heads ready.
               let all : bed ≡ patientAt r s .bedCount = omega (arith, sofar .bed-most, sofar .counts, heads .prepared .beds s (known heads (sofar .lowest))) in
               walk-all s (split heads (sofar .lowest)) (heads .position) ready
               (subst (λ b. Grown rowOrder m (rowsIn v n area) (BranchBelow r (leftIn head) (head .plan .beds) (headRow v head) s b) (rowsIn v found now)) all (sofar .grown r heads ready));
         }
 
-    pub room-now : Room v found m now
+    pub room-now : Room found m now
     room-now =
         let room = asks .room in
-        record { patients = room .patients; held = sofar .few; wanted = room .wanted; some = room .some; long = omega (arith, room .long, sofar .long) }
+        record { held = sofar .few; wanted = room .wanted; some = room .some; long = omega (arith, room .long, sofar .long) }
 
     module _ (more : bed < count) where
       fits : (r : Region) → Heads r store patients terms v head → bed < patientAt r s .bedCount
@@ -114,12 +134,24 @@ module _ {store patients terms : List ℕ} {v n m : ℕ} {area : List ℕ} {head
             fits = fits (asks .region) (asks .heads);
           }
 
+      pub asks-cut : AsksCut v found m now (head .plan) s bed
+      asks-cut =
+          record {
+            patients = asks .heads .few;
+            room = room-now;
+            padded = sofar .padded;
+            few = asks-few asks-next;
+            placed = asks-room asks-next;
+            beds = asks .light .beds;
+            low = low-beds (asks .heads) (set (head .plan .beds) s bed) (fits-next (asks .heads) (sofar .lowest) (asks .light) bed (fits (asks .region) (asks .heads)));
+          }
+
       -- One more bed, however the list grew by its rows.
-      next-bed : {after : List ℕ} {grows : ℕ} → grows ≤ m → length after ≡ length now
+      next-bed : {after : List ℕ} {grows : ℕ} → grows ≤ m → length after ≡ length now → AllPadded v grows after
           → ((r : Region) (heads : Heads r store patients terms v head) → Ready rowOrder m (rowsIn v n area) (BranchOf r v head)
           → Grown rowOrder m (rowsIn v n area) (BranchBelow r (leftIn head) (head .plan .beds) (headRow v head) s (suc bed)) (rowsIn v grows after))
           → Sofar store patients terms v n m area head s count after grows (bed + 1)
-      next-bed {after} {grows} few long grown =
+      next-bed {after} {grows} few long padded grown =
           record {
             others = sofar .others;
             lowest = sofar .lowest;
@@ -127,6 +159,7 @@ module _ {store patients terms : List ℕ} {v n m : ℕ} {area : List ℕ} {head
             bed-most = omega arith;
             few = few;
             long = long ∙ sofar .long;
+            padded = padded;
             grown = λ r heads ready.
                 subst⁻¹ (λ b. Grown rowOrder m (rowsIn v n area) (BranchBelow r (leftIn head) (head .plan .beds) (headRow v head) s b) (rowsIn v grows after)) (add-one bed) (grown r heads ready);
           }
@@ -134,7 +167,7 @@ module _ {store patients terms : List ℕ} {v n m : ℕ} {area : List ℕ} {head
       -- A forbidden bed.
       pub sofar-skip : Decides store patients terms head s bed none → Sofar store patients terms v n m area head s count now found (bed + 1)
       sofar-skip decides =
-          next-bed (sofar .few) refl (λ r heads ready.
+          next-bed (sofar .few) refl (sofar .padded) (λ r heads ready.
           walk-skip s (split heads (sofar .lowest)) (heads .position) ready
           (ap (λ l. costOver l r (set (head .plan .beds) s bed)) (decided heads (sofar .lowest)) ∙ decides r v heads (fits r heads)) (sofar .grown r heads ready))
 
@@ -147,6 +180,7 @@ module _ {store patients terms : List ℕ} {v n m : ℕ} {area : List ℕ} {head
               heads = heads-below is (asks .heads) (asks .light) (fits (asks .region) (asks .heads));
               light = light-below is (asks .light);
               room = room-now;
+              padded = sofar .padded;
             }
 
         module _ (r : Region) (heads : Heads r store patients terms v head) (ready : Ready rowOrder m (rowsIn v n area) (BranchOf r v head)) where
@@ -167,7 +201,7 @@ module _ {store patients terms : List ℕ} {v n m : ℕ} {area : List ℕ} {head
 
         pub sofar-walk : {after : List ℕ} {grows : ℕ} → Gives store patients terms v found m now below after grows → Sofar store patients terms v n m area head s count after grows (bed + 1)
         sofar-walk {after = then} {grows} gives =
-            next-bed (gives .count) (gives .long) (λ r heads ready.
+            next-bed (gives .count) (gives .long) (gives .padded) (λ r heads ready.
             grown-below r heads ready then grows (gives .grown r (heads-below is heads (asks .light) (fits r heads)) (ready-below r heads ready)))
 
         pub sofar-cut : isPast v found m now (below .cost + below .bound) (below .plan .beds) ≡ true → Sofar store patients terms v n m area head s count now found (bed + 1)
@@ -177,10 +211,10 @@ module _ {store patients terms : List ℕ} {v n m : ℕ} {area : List ℕ} {head
             let full : found ≡ m = eqb-true found m (parts .0) in
             let d : Row = record { cost = 0; beds = [] } in
             let best : Row = record { cost = below .cost + below .bound; beds = take v (below .plan .beds) } in
-            let last = rows-at v found now (m - 1) d (omega (arith, asks .room .some)) in
-            next-bed (sofar .few) refl (λ r heads ready.
+            let last = cut-at v found now (m - 1) d (omega (arith, asks .room .some)) in
+            next-bed (sofar .few) refl (sofar .padded) (λ r heads ready.
             grown-below r heads ready now found
-            (walk-cut r (leftIn below) (below .plan .beds) (headRow v below) (ready-below r heads ready) (m - 1) (below .bound) d (omega (arith, asks .room .some)) (rows-long v found now ∙ full)
+            (walk-cut r (leftIn below) (below .plan .beds) (headRow v below) (ready-below r heads ready) (m - 1) (below .bound) d (omega (arith, asks .room .some)) (cut-long v found now ∙ full)
             (bound-holds (heads-below is heads (asks .light) (fits r heads)))
             (λ lt. not-before best (rowIn v now (m - 1)) (not-true _ (parts .1)) (subst⁻¹ (rowOrder .Lt best) last lt))))
 

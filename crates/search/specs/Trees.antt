@@ -13,8 +13,9 @@ use Rattle.held_region.specs.declared.Region as Code
 use Rattle.held_region.specs.Held.{Holds}
 use Rattle.buckets.specs.Terms.{leastAt, Answered, Planned, Prepared}
 use Rattle.forest.specs.Trees.{Rooted}
-use Rattle.row_sums.specs.Sums.{listAt}
+use Rattle.row_sums.specs.Sums.{part, listAt}
 use Rattle.search.specs.Lowest.{Upward}
+use Rattle.search.specs.Walks.{AllPadded}
 
 -- The sum of the least numbers of some patients' buckets, a word each.
 pub record LeastSummed (patients : List ℕ) (l : List ℕ) (n : ℕ) : Type 0 where
@@ -25,11 +26,12 @@ pub record LeastSummed (patients : List ℕ) (l : List ℕ) (n : ℕ) : Type 0 w
 
 pub record AsksStart (v : ℕ) (work : List ℕ) : Type 0 where
   pub patients : v ≤ 32
-  pub long : 6_528 ≤ length work
+  pub long : 1_152 ≤ length work
 
 pub record GivesStart (v : ℕ) (work after : List ℕ) : Type 0 where
   pub long : length after ≡ length work
   pub row : listAt v 1 0 after ≡ record { cost = 0; beds = replicate v 0 } ∷ []
+  pub padded : AllPadded v 1 (part 0 after)
 
 -- ---- one more tree
 
@@ -52,11 +54,13 @@ pub record AsksTree (store patients terms : List ℕ) (v m n : ℕ) (work : List
   pub some : 0 < m
   pub wanted : m ≤ 64
   pub held : n ≤ m
-  pub long : 6_528 ≤ length work
+  pub long : 1_152 ≤ length work
+  pub padded : AllPadded v n (part 0 work)
 
 pub record GivesTree (store patients terms : List ℕ) (v m n : ℕ) (work : List ℕ) (set : ℕ) (after : List ℕ) (k : ℕ) : Type 0 where
   pub count : k ≤ m
   pub long : length after ≡ length work
+  pub padded : AllPadded v k (part 0 after)
   pub first : (r : Region) (D E : Patients) → Treed r D E store patients terms v m n work set → First rowOrder m (RowOf r D (noBeds r)) (listAt v k 0 after)
 
 -- ---- all trees
@@ -71,7 +75,7 @@ pub record Planted (r : Region) (store patients terms roots : List ℕ) (v m : �
 pub record AsksForest (store patients terms roots : List ℕ) (v m : ℕ) (work : List ℕ) : Type 0 where
   pub region : Region
   pub planted : Planted region store patients terms roots v m
-  pub long : 6_528 ≤ length work
+  pub long : 1_152 ≤ length work
 
 pub record GivesForest (store patients terms roots : List ℕ) (v m : ℕ) (work after : List ℕ) (n : ℕ) : Type 0 where
   pub count : n ≤ m
@@ -82,7 +86,7 @@ pub record GivesForest (store patients terms roots : List ℕ) (v m : ℕ) (work
 
 pub record AsksRegion (h : Code.Region) (work : List ℕ) : Type 0 where
   pub planned : Planned h
-  pub long : 6_528 ≤ length work
+  pub long : 1_152 ≤ length work
 
 pub record GivesRegion (h : Code.Region) (work after : List ℕ) (n : ℕ) : Type 0 where
   pub count : n ≤ h .m

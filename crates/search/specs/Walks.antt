@@ -3,14 +3,17 @@ use lib.ListN.{set}
 use Prim.Native.Nat.{_≤_}
 use Rattle.definitions.specs.Basics.{ℕ, _+_, _-_, _*_, _<_, _≡_, Bool, true, false, not, _&&_, Option, none, some, List, _∷_, map, length, take, sum, eqb, contains}
 use Rattle.definitions.specs.Syntax.{Region, patientAt}
-use Rattle.definitions.specs.Plans.{Row, costOver, compareRows}
+use Rattle.definitions.specs.Plans.{Row, bedOf, costOver, compareRows}
+use Rattle.ranking.specs.Members.{_∈_}
 use Rattle.ranking.specs.Growing.{Grown, Ready}
 use Rattle.theorems.specs.List.{rowOrder}
 use Rattle.patient_set.specs.Sets.{members}
 use Rattle.partial_rows.specs.Rows.{Branch, Position}
 use Rattle.buckets.specs.Terms.{Fitting, bucketOf, leastIn, leastAt, Prepared}
 use Rattle.pricing.specs.declared.Plan as Code
-use Rattle.row_list.specs.Rows.{rowWith, rowIn, rowsIn, isBefore, Room}
+use Rattle.partial_rows.specs.Padding.{cut, Padded}
+use Rattle.packed_rows.specs.Packed.{isBefore}
+use Rattle.row_list.specs.Rows.{wholeRows, rowIn, rowsIn, Room}
 use Rattle.search.specs.Lowest.{Upward}
 use Rattle.search.specs.declared.walk.Head.{Head}
 use Rattle.search.specs.declared.walk.Rest.{Rest}
@@ -80,17 +83,24 @@ pub record GivesRest (patients : List ℕ) (head : Head) (s : ℕ) (rest : Rest)
   pub left : (others : List ℕ) → remaining head ≡ s ∷ others → remaining head ≡ s ∷ members (rest .left .0)
   pub bound : rest .bound ≡ head .bound - leastAt patients s
 
+-- The first n rows of a list have bed 0 from patient v on.
+abbrev pub AllPadded : ℕ → ℕ → List ℕ → Type 0
+AllPadded v n area = (z : Row) → z ∈ wholeRows n area → Padded v z
+
 -- ---- the cut
 
 -- The list is full, and a row of this cost and these beds is not before its last row.
 unfoldable pub isPast : ℕ → ℕ → ℕ → List ℕ → ℕ → List ℕ → Bool
-isPast v n m area cost beds = eqb n m && not (isBefore (compareRows (rowWith v cost beds) (rowIn v area (m - 1))))
+isPast v n m area cost beds = eqb n m && not (isBefore (compareRows (cut v (record { cost = cost; beds = beds })) (rowIn v area (m - 1))))
 
-pub record AsksCut (v n m : ℕ) (area : List ℕ) (plan : Code.Plan) (s : ℕ) : Type 0 where
-  pub room : Room v n m area
+pub record AsksCut (v n m : ℕ) (area : List ℕ) (plan : Code.Plan) (s bed : ℕ) : Type 0 where
+  pub patients : v ≤ 32
+  pub room : Room n m area
+  pub padded : AllPadded v n area
   pub few : s < 32
   pub placed : plan .len < 32
   pub beds : length (plan .beds) ≡ 32
+  pub low : (q : ℕ) → q < v → bedOf (set (plan .beds) s bed) q < 16
 
 -- ---- the walk
 
@@ -98,11 +108,13 @@ pub record Asks (store patients terms : List ℕ) (v n m : ℕ) (area : List ℕ
   pub region : Region
   pub heads : Heads region store patients terms v head
   pub light : Light head
-  pub room : Room v n m area
+  pub room : Room n m area
+  pub padded : AllPadded v n area
 
 -- The list grows by the rows of the branch.
 pub record Gives (store patients terms : List ℕ) (v n m : ℕ) (area : List ℕ) (head : Head) (after : List ℕ) (found : ℕ) : Type 0 where
   pub count : found ≤ m
   pub long : length after ≡ length area
+  pub padded : AllPadded v found after
   pub grown : (r : Region) → Heads r store patients terms v head → Ready rowOrder m (rowsIn v n area) (BranchOf r v head)
       → Grown rowOrder m (rowsIn v n area) (BranchOf r v head) (rowsIn v found after)

@@ -5,10 +5,10 @@ use buckets::prepare;
 use forest::root_numbers;
 use forest::tree;
 use held_region::Region;
+use packed_rows::pack;
 use patient_set::PatientSet;
 use pricing::Plan;
 use pricing::least_cost;
-use row_list::Row;
 use row_list::set_row;
 use row_sums::SECOND;
 use row_sums::THIRD;
@@ -37,11 +37,9 @@ fn start_list(work: &mut [u32], v: usize)
     requires { ⌜ AsksStart v (now work) ⌝ }
     ensures { λ _. ⌜ GivesStart v (now (work .entry)) (now (work .exit)) ⌝ }
 {
-    let row = Row {
-        cost: 0,
-        beds: [0u8; 32],
-    };
-    set_row(&mut work[0..SECOND], v, 0, row);
+    let beds = [0u8; 32];
+    let row = pack(0, &beds, v);
+    set_row(&mut work[0..SECOND], 0, row);
 }
 
 // The list with one more tree: a walk lists the tree's rows, and the two lists are combined.
@@ -74,7 +72,7 @@ fn add_tree(
         m,
         head,
     );
-    combine(work, v, m, n, found)
+    combine(work, m, n, found)
 }
 
 // The list of all trees, one after the other.

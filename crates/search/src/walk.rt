@@ -1,4 +1,5 @@
 // Depth-first branch and bound over the patients of a set, the lowest first, beds rising.
+use packed_rows::pack;
 use patient_set::PatientSet;
 use pricing::Cost;
 use pricing::Plan;
@@ -6,7 +7,6 @@ use pricing::bed_count;
 use pricing::beds::bed_cost;
 use pricing::beds::bed_costs;
 use pricing::least_cost;
-use row_list::Row;
 use row_list::cost_at;
 use row_list::insert;
 use row_list::is_past;
@@ -51,7 +51,7 @@ fn is_cut(
     s: usize,
     bed: u8,
 ) -> bool
-    requires { ⌜ AsksCut v n m (now list) plan s ⌝ }
+    requires { ⌜ AsksCut v n m (now list) plan s bed ⌝ }
     ensures { λ r. ⌜ r ≡ isPast v n m (now (list .entry)) cost (set (plan .beds) s bed) ⌝ }
 {
     if n < m {
@@ -65,7 +65,8 @@ fn is_cut(
         return true;
     }
     let placed = plan.place(s, bed);
-    is_past(list, v, n, m, cost, &placed.beds)
+    let row = pack(cost, &placed.beds, v);
+    is_past(list, n, m, row)
 }
 
 // Adds the rows of the branch to the list: the m cheapest are kept.
@@ -86,8 +87,8 @@ pub fn walk(
     if left.is_empty() {
         let plan = head.plan;
         let beds = plan.beds;
-        let cost = head.cost;
-        return insert(list, v, n, m, Row { cost, beds });
+        let row = pack(head.cost, &beds, v);
+        return insert(list, n, m, row);
     }
     let s = left.lowest() as usize;
     let count = bed_count(patients, s);

@@ -1,15 +1,19 @@
 -- The rows kept so far, and the first occurrences of the rest, are the whole sheet. Assumes nothing.
 use mathlib.Core.Path.{_≡_, refl, sym, ap, ap₂, _∙_}
 use mathlib.Core.Bool.{or-assoc, or-comm}
-use mathlib.Core.List.{append-assoc, append-nil}
+use mathlib.Core.Logic.{inl, inr}
+use mathlib.Core.List.{append-assoc, append-nil, map-append}
 use Prim.Native.Nat.{_≤_}
 use native.Mathlib.Numerals.{add-one}
 use native.Mathlib.Omega.{arith}
-use Rattle.definitions.specs.Basics.{ℕ, _+_, Bool, true, false, _||_, cond, List, [], _∷_, _++_, any, firstOccurrences}
+use Rattle.definitions.specs.Basics.{ℕ, _+_, Bool, true, false, _||_, cond, List, [], _∷_, _++_, map, any, firstOccurrences}
 use Rattle.definitions.specs.Plans as Said
 use Rattle.definitions.specs.Sheets.{sameBeds}
-use Rattle.row_list.specs.declared.Row.{Row}
-use Rattle.row_list.specs.Rows.{rowOf, rowIn, rowsIn, Stored}
+use Rattle.ranking.specs.Members.{_∈_, here, there, here-or-there, none-in-nil, in-append-cases}
+use Rattle.partial_rows.specs.Padding.{cut, Padded, cut-same}
+use Rattle.packed_rows.specs.declared.Row.{Row}
+use Rattle.packed_rows.specs.Packed.{rowOf}
+use Rattle.row_list.specs.Rows.{wholeRows, Stored}
 use Rattle.row_list.specs.Laws.{rows-before, rows-more}
 use Rattle.sheets.specs.Steps.{withNew, Kept}
 
@@ -53,17 +57,41 @@ pub from-done : (rows : List Said.Row) → sheetFrom rows [] ≡ rows
 from-done rows = append-nil rows
 
 -- A row that has come before, and one that has not.
-module _ (k n : ℕ) (row : Row) (sheet : List ℕ) {come : Bool} (is : come ≡ any (sameBeds (rowOf k row)) (rowsIn k n sheet)) where
-  decided : {b : Bool} → come ≡ b → withNew (rowOf k row) (rowsIn k n sheet) ≡ cond b (rowsIn k n sheet) (rowsIn k n sheet ++ rowOf k row ∷ [])
-  decided e = ap (λ b. cond b (rowsIn k n sheet) (rowsIn k n sheet ++ rowOf k row ∷ [])) (sym is ∙ e)
+module _ (n : ℕ) (row : Row) (sheet : List ℕ) {come : Bool} (is : come ≡ any (sameBeds (rowOf row)) (wholeRows n sheet)) where
+  decided : {b : Bool} → come ≡ b → withNew (rowOf row) (wholeRows n sheet) ≡ cond b (wholeRows n sheet) (wholeRows n sheet ++ rowOf row ∷ [])
+  decided e = ap (λ b. cond b (wholeRows n sheet) (wholeRows n sheet ++ rowOf row ∷ [])) (sym is ∙ e)
 
-  pub kept-old : come ≡ true → Kept k n row sheet sheet n
+  pub kept-old : come ≡ true → Kept n row sheet sheet n
   kept-old e = record { count = omega arith; rows = sym (decided e); long = refl }
 
-  pub kept-new : (after : List ℕ) → k ≤ 32 → Stored k n row sheet after → come ≡ false → Kept k n row sheet after (n + 1)
-  kept-new after few s e =
+  pub kept-new : (after : List ℕ) → Stored n row sheet after → come ≡ false → Kept n row sheet after (n + 1)
+  kept-new after s e =
       record {
         count = omega arith;
-        rows = rw add-one (rows-more k n after ∙ ap₂ (λ l (z : Said.Row). l ++ z ∷ []) (rows-before k n row sheet after few s) (s .row) ∙ sym (decided e));
+        rows = rw add-one (rows-more n after ∙ ap₂ (λ l (z : Said.Row). l ++ z ∷ []) (rows-before n row sheet after s) (s .row) ∙ sym (decided e));
         long = s .long;
       }
+
+-- Padded rows with one more are padded, and whether it is kept does not depend on what follows the first k beds.
+module _ (k : ℕ) (few : k ≤ 32) (x : Said.Row) (padded : Padded k x) where
+  pub new-padded : (rows : List Said.Row) → ((z : Said.Row) → z ∈ rows → Padded k z) → (z : Said.Row) → z ∈ withNew x rows → Padded k z
+  new-padded rows all z = go (any (sameBeds x) rows)
+    where
+      go : (b : Bool) → z ∈ cond b rows (rows ++ x ∷ []) → Padded k z
+      go true m = all z m
+      go false m = elim (in-append-cases rows m) [
+        | inl t ↦ all z t
+        | inr t ↦ elim (here-or-there t) [ inl e ↦ rw e padded | inr u ↦ absurd (none-in-nil u) ]
+      ]
+
+  any-cut : (rows : List Said.Row) → ((z : Said.Row) → z ∈ rows → Padded k z) → any (sameBeds (cut k x)) (map (cut k) rows) ≡ any (sameBeds x) rows
+  any-cut [] all = refl
+  any-cut (y ∷ rows) all = ap₂ _||_ (cut-same k x y few padded (all y (here refl))) (any-cut rows (λ z m. all z (there m)))
+
+  pub new-cut : (rows : List Said.Row) → ((z : Said.Row) → z ∈ rows → Padded k z) → map (cut k) (withNew x rows) ≡ withNew (cut k x) (map (cut k) rows)
+  new-cut rows all =
+      go (any (sameBeds x) rows) ∙ ap (λ b. cond b (map (cut k) rows) (map (cut k) rows ++ cut k x ∷ [])) (sym (any-cut rows all))
+    where
+      go : (b : Bool) → map (cut k) (cond b rows (rows ++ x ∷ [])) ≡ cond b (map (cut k) rows) (map (cut k) rows ++ cut k x ∷ [])
+      go true = refl
+      go false = map-append (cut k) rows (x ∷ [])

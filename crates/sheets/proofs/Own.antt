@@ -1,10 +1,12 @@
 -- A clinic's own row: its cost is the price in the region with only the clinic's own tables. Assumes nothing.
 use mathlib.Core.Path.{_≡_, refl, sym, ap, _∙_}
+use mathlib.Core.List.{map-map}
 use Prim.Native.Nat.{_≤_}
 use native.Mathlib.Omega.{arith}
 use borrow.Author.Tests.{ltb-true, lt-ltb}
-use lib.Seq.{getD-take}
-use Rattle.definitions.specs.Basics.{ℕ, _<_, true, Option·getD, List, map, length, take, ltb, below, every, keep, contains}
+use lib.ListN.{length-map}
+use lib.Seq.{getD-take, length-take-le}
+use Rattle.definitions.specs.Basics.{ℕ, _-_, _%_, _<_, true, Option·getD, List, _++_, map, length, take, replicate, ltb, below, every, keep, contains}
 use Rattle.definitions.specs.Syntax.{Region, patientAt, patientsOf}
 use Rattle.definitions.specs.Plans as Said
 use Rattle.definitions.specs.Plans.{bedOf, entryFor, costOver, total}
@@ -12,15 +14,18 @@ use Rattle.definitions.specs.Sheets.{part, ownTables, ownCost, ownRow}
 use Rattle.theorems.specs.List.{Allowed, numbers-enumerate}
 use Rattle.theorems.specs.Kept.{every-all}
 use Rattle.patient_set.specs.Sets.{members}
+use Rattle.patient_set.specs.Laws.{size-most}
 use Rattle.patient_set.specs.Lists.{every-keep}
 use Rattle.partial_rows.specs.Beds.{inside, fits-beds}
+use Rattle.partial_rows.specs.Padding.{cut, cut-with, padded-with}
 use Rattle.held_region.specs.Places.{same-maps}
 use Rattle.buckets.specs.Terms.{Fitting}
 use Rattle.buckets.specs.Among.{among, allAmong}
+use Rattle.buckets.specs.Right.{beds-few}
 use Rattle.pricing.specs.Pricing.{AsksAll}
-use Rattle.row_list.specs.declared.Row.{Row}
-use Rattle.row_list.specs.Rows.{rowOf}
-use Rattle.sheets.specs.Steps.{PartTaken, Priced, Own}
+use Rattle.packed_rows.specs.declared.Row.{Row}
+use Rattle.packed_rows.specs.Packed.{rowOf, packable}
+use Rattle.sheets.specs.Steps.{PartTaken, Priced, Own, GivesOwn}
 
 -- A row of the list fits, and so do beds that begin with its beds.
 pub listed-fits : (r : Region) (w : Said.Row) (beds : List ℕ) → Allowed r w → take (length (r .patients)) beds ≡ w .beds → Fitting r beds
@@ -45,12 +50,21 @@ module _ {r : Region} {clinic : ℕ} {store patients terms : List ℕ} {v set : 
       every-keep (λ s. ltb s v) _ (below (length (r .patients)))
       (every-all (λ s. ltb s v) (below (length (r .patients))) (λ s k. lt-ltb s v (omega (arith, own .all, numbers-enumerate 0 (length (r .patients)) .only s k .1))))
 
-  -- The beds, the cost, and the row.
-  own-beds : (beds taken : List ℕ) → PartTaken beds (members set) taken → take (length (members set)) taken ≡ part r clinic (take v beds)
+  -- A bed that fits is packed as it is.
+  bed-packed : (beds : List ℕ) → Fitting r beds → (s : ℕ) → s < v → bedOf beds s % 16 ≡ bedOf beds s
+  unfolding patientAt
+  bed-packed beds fits s h =
+      let known : s < length (r .patients) = omega (arith, own .all) in
+      let few : patientAt r s .bedCount ≤ 16 = beds-few (among r (contains (members set))) (own .prepared .answered) s known in
+      omega (arith, fits s known)
+
+  -- The beds and the cost.
+  own-beds : (beds taken : List ℕ) → Fitting r beds → PartTaken beds (members set) taken → map (λ b. b % 16) (take (length (members set)) taken) ≡ part r clinic (take v beds)
   unfolding part
-  own-beds beds taken is =
-      is ∙ ap (map (bedOf beds)) (own .ofClinic)
-      ∙ same-maps (λ s. ltb s v) (bedOf beds) (bedOf (take v beds)) (λ s l. sym (getD-take v beds s 0 (ltb-true s v l))) (patientsOf r clinic) patients-known
+  own-beds beds taken fits is =
+      ap (map (λ b. b % 16)) (is ∙ ap (map (bedOf beds)) (own .ofClinic)) ∙ map-map (λ b. b % 16) (bedOf beds) (patientsOf r clinic)
+      ∙ same-maps (λ s. ltb s v) (λ s. bedOf beds s % 16) (bedOf (take v beds))
+      (λ s l. let h = ltb-true s v l in bed-packed beds fits s h ∙ sym (getD-take v beds s 0 h)) (patientsOf r clinic) patients-known
 
   own-cost : (beds : List ℕ) (cost first : ℕ) → Fitting r beds → Priced store patients terms v beds first → first ≡ ownCost r clinic (record { cost = cost; beds = take v beds })
   unfolding ownCost ownTables total costOver entryFor patientAt
@@ -58,7 +72,32 @@ module _ {r : Region} {clinic : ℕ} {store patients terms : List ℕ} {v set : 
       priced (among r (contains (members set))) (own .prepared) (among-fits beds fits) (own .all)
       ∙ ap (λ l. Option·getD (costOver (keep (allAmong (contains l)) (r .tables)) r (take v beds)) 0) (own .ofClinic)
 
-  pub own-made : (row result : Row) → Fitting r (row .beds) → Priced store patients terms v (row .beds) (result .cost) → PartTaken (row .beds) (members set) (result .beds)
-      → rowOf (length (members set)) result ≡ ownRow r clinic (rowOf v row)
-  unfolding ownRow
-  own-made row result fits priced is = λ i. record { cost = own-cost (row .beds) (row .cost) (result .cost) fits priced i; beds = own-beds (row .beds) (result .beds) is i }
+-- The row that is packed.
+pub own-made : {store patients terms : List ℕ} {v : ℕ} (row : Row) (set : ℕ) (result : Row) (beds taken : List ℕ) (k first : ℕ)
+    → beds ≡ rowOf row .beds → length taken ≡ 32 → k ≡ length (members set) → Priced store patients terms v beds first → PartTaken beds (members set) taken
+    → rowOf result ≡ record { cost = first; beds = packable k taken } → GivesOwn store patients terms v row set result
+unfolding ownRow
+own-made {v = v} row set result beds taken k first plain long size priced is packed =
+    record {
+      padded = rw whole (padded-with n first ours few ours-long);
+      is = λ r clinic own fits.
+          let fit : Fitting r beds = rw plain fits in
+          ap (cut n) whole ∙ cut-with n first ours ours-long
+          ∙ (λ i. record { cost = own-cost own beds (row .cost) first fit priced i; beds = own-beds own beds taken fit is i })
+          ∙ ap (λ (l : List ℕ). ownRow r clinic (record { cost = row .cost; beds = take v l })) plain;
+    }
+  where
+    n : ℕ
+    n = length (members set)
+
+    few : n ≤ 32
+    few = size-most set
+
+    ours : List ℕ
+    ours = map (λ b. b % 16) (take n taken)
+
+    ours-long : length ours ≡ n
+    ours-long = length-map (take n taken) (λ b. b % 16) ∙ length-take-le n taken (omega (arith, size-most set))
+
+    whole : rowOf result ≡ record { cost = first; beds = ours ++ replicate (32 - n) 0 }
+    whole = packed ∙ ap (λ (m : ℕ). record { cost = first; beds = packable m taken }) size

@@ -5,49 +5,54 @@ use native.Mathlib.Numerals.{add-one}
 use native.Mathlib.Omega.{arith}
 use lib.ListN.{drop, drop-of-length-le}
 use lib.Seq.{drop-cons}
-use Rattle.definitions.specs.Basics.{ℕ, suc, _+_, _*_, _<_, List, [], _∷_, map, length, getD}
+use Rattle.definitions.specs.Basics.{ℕ, suc, _+_, _*_, _<_, List, [], _∷_, map, length, getD, take}
 use Rattle.definitions.specs.Syntax.{Region}
 use Rattle.definitions.specs.Plans as Said
 use Rattle.definitions.specs.Plans.{listOf}
 use Rattle.definitions.specs.Sheets.{ownRow, sheetOf}
-use Rattle.ranking.specs.Members.{getD-in}
+use Rattle.ranking.specs.Members.{_∈_, none-in-nil, getD-in}
 use Rattle.theorems.specs.List.{right-list}
 use Rattle.patient_set.specs.Sets.{members}
 use Rattle.patient_set.specs.Laws.{size-most}
 use Rattle.buckets.specs.Terms.{Fitting}
-use Rattle.row_list.specs.declared.Row.{Row}
-use Rattle.row_list.specs.Rows.{rowOf, rowsIn, RowRead}
-use Rattle.row_list.specs.Laws.{rows-none, rows-long, rows-at}
-use Rattle.row_sums.specs.Sums.{part, listAt}
+use Rattle.partial_rows.specs.Padding.{cut, Padded}
+use Rattle.packed_rows.specs.declared.Row.{Row}
+use Rattle.packed_rows.specs.Packed.{rowOf}
+use Rattle.row_list.specs.Rows.{wholeRow, wholeRows, rowsIn}
+use Rattle.row_list.specs.Laws.{rows-none, cut-long, cut-at}
+use Rattle.row_sums.specs.Sums.{part, wholeAt, listAt}
 use Rattle.row_sums.specs.Areas.{replaced, replaced-long, part-new, part-before, part-long}
 use Rattle.sheets.specs.Steps.{AsksOwn, GivesOwn, Room, withNew, Kept, Listed, AsksList, GivesList}
 use Rattle.sheets.proofs.Own.{listed-fits}
-use Rattle.sheets.proofs.Keeping.{sheetFrom, from-next, from-done}
+use Rattle.sheets.proofs.Keeping.{sheetFrom, from-next, from-done, new-padded, new-cut}
 
 -- At row i of the list: the rows kept so far, and the first occurrences of the own rows that are left, are the sheet.
-pub record Walked (store patients terms : List ℕ) (v n set k : ℕ) (first : List ℕ) (i : ℕ) (work : List ℕ) (kept : ℕ) : Type 0 where
-  pub size : k ≡ length (members set)
+pub record Walked (store patients terms : List ℕ) (v n set : ℕ) (first : List ℕ) (i : ℕ) (work : List ℕ) (kept : ℕ) : Type 0 where
   pub most : i ≤ n
   pub count : kept ≤ i
   pub long : length work ≡ length first
   pub list : part 0 work ≡ part 0 first
+  pub padded : (z : Said.Row) → z ∈ wholeAt kept 1 work → Padded (length (members set)) z
   pub sheet : (r : Region) (clinic : ℕ) → Listed r clinic store patients terms v n set first
-      → sheetFrom (listAt k kept 1 work) (map (ownRow r clinic) (drop i (listOf r))) ≡ sheetOf r clinic
+      → sheetFrom (listAt (length (members set)) kept 1 work) (map (ownRow r clinic) (drop i (listOf r))) ≡ sheetOf r clinic
 
-module _ (store patients terms : List ℕ) (v n set k : ℕ) (first : List ℕ) where
-  pub walked-start : k ≡ length (members set) → Walked store patients terms v n set k first 0 first 0
+module _ (store patients terms : List ℕ) (v n set : ℕ) (first : List ℕ) where
+  abbrev size : ℕ
+  size = length (members set)
+
+  pub walked-start : Walked store patients terms v n set first 0 first 0
   unfolding sheetOf
-  walked-start size =
+  walked-start =
       record {
-        size = size;
         most = omega arith;
         count = omega arith;
         long = refl;
         list = refl;
-        sheet = λ r clinic l. ap (λ rows. sheetFrom rows (map (ownRow r clinic) (listOf r))) (rows-none k (part 1 first));
+        padded = λ z m. absurd (none-in-nil (rw (rows-none (part 1 first)) at m));
+        sheet = λ r clinic l. ap (λ rows. sheetFrom (map (cut size) rows) (map (ownRow r clinic) (listOf r))) (rows-none (part 1 first));
       }
 
-  module _ (i : ℕ) (work : List ℕ) (kept : ℕ) (w : Walked store patients terms v n set k first i work kept) where
+  module _ (i : ℕ) (work : List ℕ) (kept : ℕ) (w : Walked store patients terms v n set first i work kept) where
     pub walked-done : n ≤ i → GivesList store patients terms v n set first work kept
     walked-done h =
         record {
@@ -55,41 +60,36 @@ module _ (store patients terms : List ℕ) (v n set k : ℕ) (first : List ℕ) 
           long = w .long;
           list = w .list;
           sheet = λ r clinic l.
-              let none-left : drop i (listOf r) ≡ [] = drop-of-length-le (listOf r) {i = i} (omega (arith, sym (ap length (l .list)) ∙ rows-long v n (part 0 first))) in
-              ap (λ m. listAt m kept 1 work) (sym (w .size)) ∙ sym (from-done (listAt k kept 1 work))
-              ∙ ap (λ rows. sheetFrom (listAt k kept 1 work) (map (ownRow r clinic) rows)) (sym none-left) ∙ w .sheet r clinic l;
+              let none-left : drop i (listOf r) ≡ [] = drop-of-length-le (listOf r) {i = i} (omega (arith, sym (ap length (l .list)) ∙ cut-long v n (part 0 first))) in
+              sym (from-done (listAt size kept 1 work))
+              ∙ ap (λ rows. sheetFrom (listAt size kept 1 work) (map (ownRow r clinic) rows)) (sym none-left) ∙ w .sheet r clinic l;
         }
 
     module _ (more : i < n) where
       -- There is room for the next row.
-      pub walked-room : n ≤ 64 → 6_528 ≤ length first → Room k kept (part 1 work)
-      walked-room few long =
-          record {
-            patients = omega (arith, w .size, size-most set);
-            few = omega (arith, w .count);
-            long = omega (arith, part-long 1 work (omega (arith, w .long)));
-          }
+      pub walked-room : n ≤ 64 → 1_152 ≤ length first → Room kept (part 1 work)
+      walked-room few long = record { few = omega (arith, w .count); long = omega (arith, part-long 1 work (omega (arith, w .long))) }
 
-      module _ (row : Row) (read : RowRead v i (part 0 work) row) where
+      module _ (row : Row) (read : rowOf row ≡ wholeRow (part 0 work) i) where
         module _ (r : Region) (clinic : ℕ) (l : Listed r clinic store patients terms v n set first) where
           abbrev noRow : Said.Row
           noRow = record { cost = 0; beds = [] }
 
           -- The row that is read is the list's.
           rows-left : length (listOf r) ≡ n
-          rows-left = sym (ap length (l .list)) ∙ rows-long v n (part 0 first)
+          rows-left = sym (ap length (l .list)) ∙ cut-long v n (part 0 first)
 
-          read-row : rowOf v row ≡ getD (listOf r) i noRow
+          read-row : cut v (rowOf row) ≡ getD (listOf r) i noRow
           read-row =
-              read .row ∙ rows-at v n (part 0 work) i noRow more
+              ap (cut v) read ∙ cut-at v n (part 0 work) i noRow more
               ∙ ap (λ rows. getD rows i noRow) (ap (rowsIn v n) (w .list) ∙ l .list)
 
-          read-fits : Fitting r (row .beds)
+          read-fits : Fitting r (rowOf row .beds)
           read-fits =
-              listed-fits r (getD (listOf r) i noRow) (row .beds) (right-list r .onlyAllowed _ (getD-in (listOf r) i noRow (omega (arith, rows-left))))
-              (ap (λ m. rowOf m row .beds) (sym (l .own .all)) ∙ ap (λ (z : Said.Row). z .beds) read-row)
+              listed-fits r (getD (listOf r) i noRow) (rowOf row .beds) (right-list r .onlyAllowed _ (getD-in (listOf r) i noRow (omega (arith, rows-left))))
+              (ap (λ m. take m (rowOf row .beds)) (sym (l .own .all)) ∙ ap (λ (z : Said.Row). z .beds) read-row)
 
-          next-row : drop i (listOf r) ≡ rowOf v row ∷ drop (suc i) (listOf r)
+          next-row : drop i (listOf r) ≡ cut v (rowOf row) ∷ drop (suc i) (listOf r)
           next-row = drop-cons (listOf r) i noRow (omega (arith, rows-left)) ∙ ap (λ z. z ∷ drop (suc i) (listOf r)) (sym read-row)
 
         pub walked-asks : AsksList store patients terms v n set first → AsksOwn store patients terms v row set
@@ -103,27 +103,35 @@ module _ (store patients terms : List ℕ) (v n set k : ℕ) (first : List ℕ) 
             }
 
         -- One more row.
-        pub walked-next : (own : Row) (new : List ℕ) (after : ℕ) → 6_528 ≤ length first → GivesOwn store patients terms v row set own → Kept k kept own (part 1 work) new after
-            → Walked store patients terms v n set k first (i + 1) (replaced 2_176 new work) after
+        pub walked-next : (own : Row) (new : List ℕ) (after : ℕ) → 1_152 ≤ length first → GivesOwn store patients terms v row set own → Kept kept own (part 1 work) new after
+            → Walked store patients terms v n set first (i + 1) (replaced 384 new work) after
         walked-next own new after far made g =
             record {
-              size = w .size;
               most = omega arith;
               count = omega (arith, g .count, w .count);
               long = replaced-long 1 work new fits long ∙ w .long;
               list = part-before 1 work new fits long 0 (omega arith) ∙ w .list;
+              padded = λ z m. new-padded size few (rowOf own) (made .padded) (wholeAt kept 1 work) (w .padded) z (rw rows at m);
               sheet = λ r clinic l.
-                  let own-row : rowOf k own ≡ ownRow r clinic (rowOf v row) = ap (λ m. rowOf m own) (w .size) ∙ made r clinic (l .own) (read-fits r clinic l) in
                   let rest = map (ownRow r clinic) (drop (suc i) (listOf r)) in
                   rw add-one
-                  (ap (λ rows. sheetFrom rows rest) (ap (rowsIn k after) (part-new 1 work new fits long) ∙ g .rows ∙ ap (λ x. withNew x (listAt k kept 1 work)) own-row)
-                  ∙ sym (from-next (ownRow r clinic (rowOf v row)) rest (listAt k kept 1 work))
-                  ∙ ap (λ rows. sheetFrom (listAt k kept 1 work) (map (ownRow r clinic) rows)) (sym (next-row r clinic l))
+                  (ap (λ rows. sheetFrom rows rest) (cut-rows ∙ ap (λ x. withNew x (listAt size kept 1 work)) (made .is r clinic (l .own) (read-fits r clinic l)))
+                  ∙ sym (from-next (ownRow r clinic (cut v (rowOf row))) rest (listAt size kept 1 work))
+                  ∙ ap (λ rows. sheetFrom (listAt size kept 1 work) (map (ownRow r clinic) rows)) (sym (next-row r clinic l))
                   ∙ w .sheet r clinic l);
             }
           where
-            fits : 1 * 2_176 + 2_176 ≤ length work
+            few : size ≤ 32
+            few = size-most set
+
+            fits : 1 * 384 + 384 ≤ length work
             fits = omega (arith, w .long)
 
-            long : length new ≡ 2_176
+            long : length new ≡ 384
             long = g .long ∙ part-long 1 work fits
+
+            rows : wholeAt after 1 (replaced 384 new work) ≡ withNew (rowOf own) (wholeAt kept 1 work)
+            rows = ap (wholeRows after) (part-new 1 work new fits long) ∙ g .rows
+
+            cut-rows : listAt size after 1 (replaced 384 new work) ≡ withNew (cut size (rowOf own)) (listAt size kept 1 work)
+            cut-rows = ap (map (cut size)) rows ∙ new-cut size few (rowOf own) (made .padded) (wholeAt kept 1 work) (w .padded)

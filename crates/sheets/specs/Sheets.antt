@@ -22,7 +22,7 @@ pub record Asks (h : Code.Region) (n set : ℕ) (work : List ℕ) : Type 0 where
   pub clinic : ℕ
   pub given : Given h region clinic n set work
   pub few : n ≤ 64
-  pub long : 6_528 ≤ length work
+  pub long : 1_152 ≤ length work
 
 -- The clinic's sheet lies in the second part of the work area, and the list still in the first.
 pub record Gives (h : Code.Region) (n set : ℕ) (work after : List ℕ) (k : ℕ) : Type 0 where

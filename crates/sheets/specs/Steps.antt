@@ -8,8 +8,10 @@ use Rattle.definitions.specs.Sheets.{ownRow, sameBeds, sheetOf}
 use Rattle.patient_set.specs.Sets.{members}
 use Rattle.buckets.specs.Terms.{Fitting, Prepared}
 use Rattle.buckets.specs.Among.{among}
-use Rattle.row_list.specs.declared.Row as Code
-use Rattle.row_list.specs.Rows.{rowOf, rowsIn}
+use Rattle.partial_rows.specs.Padding.{cut, Padded}
+use Rattle.packed_rows.specs.declared.Row as Code
+use Rattle.packed_rows.specs.Packed.{rowOf}
+use Rattle.row_list.specs.Rows.{wholeRows}
 use Rattle.row_sums.specs.Sums.{part, listAt}
 
 -- The beds of some patients, moved together in their order.
@@ -33,29 +35,29 @@ pub record AsksOwn (store patients terms : List ℕ) (v : ℕ) (row : Code.Row) 
   pub region : Region
   pub clinic : ℕ
   pub own : Own region clinic store patients terms v set
-  pub fits : Fitting region (row .beds)
+  pub fits : Fitting region (rowOf row .beds)
   pub few : v ≤ 32
 
--- What the sheet holds of the row.
-abbrev pub GivesOwn : List ℕ → List ℕ → List ℕ → ℕ → Code.Row → ℕ → Code.Row → Type 0
-GivesOwn store patients terms v row set result =
-    (r : Region) (clinic : ℕ) → Own r clinic store patients terms v set → Fitting r (row .beds) → rowOf (length (members set)) result ≡ ownRow r clinic (rowOf v row)
+-- What the sheet holds of the row: as many beds as the clinic has patients, and bed 0 for the others.
+pub record GivesOwn (store patients terms : List ℕ) (v : ℕ) (row : Code.Row) (set : ℕ) (result : Code.Row) : Type 0 where
+  pub padded : Padded (length (members set)) (rowOf result)
+  pub is : (r : Region) (clinic : ℕ) → Own r clinic store patients terms v set → Fitting r (rowOf row .beds)
+      → cut (length (members set)) (rowOf result) ≡ ownRow r clinic (cut v (rowOf row))
 
 -- ---- the rows kept
 
 -- There is room for n rows and one more.
-pub record Room (k n : ℕ) (sheet : List ℕ) : Type 0 where
-  pub patients : k ≤ 32
+pub record Room (n : ℕ) (sheet : List ℕ) : Type 0 where
   pub few : n < 64
-  pub long : 2_176 ≤ length sheet
+  pub long : 384 ≤ length sheet
 
 -- The rows with one more at their end, unless its beds have come before.
 abbrev pub withNew : Said.Row → List Said.Row → List Said.Row
 withNew row rows = cond (any (sameBeds row) rows) rows (rows ++ row ∷ [])
 
-pub record Kept (k n : ℕ) (row : Code.Row) (sheet after : List ℕ) (r : ℕ) : Type 0 where
+pub record Kept (n : ℕ) (row : Code.Row) (sheet after : List ℕ) (r : ℕ) : Type 0 where
   pub count : r ≤ n + 1
-  pub rows : rowsIn k r after ≡ withNew (rowOf k row) (rowsIn k n sheet)
+  pub rows : wholeRows r after ≡ withNew (rowOf row) (wholeRows n sheet)
   pub long : length after ≡ length sheet
 
 -- ---- the whole list
@@ -71,7 +73,7 @@ pub record AsksList (store patients terms : List ℕ) (v n set : ℕ) (work : Li
   pub listed : Listed region clinic store patients terms v n set work
   pub fewPatients : v ≤ 32
   pub few : n ≤ 64
-  pub long : 6_528 ≤ length work
+  pub long : 1_152 ≤ length work
 
 pub record GivesList (store patients terms : List ℕ) (v n set : ℕ) (work after : List ℕ) (k : ℕ) : Type 0 where
   pub count : k ≤ n

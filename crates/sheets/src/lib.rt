@@ -1,23 +1,27 @@
 // The rows of a clinic's sheet, collected behind the list in the work area.
 use buckets::prepare_within;
 use held_region::Region;
+use packed_rows::Row;
+use packed_rows::beds_of;
+use packed_rows::pack;
+use packed_rows::same_beds;
 use patient_set::PatientSet;
 use pricing::Cost;
 use pricing::Plan;
 use pricing::total;
-use row_list::Row;
 use row_list::row_at;
 use row_list::set_row;
 use row_sums::SECOND;
 use row_sums::THIRD;
 ghost use mathlib.Core.Path.{_≡_};
 ghost use Prim.Native.Nat.{_*_, _≤_};
-ghost use lib.ListN.{length, take};
-ghost use Rattle.definitions.specs.Basics.{same, eqb, any};
+ghost use lib.ListN.{length};
+ghost use Rattle.definitions.specs.Basics.{any};
 ghost use Rattle.definitions.specs.Sheets.{sameBeds};
 ghost use Rattle.patient_set.specs.Sets.{members};
 ghost use Rattle.pricing.specs.Pricing.{AsksAll};
-ghost use Rattle.row_list.specs.Rows.{rowOf, rowsIn};
+ghost use Rattle.packed_rows.specs.Packed.{rowOf};
+ghost use Rattle.row_list.specs.Rows.{wholeRows};
 ghost use Rattle.sheets.specs.Steps.{PartTaken, Priced, AsksOwn, GivesOwn, Room, Kept, AsksList, GivesList};
 ghost use Rattle.sheets.specs.Sheets.{Asks, Gives};
 
@@ -68,49 +72,22 @@ fn own_row(
     requires { ⌜ AsksOwn (now entries) (now patients) (now terms) v row (clinic .0) ⌝ }
     ensures { λ own. ⌜ GivesOwn (now (entries .entry)) (now (patients .entry)) (now (terms .entry)) v row (clinic .0) own ⌝ }
 {
-    let beds = row.beds;
+    let beds = beds_of(row);
     let cost = price(patients, terms, entries, v, beds);
     let taken = clinic_beds(beds, clinic);
-    Row {
-        cost: cost,
-        beds: taken,
-    }
+    let k = clinic.size() as usize;
+    pack(cost, &taken, k)
 }
 
-// Are the first k beds the same?
-fn same_beds(a: [u8; 32], b: [u8; 32], k: usize) -> bool
-    requires { ⌜ k ≤ 32 ⌝ }
-    ensures { λ r. ⌜ r ≡ same eqb (take k a) (take k b) ⌝ }
-{
-    let mut j: usize = 0;
-    while j < k {
-        if a[j] != b[j] {
-            return false;
-        }
-        j += 1;
-    }
-    true
-}
-
-// Has a row the beds of one that is kept? Costs do not count.
-fn repeats(row: Row, kept: Row, k: usize) -> bool
-    requires { ⌜ k ≤ 32 ⌝ }
-    ensures { λ r. ⌜ r ≡ sameBeds (rowOf k row) (rowOf k kept) ⌝ }
-{
-    let beds = row.beds;
-    let before = kept.beds;
-    same_beds(beds, before, k)
-}
-
-// Have a row's beds come before, in one of the n rows of the sheet?
-fn has_come_before(sheet: &[u32], k: usize, n: usize, row: Row) -> bool
-    requires { ⌜ (k ≤ 32) × (n * 34 ≤ length (now sheet)) ⌝ }
-    ensures { λ r. ⌜ r ≡ any (sameBeds (rowOf k row)) (rowsIn k n (now (sheet .entry))) ⌝ }
+// Have a row's beds come before, in one of the n rows of the sheet? Costs do not count.
+fn has_come_before(sheet: &[u32], n: usize, row: Row) -> bool
+    requires { ⌜ n * 6 ≤ length (now sheet) ⌝ }
+    ensures { λ r. ⌜ r ≡ any (sameBeds (rowOf row)) (wholeRows n (now (sheet .entry))) ⌝ }
 {
     let mut i: usize = 0;
     while i < n {
-        let kept = row_at(sheet, k, i);
-        if repeats(row, kept, k) {
+        let kept = row_at(sheet, i);
+        if same_beds(row, kept) {
             return true;
         }
         i += 1;
@@ -119,15 +96,15 @@ fn has_come_before(sheet: &[u32], k: usize, n: usize, row: Row) -> bool
 }
 
 // Adds a row at the end of the n rows of the sheet, unless its beds have come before.
-fn keep_new(sheet: &mut [u32], k: usize, n: usize, row: Row) -> usize
-    requires { ⌜ Room k n (now sheet) ⌝ }
-    ensures { λ count. ⌜ Kept k n row (now (sheet .entry)) (now (sheet .exit)) count ⌝ }
+fn keep_new(sheet: &mut [u32], n: usize, row: Row) -> usize
+    requires { ⌜ Room n (now sheet) ⌝ }
+    ensures { λ count. ⌜ Kept n row (now (sheet .entry)) (now (sheet .exit)) count ⌝ }
 {
-    if has_come_before(sheet, k, n, row) {
+    if has_come_before(sheet, n, row) {
         return n;
     }
     let next = n + 1;
-    set_row(sheet, k, n, row);
+    set_row(sheet, n, row);
     next
 }
 
@@ -144,13 +121,12 @@ fn keep_rows(
     requires { ⌜ AsksList (now entries) (now patients) (now terms) v n (clinic .0) (now work) ⌝ }
     ensures { λ k. ⌜ GivesList (now (entries .entry)) (now (patients .entry)) (now (terms .entry)) v n (clinic .0) (now (work .entry)) (now (work .exit)) k ⌝ }
 {
-    let k = clinic.size() as usize;
     let mut count: usize = 0;
     let mut i: usize = 0;
     while i < n {
-        let row = row_at(&work[0..SECOND], v, i);
+        let row = row_at(&work[0..SECOND], i);
         let own = own_row(patients, terms, entries, v, row, clinic);
-        count = keep_new(&mut work[SECOND..THIRD], k, count, own);
+        count = keep_new(&mut work[SECOND..THIRD], count, own);
         i += 1;
     }
     count

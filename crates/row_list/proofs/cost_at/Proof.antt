@@ -1,5 +1,5 @@
 use borrow.Author.Needs.{needs}
-use Rattle.row_list.specs.Rows.{rowIn}
+use Rattle.row_list.specs.Rows.{wholeRow}
 use Rattle.row_list.proofs.cost_at.Statement.{statement}
 use Rattle.row_list.proofs.cost_at.Tie as tie
 
@@ -28,8 +28,8 @@ cost-of-requires : tie.Need-cost-of-requires
 cost-of-requires c κs = search needs
 
 returns : tie.Need-returns
-unfolding rowIn
-returns c = λ v. c .cost-of .ensures
+unfolding wholeRow
+returns c = c .cost-of .ensures
 
 pub cost-at-spec : {M : Type 1} → statement M
 cost-at-spec =

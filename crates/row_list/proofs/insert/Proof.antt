@@ -16,8 +16,8 @@ same-length c = search needs
 
 returns : tie.Need-returns
 returns c =
-    let a = c .before .before .before .before .before .before .args in
-    not-inserted (a .v) (a .n) (a .m) (a .t5) _ (c .before .before .before .before .before .before .pre) (rw (c .if1 .taken) at (c .before .place-of .ensures))
+    let a = c .before .before .before .before .args in
+    not-inserted (a .n) (a .m) (a .row) _ (c .before .before .before .before .pre) (rw (c .if1 .taken) at (c .before .place-of .ensures))
 
 sub-end : tie.Need-sub-end
 sub-end c = search needs
@@ -40,11 +40,11 @@ returns-2 : tie.Need-returns-2
 returns-2 c =
     let j = c .before .before .before .before .before .before .before .before .before in
     let p = j .before .before in
-    let s = p .before .before .before .before .before in
+    let s = p .before .before .before in
     let a = s .args in
     let fits : p .place-of .result ≤ j .if2 .end = ⊎-elim (λ w. omega arith) (λ w. omega arith) (j .if2 .came) in
     let last : min (a .m) (suc (a .n)) ≡ suc (j .if2 .end) = ⊎-elim (λ w. min-eq-left (omega arith) ∙ omega arith) (λ w. min-eq-right (omega arith) ∙ omega arith) (j .if2 .came) in
-    inserted (a .v) (a .n) (a .m) (a .t5) _ _ _ (p .place-of .result) (j .if2 .end) (s .pre) (p .place-of .ensures) fits last
+    inserted (a .n) (a .m) (a .row) _ _ _ (p .place-of .result) (j .if2 .end) (s .pre) (p .place-of .ensures) fits last
     (c .before .before .before .before .before .before .before .shift .ensures) (c .before .before .before .set-row .ensures)
 
 pub insert-spec : {M : Type 1} → statement M

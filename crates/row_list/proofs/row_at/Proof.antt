@@ -1,74 +1,89 @@
 use borrow.Author.Needs.{needs}
 use native.Mathlib.Omega.{arith}
 use Prim.Native.Nat.{_-_, _≤_}
-use Rattle.row_list.proofs.Reading.{Read, bedIn, none-read, one-read, all-read}
+use Rattle.row_list.proofs.Reading.{Read, none-read, one-read, all-read}
 use Rattle.row_list.proofs.row_at.Statement.{statement}
 use Rattle.row_list.proofs.row_at.Tie as tie
 
 abbrev Inv-loop : tie.InvT-loop
-Inv-loop list v i at beds₀ j₀ beds j = (j ≤ v) × Read (bedIn list i) j beds
+Inv-loop list i at words₀ j₀ words j = (j ≤ 4) × Read list i j words
 
 abbrev μ-loop : tie.MeasureT-loop
-μ-loop list v i at beds₀ j₀ beds j = v - j
+μ-loop list i at words₀ j₀ words j = 4 - j
 
+-- src/lib.rt:53:14
 mul-at : tie.Need-mul-at Inv-loop μ-loop
 mul-at c = search needs
 
+-- src/lib.rt:56:5
 loop-holds : tie.Need-loop-holds Inv-loop μ-loop
-loop-holds c = (search needs, none-read _)
+loop-holds c = (search needs, none-read _ _)
 
-add-bed-of : tie.Need-add-bed-of Inv-loop μ-loop
-add-bed-of c = search needs
+-- src/lib.rt:57:25
+add-words : tie.Need-add-words Inv-loop μ-loop
+add-words c = search needs
 
-add-bed-of-2 : tie.Need-add-bed-of-2 Inv-loop μ-loop
-add-bed-of-2 c = search needs
+-- src/lib.rt:57:25
+add-words-2 : tie.Need-add-words-2 Inv-loop μ-loop
+add-words-2 c = search needs
 
-mul-bed-of : tie.Need-mul-bed-of Inv-loop μ-loop
-mul-bed-of c = search needs
+-- src/lib.rt:57:20
+mul-words : tie.Need-mul-words Inv-loop μ-loop
+mul-words c = search needs
 
-shared-slice-read-bed-of : tie.Need-shared-slice-read-bed-of Inv-loop μ-loop
-shared-slice-read-bed-of c = search needs
+-- src/lib.rt:57:20
+shared-slice-read-words : tie.Need-shared-slice-read-words Inv-loop μ-loop
+shared-slice-read-words c = search needs
 
-bed-of-requires : tie.Need-bed-of-requires Inv-loop μ-loop
-bed-of-requires c κs = search needs
+-- src/lib.rt:57:9
+mul-words-2 : tie.Need-mul-words-2 Inv-loop μ-loop
+mul-words-2 c = search needs
 
-array-write-beds : tie.Need-array-write-beds Inv-loop μ-loop
-array-write-beds c = search needs
+-- src/lib.rt:57:9
+array-write-words : tie.Need-array-write-words Inv-loop μ-loop
+array-write-words c = search needs
 
+-- src/lib.rt:58:9
 add-j : tie.Need-add-j Inv-loop μ-loop
 add-j c = search needs
 
+-- src/lib.rt:56:5
 loop-less : tie.Need-loop-less Inv-loop μ-loop
 loop-less c = search needs
 
+-- src/lib.rt:56:5
 loop-again : tie.Need-loop-again Inv-loop μ-loop
 loop-again c =
-    let l = c .before .before .before .loop in
-    (omega arith, one-read _ (l .j) (l .beds) _ (omega arith) (c .bed-of .ensures) (l .inv .1))
+    let l = c .before .before .loop in
+    (omega arith, one-read _ _ (l .j) (l .words) (omega arith) (l .inv .1))
 
+-- src/lib.rt:60:24
 mul-cost-of : tie.Need-mul-cost-of Inv-loop μ-loop
 mul-cost-of c = search needs
 
+-- src/lib.rt:60:24
 shared-slice-read-cost-of : tie.Need-shared-slice-read-cost-of Inv-loop μ-loop
 shared-slice-read-cost-of c = search needs
 
+-- src/lib.rt:60:39
 add-cost-of : tie.Need-add-cost-of Inv-loop μ-loop
 add-cost-of c = search needs
 
+-- src/lib.rt:60:34
 mul-cost-of-2 : tie.Need-mul-cost-of-2 Inv-loop μ-loop
 mul-cost-of-2 c = search needs
 
+-- src/lib.rt:60:34
 shared-slice-read-cost-of-2 : tie.Need-shared-slice-read-cost-of-2 Inv-loop μ-loop
 shared-slice-read-cost-of-2 c = search needs
 
+-- src/lib.rt:60:9
 cost-of-requires : tie.Need-cost-of-requires Inv-loop μ-loop
 cost-of-requires c κs = search needs
 
+-- src/lib.rt:49:1
 returns : tie.Need-returns Inv-loop μ-loop
-returns c =
-    let l = c .before .before .before .before in
-    let a = l .before .before .args in
-    all-read (a .v) (a .i) (l .loop .j) _ _ (omega arith) (l .loop .inv .0) (c .before .before .before .loop-test .left) (c .cost-of .ensures) (l .loop .inv .1)
+returns c = all-read _ (c .before .before .before .before .before .before .args .i) (c .before .before .before .before .loop .j) _ (c .before .before .before .loop-test .left) (c .cost-of .ensures) (c .before .before .before .before .loop .inv .1)
 
 pub row-at-spec : {M : Type 1} → statement M
 row-at-spec =
@@ -78,12 +93,12 @@ row-at-spec =
     μ-loop
     mul-at
     loop-holds
-    add-bed-of
-    add-bed-of-2
-    mul-bed-of
-    shared-slice-read-bed-of
-    bed-of-requires
-    array-write-beds
+    add-words
+    add-words-2
+    mul-words
+    shared-slice-read-words
+    mul-words-2
+    array-write-words
     add-j
     loop-less
     loop-again

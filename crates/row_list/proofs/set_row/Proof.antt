@@ -8,78 +8,97 @@ use Rattle.row_list.proofs.set_row.Statement.{statement}
 use Rattle.row_list.proofs.set_row.Tie as tie
 
 abbrev Inv-loop : tie.InvT-loop
-Inv-loop list₀ v i row at j₀ list j = (j ≤ v) × Written (i * 34 + 2) j (row .beds) list₀ list
+Inv-loop list₀ i row at j₀ list j = (j ≤ 4) × Written (i * 6 + 2) j (row .words) list₀ list
 
 abbrev μ-loop : tie.MeasureT-loop
-μ-loop list₀ v i row at j₀ list j = v - j
+μ-loop list₀ i row at j₀ list j = 4 - j
 
+-- src/lib.rt:69:14
 mul-at : tie.Need-mul-at Inv-loop μ-loop
 mul-at c = search needs
 
+-- src/lib.rt:70:16
 low-word-requires : tie.Need-low-word-requires Inv-loop μ-loop
 low-word-requires c κs = search needs
 
+-- src/lib.rt:70:5
 mul-list : tie.Need-mul-list Inv-loop μ-loop
 mul-list c = search needs
 
+-- src/lib.rt:70:5
 slice-write-list : tie.Need-slice-write-list Inv-loop μ-loop
 slice-write-list c = search needs
 
+-- src/lib.rt:71:20
 high-word-requires : tie.Need-high-word-requires Inv-loop μ-loop
 high-word-requires c κs = search needs
 
+-- src/lib.rt:71:10
 add-list : tie.Need-add-list Inv-loop μ-loop
 add-list c = search needs
 
+-- src/lib.rt:71:5
 mul-list-2 : tie.Need-mul-list-2 Inv-loop μ-loop
 mul-list-2 c = search needs
 
+-- src/lib.rt:71:5
 slice-write-list-2 : tie.Need-slice-write-list-2 Inv-loop μ-loop
 slice-write-list-2 c = simp length-set (omega arith)
 
+-- src/lib.rt:73:5
 loop-holds : tie.Need-loop-holds Inv-loop μ-loop
 loop-holds c = (search needs, none-written _ _ _)
 
-element-copy-out-word-of : tie.Need-element-copy-out-word-of Inv-loop μ-loop
-element-copy-out-word-of c = search needs
-
-word-of-requires : tie.Need-word-of-requires Inv-loop μ-loop
-word-of-requires c κs = search needs
-
-add-list-2 : tie.Need-add-list-2 Inv-loop μ-loop
-add-list-2 c = search needs
-
-add-list-3 : tie.Need-add-list-3 Inv-loop μ-loop
-add-list-3 c = search needs
-
+-- src/lib.rt:74:28
 mul-list-3 : tie.Need-mul-list-3 Inv-loop μ-loop
 mul-list-3 c = search needs
 
+-- src/lib.rt:74:28
+element-copy-out-list : tie.Need-element-copy-out-list Inv-loop μ-loop
+element-copy-out-list c = search needs
+
+-- src/lib.rt:74:14
+add-list-2 : tie.Need-add-list-2 Inv-loop μ-loop
+add-list-2 c = search needs
+
+-- src/lib.rt:74:14
+add-list-3 : tie.Need-add-list-3 Inv-loop μ-loop
+add-list-3 c = search needs
+
+-- src/lib.rt:74:9
+mul-list-4 : tie.Need-mul-list-4 Inv-loop μ-loop
+mul-list-4 c = search needs
+
+-- src/lib.rt:74:9
 slice-write-list-3 : tie.Need-slice-write-list-3 Inv-loop μ-loop
 slice-write-list-3 c =
-    let l = c .before .before .before .loop in
+    let l = c .before .before .loop in
     omega (arith, simp length-set at (l .inv .1 .long))
 
+-- src/lib.rt:75:9
 add-j : tie.Need-add-j Inv-loop μ-loop
 add-j c = search needs
 
+-- src/lib.rt:73:5
 loop-less : tie.Need-loop-less Inv-loop μ-loop
 loop-less c = search needs
 
+-- src/lib.rt:73:5
 loop-again : tie.Need-loop-again Inv-loop μ-loop
 loop-again c =
-    let l = c .before .before .before .loop in
-    (omega arith, one-written _ _ _ (l .j) (l .list) _ (simp length-set (omega arith)) (c .word-of .ensures .0) (c .word-of .ensures .1) (l .inv .1))
+    let l = c .before .before .loop in
+    (omega arith, one-written _ _ _ (l .j) (l .list) (simp length-set (omega arith)) (l .inv .1))
 
+-- src/lib.rt:65:1
 same-length : tie.Need-same-length Inv-loop μ-loop
 same-length c = c .before .loop .inv .1 .long ∙ simp length-set
 
+-- src/lib.rt:65:1
 returns : tie.Need-returns Inv-loop μ-loop
 returns c =
-    let l = c .before in
-    let a = l .before .before .before .before .args in
-    let e : l .loop .j ≡ a .v = omega arith in
-    stored (a .v) (a .i) (a .t4) _ _ _ _ (omega arith) (omega arith) (search needs) (l .before .before .low-word .ensures) (l .before .high-word .ensures) (rw e at (l .loop .inv .1))
+    let a = c .before .before .before .before .before .args in
+    let e : c .before .loop .j ≡ 4 = omega arith in
+    stored (a .i) (a .t3) _ _ _ _ (omega arith) (search needs) (c .before .before .before .low-word .ensures) (c .before .before .high-word .ensures) (rw e at (c .before .loop .inv .1))
 
 pub set-row-spec : {M : Type 1} → statement M
 set-row-spec =
@@ -96,11 +115,11 @@ set-row-spec =
     mul-list-2
     slice-write-list-2
     loop-holds
-    element-copy-out-word-of
-    word-of-requires
+    mul-list-3
+    element-copy-out-list
     add-list-2
     add-list-3
-    mul-list-3
+    mul-list-4
     slice-write-list-3
     add-j
     loop-less

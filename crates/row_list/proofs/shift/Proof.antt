@@ -8,7 +8,7 @@ use Rattle.row_list.proofs.shift.Statement.{statement}
 use Rattle.row_list.proofs.shift.Tie as tie
 
 abbrev Inv-loop : tie.InvT-loop
-Inv-loop list₀ first end stop k₀ list k = (stop ≤ k) × (k ≤ end * 34 + 34) × Moved k (end * 34 + 34) list₀ list
+Inv-loop list₀ first end stop k₀ list k = (stop ≤ k) × (k ≤ end * 6 + 6) × Moved k (end * 6 + 6) list₀ list
 
 abbrev μ-loop : tie.MeasureT-loop
 μ-loop list₀ first end stop k₀ list k = k
@@ -61,7 +61,7 @@ same-length c = search needs
 returns : tie.Need-returns Inv-loop μ-loop
 returns c =
     let l = c .before .loop in
-    let e : l .k ≡ c .before .before .args .first * 34 + 34 = omega arith in
+    let e : l .k ≡ c .before .before .args .first * 6 + 6 = omega arith in
     rw e at (l .inv .2)
 
 pub shift-spec : {M : Type 1} → statement M

@@ -9,13 +9,13 @@ use Rattle.row_sums.proofs.combine.Statement.{statement}
 use Rattle.row_sums.proofs.combine.Tie as tie
 
 abbrev Inv-loop : tie.InvT-loop
-Inv-loop work₀ v m a b n₀ i₀ work n i = (i ≤ a) × Found v m b i work₀ work n
+Inv-loop work₀ m a b n₀ i₀ work n i = (i ≤ a) × Found m b i work₀ work n
 
 abbrev μ-loop : tie.MeasureT-loop
-μ-loop work₀ v m a b n₀ i₀ work n i = a - i
+μ-loop work₀ m a b n₀ i₀ work n i = a - i
 
 loop-holds : tie.Need-loop-holds Inv-loop μ-loop
-loop-holds c = (search needs, none-found _ _ _ _)
+loop-holds c = (search needs, none-found _ _ _)
 
 sub-row-at : tie.Need-sub-row-at Inv-loop μ-loop
 sub-row-at c = search needs
@@ -35,7 +35,7 @@ insert-sums-requires c κs =
     let l = c .before .before .before .before .before in
     let s = l .before .before in
     let a = s .args in
-    next-row (a .v) (a .m) (a .b) _ (a .a) (l .loop .i) (l .loop .n) _ _ (s .pre) (omega arith) (l .loop .inv .1) (c .before .row-at .ensures)
+    next-row (a .m) (a .b) _ (a .a) (l .loop .i) (l .loop .n) _ _ (s .pre) (omega arith) (l .loop .inv .1) (c .before .row-at .ensures)
 
 add-i : tie.Need-add-i Inv-loop μ-loop
 add-i c = search needs
@@ -48,7 +48,7 @@ unfolding part
 loop-again c =
     let l = c .before .before .before .before .before .before .before .before in
     let a = l .before .before .args in
-    (omega arith, row-found (a .v) (a .m) (a .b) _ (l .loop .i) (l .loop .n) _ _ _ _ (l .loop .inv .1) (c .before .before .before .before .row-at .ensures) (c .before .before .insert-sums .ensures))
+    (omega arith, row-found (a .m) (a .b) _ (l .loop .i) (l .loop .n) _ _ _ _ (l .loop .inv .1) (c .before .before .before .before .row-at .ensures) (c .before .before .insert-sums .ensures))
 
 copy-back-requires : tie.Need-copy-back-requires Inv-loop μ-loop
 copy-back-requires c κs = search needs
@@ -60,7 +60,7 @@ returns : tie.Need-returns Inv-loop μ-loop
 returns c =
     let l = c .before .before .before .before .before in
     let a = l .before .before .args in
-    all-found (a .v) (a .m) (a .a) (a .b) (l .loop .i) (l .loop .n) _ _ _ (omega arith) (omega arith) (l .loop .inv .1) (c .before .before .copy-back .ensures)
+    all-found (a .m) (a .a) (a .b) (l .loop .i) (l .loop .n) _ _ _ (omega arith) (omega arith) (l .loop .inv .1) (c .before .before .copy-back .ensures)
 
 pub combine-spec : {M : Type 1} → statement M
 combine-spec =

@@ -9,13 +9,13 @@ use Rattle.row_sums.proofs.copy_back.Statement.{statement}
 use Rattle.row_sums.proofs.copy_back.Tie as tie
 
 abbrev Inv-loop : tie.InvT-loop
-Inv-loop work₀ v n i₀ work i = (i ≤ n) × Copied v i work₀ work
+Inv-loop work₀ n i₀ work i = (i ≤ n) × Copied i work₀ work
 
 abbrev μ-loop : tie.MeasureT-loop
-μ-loop work₀ v n i₀ work i = n - i
+μ-loop work₀ n i₀ work i = n - i
 
 loop-holds : tie.Need-loop-holds Inv-loop μ-loop
-loop-holds c = (search needs, none-copied _ _)
+loop-holds c = (search needs, none-copied _)
 
 sub-row-at : tie.Need-sub-row-at Inv-loop μ-loop
 sub-row-at c = search needs
@@ -52,7 +52,7 @@ unfolding part
 loop-again c =
     let l = c .before .before .before .before .before .before .before .before in
     let a = l .before .before .args in
-    (omega arith, one-copied (a .v) _ (l .loop .i) (l .loop .work) _ _ (omega arith) (omega arith) (l .loop .inv .1) (c .before .before .before .before .row-at .ensures) (c .before .before .set-row .ensures))
+    (omega arith, one-copied _ (l .loop .i) (l .loop .work) _ _ (omega arith) (l .loop .inv .1) (c .before .before .before .before .row-at .ensures) (c .before .before .set-row .ensures))
 
 same-length : tie.Need-same-length Inv-loop μ-loop
 same-length c = search needs

@@ -8,7 +8,7 @@ use Rattle.row_sums.proofs.is_dear.Statement.{statement}
 use Rattle.row_sums.proofs.is_dear.Tie as tie
 
 returns : tie.Need-returns
-returns c = λ v. rw (ne-eqb (c .before .before .args .n) (c .before .before .args .m) (λ e. omega arith))
+returns c = rw (ne-eqb (c .before .before .args .n) (c .before .before .args .m) (λ e. omega arith))
 
 sub-cost-at : tie.Need-sub-cost-at
 sub-cost-at c = search needs
@@ -17,9 +17,9 @@ cost-at-requires : tie.Need-cost-at-requires
 cost-at-requires c κs = search needs
 
 returns-2 : tie.Need-returns-2
-returns-2 c = λ v.
+returns-2 c =
     let a = c .before .before .before .args in
-    rw (eq-eqb (a .n) (a .m) (omega arith)) (ap (λ (last : ℕ). ltb last (a .cost)) (c .cost-at .ensures v))
+    rw (eq-eqb (a .n) (a .m) (omega arith)) (ap (λ (last : ℕ). ltb last (a .cost)) (c .cost-at .ensures))
 
 pub is-dear-spec : {M : Type 1} → statement M
 is-dear-spec = tie.close (tie.spec returns sub-cost-at cost-at-requires returns-2)

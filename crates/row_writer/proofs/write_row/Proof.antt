@@ -9,43 +9,58 @@ use Rattle.row_writer.proofs.write_row.Statement.{statement}
 use Rattle.row_writer.proofs.write_row.Tie as tie
 
 abbrev Inv-loop : tie.InvT-loop
-Inv-loop beds₀ v row j₀ beds j = (j ≤ v) × (length beds ≡ length beds₀) × (sets beds j (drop j (take v (row .beds))) ≡ sets beds₀ 0 (take v (row .beds)))
+Inv-loop beds₀ v plain j₀ beds j = (j ≤ v) × (length beds ≡ length beds₀) × (sets beds j (drop j (take v plain)) ≡ sets beds₀ 0 (take v plain))
 
 abbrev μ-loop : tie.MeasureT-loop
-μ-loop beds₀ v row j₀ beds j = v - j
+μ-loop beds₀ v plain j₀ beds j = v - j
 
+-- src/lib.rt:25:17
+beds-of-requires : tie.Need-beds-of-requires Inv-loop μ-loop
+beds-of-requires c κs = search needs
+
+-- src/lib.rt:27:5
 loop-holds : tie.Need-loop-holds Inv-loop μ-loop
 loop-holds c = search needs
 
-element-copy-out-beds : tie.Need-element-copy-out-beds Inv-loop μ-loop
-element-copy-out-beds c = search needs
+-- src/lib.rt:28:19
+array-read-beds : tie.Need-array-read-beds Inv-loop μ-loop
+array-read-beds c = search needs
 
+-- src/lib.rt:28:9
 slice-write-beds : tie.Need-slice-write-beds Inv-loop μ-loop
 slice-write-beds c = search needs
 
+-- src/lib.rt:29:9
 add-j : tie.Need-add-j Inv-loop μ-loop
 add-j c = search needs
 
+-- src/lib.rt:27:5
 loop-less : tie.Need-loop-less Inv-loop μ-loop
 loop-less c = search needs
 
+-- src/lib.rt:27:5
 loop-again : tie.Need-loop-again Inv-loop μ-loop
 loop-again c =
-    let l = c .before .before .loop in
-    let a = c .before .before .before .args in
-    let b : length (a .t2 .beds) ≡ 32 = search needs in
-    let e : length (take (a .v) (a .t2 .beds)) ≡ a .v = length-take-le (a .v) (a .t2 .beds) (omega arith) in
-    (omega arith, simp length-set (l .inv .1), next-value (take (a .v) (a .t2 .beds)) (l .j) (l .beds) _ (omega arith) (sym (getD-take (a .v) (a .t2 .beds) (l .j) 0 (omega arith))) ∙ l .inv .2)
+    let l = c .before .loop in
+    let s = c .before .before in
+    let a = s .before .before .args in
+    let plain = s .beds-of .result in
+    let b : length plain ≡ 32 = search needs in
+    let e : length (take (a .v) plain) ≡ a .v = length-take-le (a .v) plain (omega arith) in
+    (omega arith, simp length-set (l .inv .1), next-value (take (a .v) plain) (l .j) (l .beds) _ (omega arith) (sym (getD-take (a .v) plain (l .j) 0 (omega arith))) ∙ l .inv .2)
 
+-- src/lib.rt:21:1
 same-length : tie.Need-same-length Inv-loop μ-loop
 same-length c = search needs
 
+-- src/lib.rt:21:1
 returns : tie.Need-returns Inv-loop μ-loop
 returns c =
     let l = c .before .loop in
-    let a = c .before .before .args in
-    let e : length (take (a .v) (a .t2 .beds)) ≤ l .j = omega (arith, length-take (a .v) (a .t2 .beds)) in
-    sym (all-values (take (a .v) (a .t2 .beds)) (l .j) (l .beds) e) ∙ l .inv .2
+    let s = c .before .before in
+    let a = s .before .before .args in
+    let e : length (take (a .v) (s .beds-of .result)) ≤ l .j = omega (arith, length-take (a .v) (s .beds-of .result)) in
+    rw (← s .beds-of .ensures) (sym (all-values (take (a .v) (s .beds-of .result)) (l .j) (l .beds) e) ∙ l .inv .2)
 
 pub write-row-spec : {M : Type 1} → statement M
 write-row-spec =
@@ -53,8 +68,9 @@ write-row-spec =
     (tie.spec
     Inv-loop
     μ-loop
+    beds-of-requires
     loop-holds
-    element-copy-out-beds
+    array-read-beds
     slice-write-beds
     add-j
     loop-less

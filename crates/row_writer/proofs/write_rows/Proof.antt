@@ -48,7 +48,7 @@ word-of-requires : tie.Need-word-of-requires Inv-loop μ-loop
 word-of-requires c κs =
     let l = c .before .before .before .before .before .before in
     let s = l .before .before .before .before in
-    rw (ap (λ (w : Row). w .cost) (c .before .before .before .before .row-at .ensures .row)) (s .pre .narrow (l .loop .r) (omega arith))
+    rw (ap (λ (w : Row). w .cost) (c .before .before .before .before .row-at .ensures)) (s .pre .narrow (l .loop .r) (omega arith))
 
 mul-costs : tie.Need-mul-costs Inv-loop μ-loop
 mul-costs c = search needs

@@ -1,9 +1,11 @@
 use borrow.Author.Needs.{needs}
-use mathlib.Core.Path.{refl}
 use Rattle.row_sums.specs.Sums.{part}
 use Rattle.search.proofs.Listing.{started}
 use Rattle.search.proofs.start_list.Statement.{statement}
 use Rattle.search.proofs.start_list.Tie as tie
+
+pack-requires : tie.Need-pack-requires
+pack-requires c κs = search needs
 
 sub-set-row : tie.Need-sub-set-row
 sub-set-row c = search needs
@@ -22,9 +24,16 @@ same-length c = search needs
 
 returns : tie.Need-returns
 unfolding part
-returns c = started _ _ _ _ (c .before .before .before .before .before .pre) refl refl (c .before .before .set-row .ensures)
+returns c = started _ _ _ _ (c .before .before .before .before .before .before .before .pre) (c .before .before .before .before .pack .ensures) (c .before .before .set-row .ensures)
 
 pub start-list-spec : {M : Type 1} → statement M
 start-list-spec =
     tie.close
-    (tie.spec sub-set-row part-set-row-start part-set-row-end set-row-requires same-length returns)
+    (tie.spec
+    pack-requires
+    sub-set-row
+    part-set-row-start
+    part-set-row-end
+    set-row-requires
+    same-length
+    returns)

@@ -10,7 +10,7 @@ same-length : tie.Need-same-length
 same-length c = search needs
 
 returns : tie.Need-returns
-returns c = kept-old _ _ _ _ (c .before .has-come-before .ensures) (c .if1 .taken)
+returns c = kept-old _ _ _ (c .before .has-come-before .ensures) (c .if1 .taken)
 
 add-next : tie.Need-add-next
 add-next c = search needs
@@ -24,7 +24,7 @@ same-length-2 c = search needs
 returns-2 : tie.Need-returns-2
 returns-2 c =
     let asked = c .before .before .before .before .before in
-    kept-new _ _ _ _ (asked .has-come-before .ensures) _ (asked .before .before .before .pre .patients) (c .before .before .set-row .ensures) (c .before .before .before .before .if1 .left)
+    kept-new _ _ _ (asked .has-come-before .ensures) _ (c .before .before .set-row .ensures) (c .before .before .before .before .if1 .left)
 
 pub keep-new-spec : {M : Type 1} → statement M
 keep-new-spec =

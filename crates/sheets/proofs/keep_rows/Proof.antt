@@ -6,19 +6,13 @@ use Rattle.sheets.proofs.keep_rows.Statement.{statement}
 use Rattle.sheets.proofs.keep_rows.Tie as tie
 
 abbrev Inv-loop : tie.InvT-loop
-Inv-loop work₀ patients terms entries v n clinic k count₀ i₀ work count i = Walked entries patients terms v n (clinic .0) k work₀ i work count
+Inv-loop work₀ patients terms entries v n clinic count₀ i₀ work count i = Walked entries patients terms v n (clinic .0) work₀ i work count
 
 abbrev μ-loop : tie.MeasureT-loop
-μ-loop work₀ patients terms entries v n clinic k count₀ i₀ work count i = n - i
-
-size-requires : tie.Need-size-requires Inv-loop μ-loop
-size-requires c κs = search needs
-
-cast-k : tie.Need-cast-k Inv-loop μ-loop
-cast-k c = search needs
+μ-loop work₀ patients terms entries v n clinic count₀ i₀ work count i = n - i
 
 loop-holds : tie.Need-loop-holds Inv-loop μ-loop
-loop-holds c = walked-start _ _ _ _ _ _ _ _ (c .size .ensures)
+loop-holds c = walked-start _ _ _ _ _ _ _
 
 sub-row-at : tie.Need-sub-row-at Inv-loop μ-loop
 sub-row-at c = search needs
@@ -36,7 +30,7 @@ own-row-requires : tie.Need-own-row-requires Inv-loop μ-loop
 unfolding part
 own-row-requires c κs =
     let turn = c .before .before .before in
-    walked-asks _ _ _ _ _ _ _ _ _ _ _ (turn .before .loop .inv) (turn .loop-test .taken) _ (c .row-at .ensures) (turn .before .before .before .before .pre)
+    walked-asks _ _ _ _ _ _ _ _ _ _ (turn .before .loop .inv) (turn .loop-test .taken) _ (c .row-at .ensures) (turn .before .before .before .pre)
 
 sub-keep-new : tie.Need-sub-keep-new Inv-loop μ-loop
 sub-keep-new c = search needs
@@ -51,8 +45,8 @@ keep-new-requires : tie.Need-keep-new-requires Inv-loop μ-loop
 unfolding part
 keep-new-requires c κs =
     let turn = c .before .before .before .before .before in
-    let pre = turn .before .before .before .before .pre in
-    walked-room _ _ _ _ _ _ _ _ _ _ _ (turn .before .loop .inv) (turn .loop-test .taken) (pre .few) (pre .long)
+    let pre = turn .before .before .before .pre in
+    walked-room _ _ _ _ _ _ _ _ _ _ (turn .before .loop .inv) (turn .loop-test .taken) (pre .few) (pre .long)
 
 add-i : tie.Need-add-i Inv-loop μ-loop
 add-i c = search needs
@@ -65,14 +59,14 @@ unfolding part
 loop-again c =
     let made = c .before .before .before .before in
     let turn = made .before .before .before .before in
-    let pre = turn .before .before .before .before .pre in
-    walked-next _ _ _ _ _ _ _ _ _ _ _ (turn .before .loop .inv) (turn .loop-test .taken) _ (made .before .row-at .ensures) _ _ _ (pre .long) (made .own-row .ensures) (c .before .before .keep-new .ensures)
+    let pre = turn .before .before .before .pre in
+    walked-next _ _ _ _ _ _ _ _ _ _ (turn .before .loop .inv) (turn .loop-test .taken) _ (made .before .row-at .ensures) _ _ _ (pre .long) (made .own-row .ensures) (c .before .before .keep-new .ensures)
 
 same-length : tie.Need-same-length Inv-loop μ-loop
 same-length c = search needs
 
 returns : tie.Need-returns Inv-loop μ-loop
-returns c = walked-done _ _ _ _ _ _ _ _ _ _ _ (c .before .loop .inv) (c .loop-test .left)
+returns c = walked-done _ _ _ _ _ _ _ _ _ _ (c .before .loop .inv) (c .loop-test .left)
 
 pub keep-rows-spec : {M : Type 1} → statement M
 keep-rows-spec =
@@ -80,8 +74,6 @@ keep-rows-spec =
     (tie.spec
     Inv-loop
     μ-loop
-    size-requires
-    cast-k
     loop-holds
     sub-row-at
     part-row-at-start

@@ -8,7 +8,7 @@ use borrow.Author.Tests.{not-false}
 use Rattle.pricing.specs.Pricing.{costIn}
 use Rattle.search.specs.Walks.{remaining, isPast}
 use Rattle.search.proofs.Steps.{few, least-most, asks-few, asks-room, asks-beds, decides, below-head, below-bed}
-use Rattle.search.proofs.Walking.{Sofar, walk-end, sofar-start, sofar-done, room-now, bed-small, asks-next, sofar-skip, asks-below, sofar-walk, sofar-cut, lowest-first}
+use Rattle.search.proofs.Walking.{Sofar, walk-end, sofar-start, sofar-done, bed-small, asks-next, asks-cut, sofar-skip, asks-below, sofar-walk, sofar-cut, lowest-first}
 use borrow.Fn.Kinds.{In}
 use borrow.Fn.PlainCycle.{Measures, is, falls, and}
 use Rattle.search.proofs.walk.walk.Reads as walk
@@ -20,6 +20,7 @@ use Rattle.pricing.proofs.Plan.place.Reads as place-reads
 use Rattle.pricing.proofs.bed_count.Reads as bed-count-reads
 use Rattle.pricing.proofs.beds.bed_cost.Reads as bed-cost-reads
 use Rattle.pricing.proofs.beds.bed_costs.Reads as bed-costs-reads
+use Rattle.packed_rows.proofs.pack.Reads as pack-reads
 use Rattle.row_list.proofs.insert.Reads as insert-reads
 use Rattle.search.proofs.walk.is_cut.Reads as is-cut-reads
 use Rattle.search.proofs.walk.rest_of.Reads as rest-of-reads
@@ -40,6 +41,8 @@ abbrev calls : ℕ → walk-lts.Claims
 calls t = (
   is-empty-reads.Asked,
   is-empty-reads.Learnt,
+  pack-reads.Asked,
+  pack-reads.Learnt,
   insert-reads.Asked,
   insert-reads.Learnt,
   lowest-reads.Asked,
@@ -71,6 +74,9 @@ walk-μ-loop list₀ patients terms entries v n m head s count others bound befo
 walk-is-empty-requires : (t : ℕ) → walk-lts.Need-is-empty-requires (calls t) (walk-at t) walk.Post walk-Inv-loop walk-μ-loop
 walk-is-empty-requires t c κs = search needs
 
+walk-pack-requires : (t : ℕ) → walk-lts.Need-pack-requires (calls t) (walk-at t) walk.Post walk-Inv-loop walk-μ-loop
+walk-pack-requires t c κs = search needs
+
 walk-insert-requires : (t : ℕ) → walk-lts.Need-insert-requires (calls t) (walk-at t) walk.Post walk-Inv-loop walk-μ-loop
 walk-insert-requires t c κs = search needs
 
@@ -78,7 +84,7 @@ walk-same-length : (t : ℕ) → walk-lts.Need-same-length (calls t) (walk-at t)
 walk-same-length t c = search needs
 
 walk-returns : (t : ℕ) → walk-lts.Need-returns (calls t) (walk-at t) walk.Post walk-Inv-loop walk-μ-loop
-walk-returns t c = walk-end (sym (c .before .before .before .before .before .before .before .is-empty .ensures) ∙ c .before .before .before .before .before .before .if1 .taken) (c .before .before .insert .ensures .count) (c .before .before .insert .ensures .long) (c .before .before .insert .ensures .rows)
+walk-returns t c = walk-end (c .before .before .before .before .before .before .before .before .before .before .before .before .pre .1) _ (sym (c .before .before .before .before .before .before .before .before .before .is-empty .ensures) ∙ c .before .before .before .before .before .before .before .before .if1 .taken) (c .before .before .before .before .pack .ensures) (c .before .before .insert .ensures)
 
 walk-lowest-requires : (t : ℕ) → walk-lts.Need-lowest-requires (calls t) (walk-at t) walk.Post walk-Inv-loop walk-μ-loop
 walk-lowest-requires t c κs = search needs
@@ -122,10 +128,7 @@ walk-cast-is-cut : (t : ℕ) → walk-lts.Need-cast-is-cut (calls t) (walk-at t)
 walk-cast-is-cut t c = omega (arith, bed-small (c .before .before .before .before .before .before .before .before .before .before .before .before .before .before .before .before .before .before .before .before .before .before .pre .1) (c .before .before .before .before .before .before .before .before .loop .inv) (c .before .before .before .before .before .before .before .loop-test .taken))
 
 walk-is-cut-requires : (t : ℕ) → walk-lts.Need-is-cut-requires (calls t) (walk-at t) walk.Post walk-Inv-loop walk-μ-loop
-walk-is-cut-requires t c κs =
-    let pre = c .before .before .before .before .before .before .before .before .before .before .before .before .before .before .before .before .before .before .before .before .before .before .pre .1 in
-    let asks = asks-next pre (c .before .before .before .before .before .before .before .before .loop .inv) (c .before .before .before .before .before .before .before .loop-test .taken) in
-    record { room = room-now pre (c .before .before .before .before .before .before .before .before .loop .inv); few = asks-few asks; placed = asks-room asks; beds = pre .light .beds }
+walk-is-cut-requires t c κs = asks-cut (c .before .before .before .before .before .before .before .before .before .before .before .before .before .before .before .before .before .before .before .before .before .before .pre .1) (c .before .before .before .before .before .before .before .before .loop .inv) (c .before .before .before .before .before .before .before .loop-test .taken)
 
 walk-cast-place : (t : ℕ) → walk-lts.Need-cast-place (calls t) (walk-at t) walk.Post walk-Inv-loop walk-μ-loop
 walk-cast-place t c = omega (arith, bed-small (c .before .before .before .before .before .before .before .before .before .before .before .before .before .before .before .before .before .before .before .before .before .before .before .before .pre .1) (c .before .before .before .before .before .before .before .before .before .before .loop .inv) (c .before .before .before .before .before .before .before .before .before .loop-test .taken))
@@ -185,6 +188,7 @@ pub +walk-spec : {M : Type 1} → statement M
     walk-Inv-loop
     walk-μ-loop
     (walk-is-empty-requires t)
+    (walk-pack-requires t)
     (walk-insert-requires t)
     (walk-same-length t)
     (walk-returns t)

@@ -1,0 +1,4 @@
+pub mod Adding
+pub mod Comparing
+pub mod Packing
+pub mod Taking
