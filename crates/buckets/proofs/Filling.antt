@@ -7,11 +7,10 @@ use native.Mathlib.Omega.{arith}
 use borrow.Author.Tests.{eq-eqb, ne-eqb}
 use lib.ListN.{drop, replicate, drop-of-length-le}
 use lib.Seq.{drop-cons}
-use Rattle.definitions.specs.Basics.{ℕ, suc, _+_, _-_, _*_, _<_, Bool, true, false, not, _&&_, cond, List, [], _∷_, map, length, getD, eqb, ltb, sum, every, keep}
+use Rattle.definitions.specs.Basics.{ℕ, suc, _+_, _-_, _*_, _<_, Bool, true, false, cond, List, [], _∷_, map, length, getD, eqb, sum, every, keep}
 use Rattle.definitions.specs.Syntax as Said
 use Rattle.definitions.specs.Syntax.{patientAt}
-use Rattle.partial_rows.specs.Sets.{only}
-use Rattle.partial_rows.specs.Rows.{holds, decidedTables}
+use Rattle.partial_rows.specs.Rows.{decidedTables}
 use Rattle.partial_rows.specs.Bounds.{leastEntry}
 use Rattle.held_region.specs.declared.Table.{Table}
 use Rattle.held_region.specs.declared.Region.{Region}
@@ -20,7 +19,7 @@ use Rattle.held_region.specs.Outline.{outline, tableIn, membersOf}
 use Rattle.held_region.specs.Sound.{Sound}
 use Rattle.held_region.specs.Entries.{countsMatch, entryTotal, counts-match}
 use Rattle.held_region.specs.Faithful.{patient-lines, total-told, sound-told, entry-counts-told}
-use Rattle.buckets.specs.Terms.{Answered, Planned, Term, Chain, Prepared, bucketOf, leastIn, bedsAt, leastAt, firstAt}
+use Rattle.buckets.specs.Terms.{Answered, Planned, Term, Chain, Prepared, highest, bucketOf, leastIn, bedsAt, leastAt, firstAt}
 use Rattle.buckets.specs.Least.{leastNumber}
 use Rattle.buckets.specs.Places.{strideOf, stride-same}
 use Rattle.buckets.specs.Stores.{startOf, start-next, start-all, start-most}
@@ -32,12 +31,9 @@ use Rattle.buckets.proofs.Writing.{zeros}
 use Rattle.buckets.proofs.Held.{held-lines, least-fits, held-place, held-right, members-same, entries-same, count-same}
 use Rattle.buckets.proofs.Held.{first-same, last-same, last-known, least-told, least-one}
 
--- Is s the highest member? The tables among some patients, from place i on, of which it is.
-abbrev inBucket : ℕ → Said.Table → Bool
-inBucket s t = holds (only s) t && not (holds (ltb s) t)
-
+-- The tables among some patients, from place i on, of which s is the highest member.
 abbrev pub bucketFrom : (ℕ → Bool) → Said.Region → ℕ → ℕ → List Said.Table
-bucketFrom P r i s = keep (inBucket s) (keep (allAmong P) (drop i (r .tables)))
+bucketFrom P r i s = keep (highest s) (keep (allAmong P) (drop i (r .tables)))
 
 -- The words say the buckets of the tables among some patients from place i on.
 pub record Filled (P : ℕ → Bool) (r : Said.Region) (store : List ℕ) (i start : ℕ) (patients terms : List ℕ) : Type 0 where
@@ -55,8 +51,8 @@ module _ (h : Region) (P : ℕ → Bool) (r : Said.Region) (held : Holds h r) (a
       record {
         starts = total ∙ total-told h r held (a .counted) ∙ sym (start-all (r .tables)) ∙ ap (startOf (r .tables)) (held-lines h r held a);
         beds = λ s l. w .beds s (known s l) ∙ ap (λ p. p .bedCount) (held .patients s l);
-        least = λ s l. w .least s ∙ sym (ap (λ ts. sum (map leastEntry (keep (inBucket s) (keep (allAmong P) ts)))) none-left);
-        bucket = λ s l. subst (λ ts. Chain (among r P) (h .entries) terms (h .t) (firstAt words s) (keep (inBucket s) (keep (allAmong P) ts))) (sym none-left) (w .first s (known s l));
+        least = λ s l. w .least s ∙ sym (ap (λ ts. sum (map leastEntry (keep (highest s) (keep (allAmong P) ts)))) none-left);
+        bucket = λ s l. subst (λ ts. Chain (among r P) (h .entries) terms (h .t) (firstAt words s) (keep (highest s) (keep (allAmong P) ts))) (sym none-left) (w .first s (known s l));
       }
     where
       known : (s : ℕ) → s < length (r .patients) → s < h .v
@@ -94,8 +90,8 @@ module _ (h : Region) (P : ℕ → Bool) (r : Said.Region) (held : Holds h r) (a
     least-is = ap (λ n. leastNumber (h .entries) n (n + table .entries)) from-is ∙ least-told h r held a i l
 
     next-table : (s : ℕ) → bucketFrom P r i s
-        ≡ keep (inBucket s) (cond (allAmong P t) (t ∷ keep (allAmong P) (drop (suc i) (r .tables))) (keep (allAmong P) (drop (suc i) (r .tables))))
-    next-table s = ap (λ ts. keep (inBucket s) (keep (allAmong P) ts)) (drop-cons (r .tables) i (record { members = []; entries = [] }) (held-place h r held a i l))
+        ≡ keep (highest s) (cond (allAmong P t) (t ∷ keep (allAmong P) (drop (suc i) (r .tables))) (keep (allAmong P) (drop (suc i) (r .tables))))
+    next-table s = ap (λ ts. keep (highest s) (keep (allAmong P) ts)) (drop-cons (r .tables) i (record { members = []; entries = [] }) (held-place h r held a i l))
 
     member-known : (j : ℕ) → j < table .members → getD (table .first) j 0 < length (r .patients)
     member-known j m =
@@ -142,7 +138,7 @@ module _ (h : Region) (P : ℕ → Bool) (r : Said.Region) (held : Holds h r) (a
         }
       where
         over : (s : ℕ) → bucketFrom P r i s ≡ bucketFrom P r (suc i) s
-        over s = next-table s ∙ ap (λ b. keep (inBucket s) (cond b (t ∷ keep (allAmong P) (drop (suc i) (r .tables))) (keep (allAmong P) (drop (suc i) (r .tables))))) out
+        over s = next-table s ∙ ap (λ b. keep (highest s) (cond b (t ∷ keep (allAmong P) (drop (suc i) (r .tables))) (keep (allAmong P) (drop (suc i) (r .tables))))) out
 
     module _ (own : every P (t .members) ≡ true) (blank : (p : ℕ) → p < suc i * 10 → getD terms p 0 ≡ 0) {counted after : List ℕ} (w : TermAdded (h .entries) table i from patients counted terms after) where
       term-there : Term (among r P) (h .entries) after i t
@@ -160,7 +156,7 @@ module _ (h : Region) (P : ℕ → Bool) (r : Said.Region) (held : Holds h r) (a
 
       one-more : (s : ℕ) → bucketFrom P r i s ≡ cond (eqb s (lastOf table)) (t ∷ bucketFrom P r (suc i) s) (bucketFrom P r (suc i) s)
       one-more s =
-          next-table s ∙ ap (λ b. keep (inBucket s) (cond b (t ∷ keep (allAmong P) (drop (suc i) (r .tables))) (keep (allAmong P) (drop (suc i) (r .tables))))) own
+          next-table s ∙ ap (λ b. keep (highest s) (cond b (t ∷ keep (allAmong P) (drop (suc i) (r .tables))) (keep (allAmong P) (drop (suc i) (r .tables))))) own
           ∙ ap (λ b. cond b (t ∷ bucketFrom P r (suc i) s) (bucketFrom P r (suc i) s))
           (in-bucket s t (held-right h r held a i l .some) (held-right h r held a i l .rising) ∙ ap (eqb s) (sym (last-same h r held a i l)))
 

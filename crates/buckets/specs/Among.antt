@@ -98,7 +98,7 @@ module _ (r : Region) (P : ℕ → Bool) where
 pub term-among : (r : Region) (P : ℕ → Bool) (store terms : List ℕ) (k : ℕ) (t : Table) → Term r store terms k t → Term (among r P) store terms k t
 unfolding entryFor patientAt
 term-among r P store terms k t term =
-    record { known = term .known; near = term .near; starts = term .starts; inside = term .inside; finds = term .finds; small = term .small }
+    record { known = term .known; near = term .near; starts = term .starts; inside = term .inside; finds = term .finds; small = term .small; beside = term .beside }
 
 -- ---- sets
 

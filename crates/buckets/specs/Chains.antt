@@ -4,15 +4,16 @@ use Prim.Native.Nat.{_≤_}
 use native.Mathlib.Decide.{decLt}
 use native.Mathlib.Nat.{one-mul, le-trans, mul-le-mul-right}
 use native.Mathlib.Omega.{arith}
-use lib.ListN.{List·getD-eq-default}
-use Rattle.definitions.specs.Basics.{ℕ, zero, suc, _+_, _*_, _<_, _≡_, refl, List, [], _∷_, map, length, getD, numbersFrom, sum, product}
+use borrow.Author.Tests.{eqb-true}
+use lib.ListN.{set, List·getD-eq-default}
+use Rattle.definitions.specs.Basics.{ℕ, zero, suc, _+_, _-_, _*_, _<_, _≡_, refl, true, List, [], _∷_, map, length, getD, numbersFrom, sum, product}
 use Rattle.definitions.specs.Syntax.{Table, Region, patientAt}
 use Rattle.definitions.specs.Plans.{Plan, bedOf, entryFor}
 use Rattle.held_region.specs.Held.{tableAt, storeOf}
-use Rattle.buckets.specs.Terms.{Answered, Fitting, startAt, nextAt, memberAt, strideAt, placeAt, Term, Chain}
-use Rattle.buckets.specs.Places.{strideOf, placeOf, place-strides, place-bound}
+use Rattle.buckets.specs.Terms.{Answered, Fitting, highest, startAt, nextAt, memberAt, strideAt, placeAt, Term, Chain}
+use Rattle.buckets.specs.Places.{strideOf, placeOf, place-strides, place-bound, place-last}
 use Rattle.buckets.specs.Stores.{startOf, start-next, start-most, stored-at}
-use Rattle.buckets.specs.Right.{TableRight, table-right, patients-few, entries-few, beds-some, entry-small}
+use Rattle.buckets.specs.Right.{TableRight, table-right, patients-few, entries-few, beds-some, in-bucket, entry-small}
 
 sum-same : (f g : ℕ → ℕ) (a n : ℕ) → ((j : ℕ) → j < a + n → f j ≡ g j) → sum (map f (numbersFrom a n)) ≡ sum (map g (numbersFrom a n))
 sum-same f g a zero same = refl
@@ -70,8 +71,12 @@ module _ (r : Region) (a : Answered r) (i : ℕ) (h : i < length (r .tables)) (t
           inside = λ plan fits. omega (arith, places plan, bounded plan fits, ends);
           finds = λ plan fits. ap (λ n. getD (storeOf (r .tables)) n 0) (places plan) ∙ stored-at (r .tables) i _ (entries-few r a) h (bounded plan fits);
           small = λ plan e is. entry-small (t .entries) (right .within) _ e is;
+          beside = λ s bed plan top inside. omega (arith, places (set plan s bed), places plan, place-last count plan (t .members) bed (right .some) (right .rising) (top-last s top) inside);
         }
       where
+        top-last : (s : ℕ) → highest s t ≡ true → s ≡ getD (t .members) (length (t .members) - 1) 0
+        top-last s top = eqb-true _ _ (sym (in-bucket s t (right .some) (right .rising)) ∙ top)
+
         member-small : (j : ℕ) → Dec (j < length (t .members)) → getD (t .members) j 0 < 32
         member-small j (yes l) = omega (arith, right .known j l, patients-few r a)
         member-small j (no l) = omega (arith, List·getD-eq-default (t .members) 0 {n = j} (omega arith))
@@ -88,6 +93,7 @@ module _ (r : Region) (store before after : List ℕ) where
         inside = λ plan fits. omega (arith, term .inside plan fits, places plan);
         finds = λ plan fits. ap (λ n. getD store n 0) (places plan) ∙ term .finds plan fits;
         small = term .small;
+        beside = λ s bed plan top inside. omega (arith, term .beside s bed plan top inside, places (set plan s bed), places plan);
       }
     where
       places : (plan : Plan) → placeAt after k plan ≡ placeAt before k plan

@@ -7,7 +7,7 @@ use native.Mathlib.Omega.{arith}
 use borrow.Author.Tests.{ltb-true}
 use lib.ListN.{set}
 use lib.Seq.{getD-set-same, getD-set-other}
-use Rattle.definitions.specs.Basics.{ℕ, zero, suc, _+_, _*_, _<_, _≡_, refl, true, List, [], _∷_, map, length, getD, ltb, numbersFrom, below, sum, product, every, everyTwo}
+use Rattle.definitions.specs.Basics.{ℕ, zero, suc, _+_, _-_, _*_, _<_, _≡_, refl, true, List, [], _∷_, map, length, getD, ltb, numbersFrom, below, sum, product, every, everyTwo}
 use Rattle.definitions.specs.Plans.{Plan, bedOf, place}
 use Rattle.theorems.specs.Tests.{both}
 use Rattle.theorems.specs.Every.{every-at}
@@ -50,6 +50,16 @@ unfolding strideOf
 stride-past count [] j h = refl
 stride-past count (s ∷ members) zero h = absurd (omega arith)
 stride-past count (s ∷ members) (suc j) h = stride-past count members j (omega arith)
+
+-- The last member moves fastest.
+stride-last : (count : ℕ → ℕ) (members : List ℕ) → 0 < length members → strideOf count members (length members - 1) ≡ 1
+unfolding strideOf
+stride-last count [] h = absurd (omega arith)
+stride-last count (s ∷ []) h = refl
+stride-last count (s ∷ q ∷ members) h =
+    let last : suc (suc (length members)) - 1 ≡ suc (length members) = omega arith in
+    let next : suc (length members) - 1 ≡ length members = omega arith in
+    ap (strideOf count (s ∷ q ∷ members)) last ∙ ap (strideOf count (q ∷ members)) (sym next) ∙ stride-last count (q ∷ members) (omega arith)
 
 -- A sum over places, the first apart.
 sum-shift : (f : ℕ → ℕ) (a n : ℕ) → sum (map f (numbersFrom (suc a) n)) ≡ sum (map (λ j. f (suc j)) (numbersFrom a n))
@@ -130,3 +140,13 @@ place-set count plan members j bed h up known =
     place-changed count (bedOf plan) (bedOf (set plan (getD members j 0) bed)) members j h
     (λ i l apart. sym (getD-set-other plan (getD members j 0) (getD members i 0) bed 0 (rising-once members up i j l h apart)))
     ∙ ap (λ b. placeOf count (bedOf plan) members + b * strideOf count members j) (getD-set-same plan (getD members j 0) bed 0 known)
+
+-- With the last member's bed it moves by one.
+pub place-last : (count : ℕ → ℕ) (plan : Plan) (members : List ℕ) (bed : ℕ) {s : ℕ} → 0 < length members → everyTwo ltb members ≡ true
+    → s ≡ getD members (length members - 1) 0 → s < length plan
+    → placeOf count (bedOf (set plan s bed)) members + bedOf plan s ≡ placeOf count (bedOf plan) members + bed
+place-last count plan members bed {s} some up last known =
+    let one = stride-last count members some in
+    let known : getD members (length members - 1) 0 < length plan = omega (arith, known, last) in
+    let moved = rw (one, ← last) at (place-set count plan members (length members - 1) bed (omega arith) up known) in
+    omega (arith, moved)

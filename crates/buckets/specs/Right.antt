@@ -12,9 +12,8 @@ use Rattle.theorems.specs.Tests.{both}
 use Rattle.theorems.specs.Every.{every-at}
 use Rattle.theorems.specs.Accepted.{at-least, at-most}
 use Rattle.partial_rows.specs.Sets.{only}
-use Rattle.partial_rows.specs.Rows.{holds}
 use Rattle.held_region.specs.Held.{tableAt}
-use Rattle.buckets.specs.Terms.{Answered}
+use Rattle.buckets.specs.Terms.{Answered, highest}
 use Rattle.buckets.specs.Stores.{entriesOf}
 
 -- What questions 7 to 9 say of a table.
@@ -115,7 +114,7 @@ module _ (s : ℕ) where
       step false false c d h k = refl
 
   pub in-bucket : (t : Table) → 0 < length (t .members) → everyTwo ltb (t .members) ≡ true
-      → (holds (only s) t && not (holds (ltb s) t)) ≡ eqb s (getD (t .members) (length (t .members) - 1) 0)
+      → highest s t ≡ eqb s (getD (t .members) (length (t .members) - 1) 0)
   in-bucket t filled up = go (t .members) filled up
     where
       go : (l : List ℕ) → 0 < length l → everyTwo ltb l ≡ true → (any (only s) l && not (any (ltb s) l)) ≡ eqb s (getD l (length l - 1) 0)

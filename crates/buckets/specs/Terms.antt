@@ -1,11 +1,12 @@
 -- Buckets of tables: what the words say, and when they say it of a region.
 use Prim.Native.Nat.{_≤_}
-use Rattle.definitions.specs.Basics.{ℕ, suc, _+_, _*_, _<_, _≡_, true, some, List, [], _∷_, map, length, getD, ltb, sum, below}
+use lib.ListN.{set}
+use Rattle.definitions.specs.Basics.{ℕ, suc, _+_, _*_, _<_, _≡_, Bool, true, not, _&&_, some, List, [], _∷_, map, length, getD, ltb, sum, below}
 use Rattle.definitions.specs.Syntax.{Table, Region, patientAt}
 use Rattle.definitions.specs.Plans.{Plan, bedOf, entryFor}
 use Rattle.definitions.specs.Questions.{countsTrue, countsWithin, patientsWithin, parentsSmaller, membersRight, entryCountsRight, entriesWithin, membersRelated}
 use Rattle.partial_rows.specs.Sets.{only}
-use Rattle.partial_rows.specs.Rows.{decidedTables}
+use Rattle.partial_rows.specs.Rows.{holds, decidedTables}
 use Rattle.partial_rows.specs.Bounds.{leastEntry}
 use Rattle.held_region.specs.declared.Region as Code
 use Rattle.held_region.specs.Held.{Holds, codeOf}
@@ -30,6 +31,10 @@ pub record Planned (h : Code.Region) : Type 0 where
 -- A plan with each bed below its patient's count.
 abbrev pub Fitting : Region → Plan → Type 0
 Fitting r plan = (s : ℕ) → s < length (r .patients) → bedOf plan s < patientAt r s .bedCount
+
+-- Is this patient the highest member of the table?
+abbrev pub highest : ℕ → Table → Bool
+highest s t = holds (only s) t && not (holds (ltb s) t)
 
 -- The bucket of a patient: the tables whose highest member it is. The sum of their least numbers.
 unfoldable pub bucketOf : Region → ℕ → List Table
@@ -57,6 +62,7 @@ unfoldable pub placeAt : List ℕ → ℕ → Plan → ℕ
 placeAt terms k plan = startAt terms k + sum (map (λ j. bedOf plan (memberAt terms k j) * strideAt terms k j) (below 4))
 
 -- A term finds a table's entries: for every plan, what the store has at its place is the table's entry for the plan.
+-- The entries for the beds of the highest member lie side by side.
 pub record Term (r : Region) (store terms : List ℕ) (k : ℕ) (t : Table) : Type 0 where
   pub known : (j : ℕ) → j < 4 → memberAt terms k j < 32
   pub near : (j : ℕ) → j < 4 → strideAt terms k j ≤ 4096
@@ -64,6 +70,7 @@ pub record Term (r : Region) (store terms : List ℕ) (k : ℕ) (t : Table) : Ty
   pub inside : (plan : Plan) → Fitting r plan → placeAt terms k plan < 4096
   pub finds : (plan : Plan) → Fitting r plan → getD store (placeAt terms k plan) 0 ≡ codeOf (entryFor r plan t)
   pub small : (plan : Plan) (e : ℕ) → entryFor r plan t ≡ some e → e ≤ 1_000_000
+  pub beside : (s bed : ℕ) (plan : Plan) → highest s t ≡ true → s < length plan → placeAt terms k (set plan s bed) + bedOf plan s ≡ placeAt terms k plan + bed
 
 -- The terms of some tables in their order: a chain that begins at p, each further on than the one before, with 64 at its end.
 unfoldable pub Chain : Region → List ℕ → List ℕ → ℕ → ℕ → List Table → Type 0

@@ -1,13 +1,13 @@
 -- Packed beds: how many there are, how they compare, add and are packed one by one. Assumes nothing.
 use mathlib.Core.Path.{_≡_, refl, sym, ap, ap₂, _∙_}
 use native.Mathlib.Omega.{arith}
-use borrow.Author.Tests.{eq-eqb, ne-eqb}
 use lib.ListN.{length-append}
-use Rattle.definitions.specs.Basics.{ℕ, zero, suc, _+_, _*_, _/_, _%_, _^_, _<_, compare, Ordering, Ordering·lt, Ordering·eq, Ordering·gt}
-use Rattle.definitions.specs.Basics.{Bool, true, false, _&&_, eqb, List, [], _∷_, _++_, map, flatMap, length, getD, numbersFrom, same}
+use Rattle.definitions.specs.Basics.{ℕ, zero, suc, _+_, _*_, _/_, _%_, _^_, _<_, compare, Ordering}
+use Rattle.definitions.specs.Basics.{eqb, List, [], _∷_, _++_, map, flatMap, length, getD, numbersFrom, same}
 use Rattle.definitions.specs.Plans.{bedOf, thenBy, compareBeds}
 use Rattle.ranking.specs.Orders.{View, before, equal, after, ℕ-view}
 use Rattle.partial_rows.specs.Adding.{addBeds}
+use Rattle.partial_rows.specs.Appending.{then-eq, compare-append, isTie, same-tie, add-append}
 use Rattle.packed_rows.specs.Packed.{bedsOfWord, packedBeds}
 use Rattle.packed_rows.specs.Numbers.{less, more, alike}
 
@@ -36,24 +36,7 @@ packed-length (w ∷ words) = ap length (packed-more w words) ∙ length-append 
 pub packed-long : (words : List ℕ) → length words ≡ 4 → length (packedBeds words) ≡ 32
 packed-long words h = omega (arith, packed-length words)
 
--- Their order: that of the first parts, then that of the second ones.
-then-assoc : (o p q : Ordering) → thenBy (thenBy o p) q ≡ thenBy o (thenBy p q)
-then-assoc Ordering·lt p q = refl
-then-assoc Ordering·eq p q = refl
-then-assoc Ordering·gt p q = refl
-
-then-eq : (o : Ordering) → thenBy o Ordering·eq ≡ o
-then-eq Ordering·lt = refl
-then-eq Ordering·eq = refl
-then-eq Ordering·gt = refl
-
-compare-append : (xs ys us vs : List ℕ) → length xs ≡ length ys → compareBeds (xs ++ us) (ys ++ vs) ≡ thenBy (compareBeds xs ys) (compareBeds us vs)
-compare-append [] [] us vs e = refl
-compare-append [] (y ∷ ys) us vs e = absurd (omega arith)
-compare-append (x ∷ xs) [] us vs e = absurd (omega arith)
-compare-append (x ∷ xs) (y ∷ ys) us vs e =
-    ap (thenBy (compare x y)) (compare-append xs ys us vs (omega arith)) ∙ sym (then-assoc (compare x y) (compareBeds xs ys) (compareBeds us vs))
-
+-- Their order is that of the words.
 compare-digits : (w z : ℕ) → thenBy (compare (w / 16) (z / 16)) (compare (w % 16) (z % 16)) ≡ compare w z
 compare-digits w z = go (ℕ-view (w / 16) (z / 16)) (ℕ-view (w % 16) (z % 16))
   where
@@ -80,31 +63,7 @@ packed-order (w ∷ ws) (z ∷ zs) e =
     ∙ compare-append (bedsOfWord 7 w) (bedsOfWord 7 z) (packedBeds ws) (packedBeds zs) (word-long 7 w ∙ sym (word-long 7 z))
     ∙ ap₂ thenBy (word-order 7 w z) (packed-order ws zs (omega arith))
 
--- Beds are the same where their comparison is a tie.
-abbrev isTie : Ordering → Bool
-isTie Ordering·lt = false
-isTie Ordering·eq = true
-isTie Ordering·gt = false
-
-tie-then : (o p : Ordering) → isTie (thenBy o p) ≡ (isTie o && isTie p)
-tie-then Ordering·lt p = refl
-tie-then Ordering·eq p = refl
-tie-then Ordering·gt p = refl
-
-tie-one : (a b : ℕ) → eqb a b ≡ isTie (compare a b)
-tie-one a b = go (ℕ-view a b)
-  where
-    go : {o : Ordering} → View _<_ a b o → eqb a b ≡ isTie o
-    go (before t) = ne-eqb a b (λ e. omega arith)
-    go (equal e) = eq-eqb a b e
-    go (after t) = ne-eqb a b (λ e. omega arith)
-
-same-tie : (xs ys : List ℕ) → same eqb xs ys ≡ isTie (compareBeds xs ys)
-same-tie [] [] = refl
-same-tie [] (y ∷ ys) = refl
-same-tie (x ∷ xs) [] = refl
-same-tie (x ∷ xs) (y ∷ ys) = ap₂ _&&_ (tie-one x y) (same-tie xs ys) ∙ sym (tie-then (compare x y) (compareBeds xs ys))
-
+-- They are the same where their comparison is a tie.
 pub packed-same : (ws zs : List ℕ) → length ws ≡ length zs → same eqb (packedBeds ws) (packedBeds zs) ≡ same eqb ws zs
 packed-same ws zs e = same-tie (packedBeds ws) (packedBeds zs) ∙ ap isTie (packed-order ws zs e) ∙ sym (same-tie ws zs)
 
@@ -120,12 +79,6 @@ small-first (x ∷ xs) ys h (suc s) = small-first xs ys (λ i. h (suc i)) s
 small-second : (xs ys : List ℕ) → Small (xs ++ ys) → Small ys
 small-second [] ys h = h
 small-second (x ∷ xs) ys h = small-second xs ys (λ i. h (suc i))
-
-add-append : (xs ys us vs : List ℕ) → length xs ≡ length ys → addBeds (xs ++ us) (ys ++ vs) ≡ addBeds xs ys ++ addBeds us vs
-add-append [] [] us vs e = refl
-add-append [] (y ∷ ys) us vs e = absurd (omega arith)
-add-append (x ∷ xs) [] us vs e = absurd (omega arith)
-add-append (x ∷ xs) (y ∷ ys) us vs e = ap (λ (l : List ℕ). (x + y) ∷ l) (add-append xs ys us vs (omega arith))
 
 -- The sum of two words that hold one more than k beds.
 pub record Sum (k w z : ℕ) : Type 0 where

@@ -1,6 +1,7 @@
 -- Rows of a set of patients, where others have beds already.
 pub mod Sets
 pub mod Adding
+pub mod Appending
 pub mod Padding
 pub mod Rows
 pub mod Costs

@@ -4,13 +4,13 @@ use native.Mathlib.Omega.{arith}
 use lib.ListN.{drop, length-append, length-replicate, take-append-drop}
 use lib.Seq.{length-take-le, take-at, drop-at, getD-drop}
 use Prim.Native.Nat.{_≤_}
-use Rattle.definitions.specs.Basics.{ℕ, zero, suc, _+_, _-_, compare, Ordering, Ordering·eq, _≡_, refl, Bool, true, _&&_}
+use Rattle.definitions.specs.Basics.{ℕ, zero, suc, _+_, _-_, compare, Ordering, Ordering·eq, _≡_, refl, Bool}
 use Rattle.definitions.specs.Basics.{List, [], _∷_, _++_, length, take, replicate, eqb, same}
 use Rattle.definitions.specs.Plans.{bedOf, thenBy, compareBeds, Row, compareRows}
 use Rattle.definitions.specs.Sheets.{sameBeds}
 use Rattle.ranking.specs.Orders.{View, before, equal, after, ListLt, list-view, list-irrefl}
-use Rattle.theorems.specs.Sameness.{beds-tests}
 use Rattle.partial_rows.specs.Adding.{addBeds, addRows, add-length, add-zeros}
+use Rattle.partial_rows.specs.Appending.{then-eq, compare-append, isTie, same-tie}
 
 -- A row's beds of the first v patients.
 abbrev pub cut : ℕ → Row → Row
@@ -33,19 +33,10 @@ compare-self r = go (list-view r r)
     go (after t) = absurd (list-irrefl r t)
 
 compare-front : (xs ys r : List ℕ) → length xs ≡ length ys → compareBeds xs ys ≡ compareBeds (xs ++ r) (ys ++ r)
-compare-front [] [] r e = sym (compare-self r)
-compare-front [] (y ∷ ys) r e = absurd (omega arith)
-compare-front (x ∷ xs) [] r e = absurd (omega arith)
-compare-front (x ∷ xs) (y ∷ ys) r e = ap (thenBy (compare x y)) (compare-front xs ys r (omega arith))
-
-same-self : (r : List ℕ) → same eqb r r ≡ true
-same-self r = beds-tests .same-alike (record { cost = 0; beds = r }) (record { cost = 0; beds = r }) refl
+compare-front xs ys r e = sym (compare-append xs ys r r e ∙ ap (thenBy (compareBeds xs ys)) (compare-self r) ∙ then-eq (compareBeds xs ys))
 
 same-front : (xs ys r : List ℕ) → length xs ≡ length ys → same eqb xs ys ≡ same eqb (xs ++ r) (ys ++ r)
-same-front [] [] r e = sym (same-self r)
-same-front [] (y ∷ ys) r e = absurd (omega arith)
-same-front (x ∷ xs) [] r e = absurd (omega arith)
-same-front (x ∷ xs) (y ∷ ys) r e = ap (λ (b : Bool). eqb x y && b) (same-front xs ys r (omega arith))
+same-front xs ys r e = same-tie xs ys ∙ ap isTie (compare-front xs ys r e) ∙ sym (same-tie (xs ++ r) (ys ++ r))
 
 -- Adding goes place by place, so the first v and the others are added apart.
 take-add-beds : (v : ℕ) (xs ys : List ℕ) → length xs ≡ length ys → take v (addBeds xs ys) ≡ addBeds (take v xs) (take v ys)
@@ -110,13 +101,14 @@ pub cut-with : (v cost : ℕ) (beds : List ℕ) → length beds ≡ v
     → cut v (record { cost = cost; beds = beds ++ replicate (32 - v) 0 }) ≡ record { cost = cost; beds = beds }
 cut-with v cost beds e = λ i. record { cost = cost; beds = take-at beds (replicate (32 - v) 0) v e i }
 
+-- Where all beds are 0, each is.
+pub zero-bed : (n s : ℕ) → bedOf (replicate n 0) s ≡ 0
+zero-bed zero s = refl
+zero-bed (suc n) zero = refl
+zero-bed (suc n) (suc s) = zero-bed n s
+
 -- From patient v on, a padded row's bed is 0.
 pub padded-zero : (v : ℕ) (z : Row) (s : ℕ) → Padded v z → v ≤ s → bedOf (z .beds) s ≡ 0
 padded-zero v z s p h =
     let at : v + (s - v) ≡ s = omega arith in
-    sym (ap (bedOf (z .beds)) at) ∙ sym (getD-drop v (z .beds) (s - v) 0) ∙ ap (λ (l : List ℕ). bedOf l (s - v)) (p .rest) ∙ zeros (32 - v) (s - v)
-  where
-    zeros : (n i : ℕ) → bedOf (replicate n 0) i ≡ 0
-    zeros zero i = refl
-    zeros (suc n) zero = refl
-    zeros (suc n) (suc i) = zeros n i
+    sym (ap (bedOf (z .beds)) at) ∙ sym (getD-drop v (z .beds) (s - v) 0) ∙ ap (λ (l : List ℕ). bedOf l (s - v)) (p .rest) ∙ zero-bed (32 - v) (s - v)

@@ -1,19 +1,18 @@
 -- The loop that follows the terms of a bucket and adds up their entries for each bed of a patient. Assumes nothing.
-use mathlib.Core.Path.{_≡_, refl, sym, ap, ap₂, _∙_, subst}
+use mathlib.Core.Path.{_≡_, sym, ap, _∙_, subst}
 use Prim.Native.Nat.{_≤_}
 use native.Mathlib.Omega.{arith}
 use lib.ListN.{set, getD-replicate}
-use Rattle.definitions.specs.Basics.{ℕ, _*_, _<_, Option, some, List, length, getD, replicate}
+use Rattle.definitions.specs.Basics.{ℕ, _+_, _*_, _<_, some, List, length, getD, replicate}
 use Rattle.definitions.specs.Syntax.{Region, patientAt}
 use Rattle.definitions.specs.Plans.{bedOf}
 use Rattle.theorems.specs.Sums.{plus, halves}
 use Rattle.buckets.specs.Terms.{Fitting, firstAt, nextAt, placeAt, Prepared}
 use Rattle.buckets.specs.Right.{beds-few}
-use Rattle.pricing.specs.Pricing.{sumIn, entryIn}
+use Rattle.pricing.specs.Pricing.{sumIn, entryIn, Reads}
 use Rattle.pricing.specs.Costs.{fitting-set}
-use Rattle.pricing.specs.BedCosts.{Small, AsksPlaces, GivesPlaces, AsksEntries, GivesEntries, Asks, Gives}
-use Rattle.pricing.specs.declared.beds.BedPlaces.{BedPlaces}
-use Rattle.pricing.proofs.Chains.{Left, chain-most, left-start, left-most, left-reads, left-later, left-next-most, left-inside, left-small, left-next, left-done}
+use Rattle.pricing.specs.BedCosts.{Small, AsksEntries, GivesEntries, Asks, Gives}
+use Rattle.pricing.proofs.Chains.{Left, chain-most, left-start, left-most, left-reads, left-later, left-next-most, left-beside, left-inside, left-small, left-next, left-done}
 
 -- Where the loop stands: for each bed, the sum so far and the tables that are left, whose terms begin at k.
 pub record Sums (store patients terms : List ℕ) (s count : ℕ) (beds sums : List ℕ) (k : ℕ) : Type 0 where
@@ -68,26 +67,29 @@ module _ {store patients terms : List ℕ} {s count : ℕ} {beds zeros : List �
     sums-done end = record { small = sums-small; cost = λ r prepared fits known bed h. left-done (so .left r prepared fits known bed h) end }
 
     module _ (more : k < 64) where
-      pub sums-places : AsksPlaces terms k s beds
-      sums-places = record { reads = left-reads (own (bedOf beds s) some-bed) more; few = asks .few; long = asks .long }
+      pub sums-reads : Reads terms k
+      sums-reads = left-reads (own (bedOf beds s) some-bed) more
 
       pub sums-later : (k < nextAt terms k) × (nextAt terms k ≤ 64)
       sums-later = let l = own (bedOf beds s) some-bed in (left-later l more, left-next-most l more)
 
-      module _ {p : BedPlaces} (places : GivesPlaces terms k s beds p) where
-        pub sums-entries : AsksEntries store (p .first) (p .step) count sums
+      module _ {from : ℕ} (is : from ≡ placeAt terms k beds) where
+        -- The patient has bed 0, so the place for a bed is that many further on.
+        place : (bed : ℕ) → from + bed ≡ placeAt terms k (set beds s bed)
+        place bed = omega (arith, left-beside (own (bedOf beds s) some-bed) more beds bed (omega (arith, asks .few, asks .long)), asks .free, is)
+
+        pub sums-entries : AsksEntries store from count sums
         sums-entries = record {
           few = few-beds;
-          near = places .near;
-          inside = λ bed h. omega (arith, places .place bed, left-inside (own bed h) more (own-fits bed h));
+          inside = λ bed h. omega (arith, place bed, left-inside (own bed h) more (own-fits bed h));
           long = so .long;
           small = sums-small;
         }
 
-        module _ {after : List ℕ} (gives : GivesEntries store (p .first) (p .step) count sums after) where
+        module _ {after : List ℕ} (gives : GivesEntries store from count sums after) where
           -- A bed's sum has grown by the entry at the place for it.
           grown : (bed : ℕ) → bed < count → sumIn (getD after bed 0) ≡ plus (sumIn (getD sums bed 0)) (entryIn (getD store (placeAt terms k (set beds s bed)) 0))
-          grown bed h = gives .each bed h ∙ ap (λ at. plus (sumIn (getD sums bed 0)) (entryIn (getD store at 0))) (places .place bed)
+          grown bed h = gives .each bed h ∙ ap (λ at. plus (sumIn (getD sums bed 0)) (entryIn (getD store at 0))) (place bed)
 
           pub sums-next : Sums store patients terms s count beds after (nextAt terms k)
           sums-next = record {

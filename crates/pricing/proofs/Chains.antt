@@ -1,28 +1,40 @@
 -- A loop that follows the terms of a bucket and adds up their entries for a plan. Assumes nothing.
-use mathlib.Core.Path.{_≡_, sym, ap, _∙_, subst}
+use mathlib.Core.Path.{_≡_, refl, sym, ap, _∙_, subst}
 use mathlib.Core.Option.{Option·none-ne-some}
 use Prim.Native.Nat.{_≤_}
+use lib.ListN.{set}
 use native.Mathlib.Omega.{arith}
-use Rattle.definitions.specs.Basics.{ℕ, suc, _+_, _*_, _<_, Option, none, some, List, [], _∷_, length, getD}
+use Rattle.definitions.specs.Basics.{ℕ, suc, _+_, _*_, _<_, true, Option, none, some, List, [], _∷_, length, getD}
 use Rattle.definitions.specs.Syntax.{Table, Region}
-use Rattle.definitions.specs.Plans.{Plan, entryFor, costOver}
+use Rattle.definitions.specs.Plans.{Plan, bedOf, constraints, entryFor, costOver}
+use Rattle.ranking.specs.Members.{_∈_, here, there}
+use Rattle.theorems.specs.Kept.{keep-out}
 use Rattle.theorems.specs.Sums.{plus, plus-assoc}
+use Rattle.partial_rows.specs.Rows.{decidedTables}
 use Rattle.partial_rows.specs.Costs.{cost-cons}
 use Rattle.held_region.specs.Held.{mark}
-use Rattle.buckets.specs.Terms.{Fitting, bucketOf, firstAt, nextAt, placeAt, Term, Chain, Prepared}
+use Rattle.buckets.specs.Terms.{Fitting, highest, bucketOf, firstAt, nextAt, placeAt, Term, Chain, Prepared}
 use Rattle.pricing.specs.Pricing.{entryIn, Reads, Asks, Gives}
 use Rattle.pricing.specs.Costs.{zero-plus, plus-zero, entry-number, entry-known}
 use Rattle.pricing.specs.declared.Cost.the-variants.{Forbidden, Of}
 
--- Where the loop stands: the sum so far, and the tables that are left, whose terms begin at k.
+-- Where the loop stands: the sum so far, and the tables of the bucket that are left, whose terms begin at k.
 pub record Left (r : Region) (store terms : List ℕ) (s : ℕ) (beds : Plan) (sum : Option ℕ) (k : ℕ) : Type 0 where
   pub low : ℕ
   pub tables : List Table
   pub chain : Chain r store terms low k tables
+  pub own : (t : Table) → t ∈ tables → highest s t ≡ true
   pub cost : plus sum (costOver tables r beds) ≡ costOver (bucketOf r s) r beds
 
 pub left-start : (r : Region) (store terms : List ℕ) (s : ℕ) (beds : Plan) {k : ℕ} → Chain r store terms 0 k (bucketOf r s) → Left r store terms s beds (some 0) k
-left-start r store terms s beds chain = record { low = 0; tables = bucketOf r s; chain = chain; cost = zero-plus (costOver (bucketOf r s) r beds) }
+unfolding bucketOf decidedTables
+left-start r store terms s beds chain = record {
+  low = 0;
+  tables = bucketOf r s;
+  chain = chain;
+  own = λ t among. keep-out (highest s) (constraints r) among .1;
+  cost = zero-plus (costOver (bucketOf r s) r beds);
+}
 
 -- A chain goes no further than 64.
 pub chain-most : (r : Region) (store terms : List ℕ) (low k : ℕ) (tables : List Table) → Chain r store terms low k tables → k ≤ 64
@@ -54,45 +66,61 @@ module _ {r : Region} {store terms : List ℕ} {s : ℕ} {beds : Plan} {sum : Op
     others : List Table
     term : Term r store terms k table
     rest : Chain r store terms (suc k) (nextAt terms k) others
+    own : highest s table ≡ true
+    ownOthers : (t : Table) → t ∈ others → highest s t ≡ true
     cost : plus sum (plus (entryFor r beds table) (costOver others r beds)) ≡ costOver (bucketOf r s) r beds
 
-  here : (h : Left r store terms s beds sum k) → k < 64 → Here h
+  term-here : (h : Left r store terms s beds sum k) → k < 64 → Here h
   unfolding Chain
-  here h more = go (h .tables) (h .chain) (h .cost)
+  term-here h more = go (h .tables) (h .chain) (h .own) (h .cost)
     where
-      go : (tables : List Table) → Chain r store terms (h .low) k tables → plus sum (costOver tables r beds) ≡ costOver (bucketOf r s) r beds → Here h
-      go [] chain e = absurd (omega arith)
-      go (t ∷ tables) chain e = record { table = t; others = tables; term = chain .2; rest = chain .3; cost = ap (plus sum) (sym (cost-cons r beds t tables)) ∙ e }
+      go : (tables : List Table) → Chain r store terms (h .low) k tables → ((t : Table) → t ∈ tables → highest s t ≡ true)
+          → plus sum (costOver tables r beds) ≡ costOver (bucketOf r s) r beds → Here h
+      go [] chain own e = absurd (omega arith)
+      go (t ∷ tables) chain own e = record {
+        table = t;
+        others = tables;
+        term = chain .2;
+        rest = chain .3;
+        own = own t (here refl);
+        ownOthers = λ q among. own q (there among);
+        cost = ap (plus sum) (sym (cost-cons r beds t tables)) ∙ e;
+      }
 
   module _ (h : Left r store terms s beds sum k) (more : k < 64) where
     pub left-reads : Reads terms k
-    left-reads = let t = here h more .term in record { few = more; known = t .known; near = t .near; starts = t .starts }
+    left-reads = let t = term-here h more .term in record { few = more; known = t .known; near = t .near; starts = t .starts }
 
     -- The next term is further on.
     pub left-later : k < nextAt terms k
-    left-later = let g = here h more in chain-from r store terms (suc k) (nextAt terms k) (g .others) (omega arith) (g .rest)
+    left-later = let g = term-here h more in chain-from r store terms (suc k) (nextAt terms k) (g .others) (omega arith) (g .rest)
 
     pub left-next-most : nextAt terms k ≤ 64
-    left-next-most = let g = here h more in chain-most r store terms (suc k) (nextAt terms k) (g .others) (g .rest)
+    left-next-most = let g = term-here h more in chain-most r store terms (suc k) (nextAt terms k) (g .others) (g .rest)
+
+    -- The places for the patient's beds lie side by side.
+    pub left-beside : (plan : Plan) (bed : ℕ) → s < length plan → placeAt terms k (set plan s bed) + bedOf plan s ≡ placeAt terms k plan + bed
+    left-beside plan bed inside = let g = term-here h more in g .term .beside s bed plan (g .own) inside
 
     module _ (fits : Fitting r beds) where
       pub left-inside : placeAt terms k beds < 4096
-      left-inside = here h more .term .inside beds fits
+      left-inside = term-here h more .term .inside beds fits
 
       -- What the store has at the term's place is the table's entry.
-      entry : entryIn (getD store (placeAt terms k beds) 0) ≡ entryFor r beds (here h more .table)
-      entry = ap entryIn (here h more .term .finds beds fits) ∙ entry-known (entryFor r beds (here h more .table)) (here h more .term .small beds)
+      entry : entryIn (getD store (placeAt terms k beds) 0) ≡ entryFor r beds (term-here h more .table)
+      entry = ap entryIn (term-here h more .term .finds beds fits) ∙ entry-known (entryFor r beds (term-here h more .table)) (term-here h more .term .small beds)
 
       pub left-small : (e : ℕ) → entryIn (getD store (placeAt terms k beds) 0) ≡ some e → e ≤ 1_000_000
-      left-small e is = here h more .term .small beds e (sym entry ∙ is)
+      left-small e is = term-here h more .term .small beds e (sym entry ∙ is)
 
       pub left-next : Left r store terms s beds (plus sum (entryIn (getD store (placeAt terms k beds) 0))) (nextAt terms k)
       left-next =
-          let g = here h more in
+          let g = term-here h more in
           record {
             low = suc k;
             tables = g .others;
             chain = g .rest;
+            own = g .ownOthers;
             cost = sym (plus-assoc sum _ (costOver (g .others) r beds)) ∙ ap (λ o. plus sum (plus o (costOver (g .others) r beds))) entry ∙ g .cost;
           }
 

@@ -2,5 +2,5 @@ pub mod Sums
 pub mod Chains
 pub mod Totals
 pub mod Placed
-pub mod Along
+pub mod Adding
 pub mod BedSums

@@ -1,41 +1,29 @@
 -- What the costs of a patient's beds ask for and give.
 use Prim.Native.Nat.{_≤_}
 use lib.ListN.{set}
-use Rattle.definitions.specs.Basics.{ℕ, _+_, _*_, _<_, _≡_, Option, some, List, length, getD, replicate}
+use Rattle.definitions.specs.Basics.{ℕ, _+_, _<_, _≡_, some, List, length, getD, replicate}
 use Rattle.definitions.specs.Syntax.{Region, patientAt}
-use Rattle.definitions.specs.Plans.{costOver}
+use Rattle.definitions.specs.Plans.{bedOf, costOver}
 use Rattle.theorems.specs.Sums.{plus}
-use Rattle.buckets.specs.Terms.{Fitting, bucketOf, bedsAt, placeAt, Prepared}
-use Rattle.pricing.specs.Pricing.{sumIn, entryIn, Reads}
-use Rattle.pricing.specs.declared.beds.BedPlaces.{BedPlaces}
+use Rattle.buckets.specs.Terms.{Fitting, bucketOf, bedsAt, Prepared}
+use Rattle.pricing.specs.Pricing.{sumIn, entryIn}
 
 -- A sum that is a number is no larger than 64 entries are.
 abbrev pub Small : ℕ → Type 0
 Small word = (n : ℕ) → sumIn word ≡ some n → n ≤ 64_000_000
 
--- Where the entries for a patient's beds lie.
-pub record AsksPlaces (terms : List ℕ) (k s : ℕ) (beds : List ℕ) : Type 0 where
-  pub reads : Reads terms k
-  pub few : s < 32
-  pub long : length beds ≡ 32
-
-pub record GivesPlaces (terms : List ℕ) (k s : ℕ) (beds : List ℕ) (p : BedPlaces) : Type 0 where
-  pub place : (bed : ℕ) → p .first + bed * p .step ≡ placeAt terms k (set beds s bed)
-  pub near : p .step ≤ 16_384
-
--- One more entry for each bed.
-pub record AsksEntries (store : List ℕ) (from step count : ℕ) (sums : List ℕ) : Type 0 where
+-- One more entry for each bed, from a place on.
+pub record AsksEntries (store : List ℕ) (from count : ℕ) (sums : List ℕ) : Type 0 where
   pub few : count ≤ 16
-  pub near : step ≤ 16_384
-  pub inside : (bed : ℕ) → bed < count → from + bed * step < 4096
+  pub inside : (bed : ℕ) → bed < count → from + bed < 4096
   pub long : length sums ≡ 16
   pub small : (bed : ℕ) → bed < count → Small (getD sums bed 0)
 
-pub record GivesEntries (store : List ℕ) (from step count : ℕ) (sums after : List ℕ) : Type 0 where
+pub record GivesEntries (store : List ℕ) (from count : ℕ) (sums after : List ℕ) : Type 0 where
   pub long : length after ≡ 16
-  pub each : (bed : ℕ) → bed < count → sumIn (getD after bed 0) ≡ plus (sumIn (getD sums bed 0)) (entryIn (getD store (from + bed * step) 0))
+  pub each : (bed : ℕ) → bed < count → sumIn (getD after bed 0) ≡ plus (sumIn (getD sums bed 0)) (entryIn (getD store (from + bed) 0))
 
--- The costs of all beds of a patient.
+-- The costs of all beds of a patient that has none yet.
 pub record Asks (store patients terms : List ℕ) (s count : ℕ) (beds sums : List ℕ) : Type 0 where
   pub region : Region
   pub prepared : Prepared region store patients terms
@@ -44,6 +32,7 @@ pub record Asks (store patients terms : List ℕ) (s count : ℕ) (beds sums : L
   pub few : s < 32
   pub counts : count ≡ bedsAt patients s
   pub long : length beds ≡ 32
+  pub free : bedOf beds s ≡ 0
   pub zeros : sums ≡ replicate 16 0
 
 pub record Gives (store patients terms : List ℕ) (s count : ℕ) (beds sums : List ℕ) : Type 0 where

@@ -7,7 +7,7 @@ use native.Mathlib.Decide.{decLt}
 use native.Mathlib.Nat.{le-trans, mul-le-mul-right}
 use native.Mathlib.Omega.{arith}
 use lib.Seq.{getD-take}
-use lib.ListN.{getD-replicate, length-replicate, List·getD-eq-default}
+use lib.ListN.{List·getD-eq-default}
 use Rattle.definitions.specs.Basics.{ℕ, zero, suc, _+_, _*_, _<_, Bool, true, false, _||_, Option, none, some, List, [], _∷_, _++_, map, length, getD, take, replicate, sum, every, keep, eqb, contains, noneOr}
 use Rattle.definitions.specs.Limits.{limits, within, entry}
 use Rattle.definitions.specs.Syntax.{Table, Region, patientAt}
@@ -28,7 +28,7 @@ use Rattle.patient_set.specs.Laws.{size-most}
 use Rattle.partial_rows.specs.Sets.{Patients, Splits, not-both}
 use Rattle.partial_rows.specs.Rows.{holds, tablesOf, noBeds, emptyRow, RowOf, Position, Branch}
 use Rattle.partial_rows.specs.Adding.{addBeds, addRows}
-use Rattle.partial_rows.specs.Padding.{cut, Padded, padded-zero}
+use Rattle.partial_rows.specs.Padding.{cut, Padded, padded-zero, zero-bed}
 use Rattle.partial_rows.specs.Beds.{no-bed, inside, outside}
 use Rattle.partial_rows.specs.Contexts.{row-context}
 use Rattle.partial_rows.specs.Parts.{parts-injective, parts-combined}
@@ -44,18 +44,14 @@ use Rattle.row_sums.specs.Sums as Sums
 use Rattle.row_sums.specs.Sums.{part, wholeAt, listAt}
 use Rattle.row_sums.specs.Areas.{replaced, replaced-long, part-long, part-new, part-before}
 use Rattle.search.specs.Lowest.{Upward}
-use Rattle.search.specs.Walks.{remaining, leftIn, headRow, Light, Heads, BranchOf, AllPadded, Asks, Gives}
+use Rattle.search.specs.Walks.{Branching, remaining, leftIn, headRow, Light, Heads, BranchOf, AllPadded, Asks, Gives}
 use Rattle.search.specs.Trees.{LeastSummed, AsksStart, GivesStart, Treed, AsksTree, GivesTree}
-use Rattle.search.specs.declared.walk.Head.{Head}
 use Rattle.search.proofs.Padded.{cut-keeps, row-padded, row-cut, sum-padded, injective-back, first-cut}
 
 pub take-zeros : (v n : ℕ) → v ≤ n → take {A = ℕ} v (replicate n 0) ≡ replicate v 0
 take-zeros zero n h = refl
 take-zeros (suc v) zero h = absurd (omega arith)
 take-zeros (suc v) (suc n) h = ap (λ l. 0 ∷ l) (take-zeros v n (omega arith))
-
-zero-bed : (n s : ℕ) → bedOf (replicate n 0) s ≡ 0
-zero-bed n s = elim (decLt s n) [ yes h ↦ getD-replicate n s 0 0 h | no h ↦ List·getD-eq-default (replicate n 0) 0 (omega (arith, length-replicate {A = ℕ} n 0)) ]
 
 -- ---- the list of nobody
 
@@ -86,14 +82,14 @@ started v work new x asks packed stored = record {
 -- ---- the head of a walk over a whole set
 
 -- Nobody of the set is placed.
-pub record Fresh (set : ℕ) (patients : List ℕ) (head : Head) : Type 0 where
+pub record Fresh (set : ℕ) (patients : List ℕ) (head : Branching) : Type 0 where
   pub left : head .left .0 ≡ set
   pub beds : head .plan .beds ≡ replicate 32 0
   pub len : head .plan .len ≡ 0
   pub cost : head .cost ≡ 0
   pub bound : LeastSummed patients (members set) (head .bound)
 
-pub light-start : {set : ℕ} {patients : List ℕ} {head : Head} → Fresh set patients head → Light head
+pub light-start : {set : ℕ} {patients : List ℕ} {head : Branching} → Fresh set patients head → Light head
 light-start {set} {head} fresh =
     record {
       beds = ap length (fresh .beds);
@@ -113,7 +109,7 @@ module _ {r : Region} {D E : Patients} {store patients terms : List ℕ} {v m n 
       ap₂ _+_ (treed .prepared .least s (known s (ap (λ b. b || contains l s) (eq-eqb s s refl))))
       (least-same l (λ q e. known q (ap (λ b. eqb q s || b) e ∙ or-true (eqb q s))))
 
-  module _ {head : Head} (fresh : Fresh set patients head) where
+  module _ {head : Branching} (fresh : Fresh set patients head) where
     fresh-row : headRow v head ≡ emptyRow r
     fresh-row =
         let beds : take v (head .plan .beds) ≡ noBeds r = ap (take v) (fresh .beds) ∙ take-zeros v 32 few ∙ ap (λ k. replicate k 0) (treed .counted) in
@@ -185,7 +181,7 @@ sum-fits r answered {D} {E} {F} split placed v x y p q one two = record {
 
 -- ---- one more tree
 
-module _ {store patients terms : List ℕ} {v m n : ℕ} {work : List ℕ} {set : ℕ} (asks : AsksTree store patients terms v m n work set) {head : Head} (fresh : Fresh set patients head) where
+module _ {store patients terms : List ℕ} {v m n : ℕ} {work : List ℕ} {set : ℕ} (asks : AsksTree store patients terms v m n work set) {head : Branching} (fresh : Fresh set patients head) where
   pub asks-walk : Asks store patients terms v 0 m (part 1 work) head
   asks-walk =
       record {

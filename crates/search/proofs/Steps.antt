@@ -3,7 +3,7 @@ use mathlib.Core.Path.{_≡_, refl, sym, ap, _∙_, subst⁻¹}
 use Prim.Native.Nat.{_≤_}
 use native.Mathlib.Omega.{arith}
 use lib.ListN.{set, length-set}
-use lib.Seq.{take-set-lt}
+use lib.Seq.{set-set, take-set-lt}
 use borrow.Author.Tests.{eq-eqb}
 use Rattle.definitions.specs.Basics.{ℕ, _+_, _<_, Bool, true, false, not, _&&_, _||_, Option, List, _∷_, map, length, getD, take, sum, eqb, isEmpty, contains, ltb, everyTwo, replicate}
 use Rattle.definitions.specs.Syntax.{Region, patientAt}
@@ -19,12 +19,10 @@ use Rattle.pricing.specs.BedCosts as Price
 use Rattle.pricing.specs.Pricing.{sumIn}
 use Rattle.pricing.specs.Costs.{fitting-set}
 use Rattle.search.specs.Lowest.{Upward, list-split, list-lowest, bucket-decided, upward-rest, bound-members}
-use Rattle.search.specs.Walks.{remaining, leftIn, headRow, Light, Heads, AsksNext, Below, Decides, GivesRest}
-use Rattle.search.specs.declared.walk.Head.{Head}
+use Rattle.search.specs.Walks.{Branching, remaining, leftIn, headRow, Light, Heads, AsksNext, Below, Decides, GivesRest}
 use Rattle.search.specs.declared.walk.Rest.{Rest}
-use Rattle.pricing.specs.declared.Plan.{Plan as CodePlan}
 
-module _ {r : Region} {store patients terms : List ℕ} {v : ℕ} {head : Head} (heads : Heads r store patients terms v head) {s : ℕ} {others : List ℕ} (lowest : remaining head ≡ s ∷ others) where
+module _ {r : Region} {store patients terms : List ℕ} {v : ℕ} {head : Branching} (heads : Heads r store patients terms v head) {s : ℕ} {others : List ℕ} (lowest : remaining head ≡ s ∷ others) where
   here : leftIn head s ≡ true
   here = ap (λ l. contains l s) lowest ∙ ap (λ b. b || contains others s) (eq-eqb s s refl)
 
@@ -58,16 +56,16 @@ module _ {r : Region} {store patients terms : List ℕ} {v : ℕ} {head : Head} 
   -- What the costs of the patient's beds ask for.
   pub asks-beds : Light head → {count : ℕ} → count ≡ bedsAt patients s → Price.Asks store patients terms s count (head .plan .beds) (replicate 16 0)
   asks-beds light counts =
-      record { region = r; prepared = heads .prepared; fits = heads .fits; known = known; few = few; counts = counts; long = light .beds; zeros = refl }
+      record { region = r; prepared = heads .prepared; fits = heads .fits; known = known; few = few; counts = counts; long = light .beds; free = heads .position .free s here; zeros = refl }
 
 -- Four bits hold each bed that fits.
-pub low-beds : {r : Region} {store patients terms : List ℕ} {v : ℕ} {head : Head} → Heads r store patients terms v head → (beds : List ℕ) → Fitting r beds → (q : ℕ) → q < v → bedOf beds q < 16
+pub low-beds : {r : Region} {store patients terms : List ℕ} {v : ℕ} {head : Branching} → Heads r store patients terms v head → (beds : List ℕ) → Fitting r beds → (q : ℕ) → q < v → bedOf beds q < 16
 low-beds {r} heads beds fits q h =
     let is : q < length (r .patients) = omega (arith, heads .counted) in
     omega (arith, fits q is, beds-few r (heads .prepared .answered) q is)
 
 -- What is asked for on the way to the head below a bed.
-module _ {store patients terms : List ℕ} {head : Head} {s bed : ℕ} (asks : AsksNext store patients terms head s bed) where
+module _ {store patients terms : List ℕ} {head : Branching} {s bed : ℕ} (asks : AsksNext store patients terms head s bed) where
   pub asks-few : s < 32
   asks-few = few (asks .heads) (asks .lowest)
 
@@ -88,7 +86,7 @@ pub rest-left : (w s one rest : ℕ) (others : List ℕ) → members w ≡ s ∷
 rest-left w s one rest others e is minus = lowest-and-rest w s one rest (ap isEmpty e) (sym (ap (first 32) e)) is minus
 
 -- The head below a bed.
-module _ {patients : List ℕ} {head below : Head} {s bed c : ℕ} (is : Below patients head s bed c below) where
+module _ {patients : List ℕ} {head below : Branching} {s bed c : ℕ} (is : Below patients head s bed c below) where
   pub light-below : Light head → Light below
   light-below light =
       record {
@@ -123,18 +121,21 @@ module _ {patients : List ℕ} {head below : Head} {s bed c : ℕ} (is : Below p
         }
 
 -- The bound of a head is a lower bound of what the rest costs.
-pub bound-holds : {r : Region} {store patients terms : List ℕ} {v : ℕ} {head : Head} → Heads r store patients terms v head
+pub bound-holds : {r : Region} {store patients terms : List ℕ} {v : ℕ} {head : Branching} → Heads r store patients terms v head
     → LowerBound r (leftIn head) (head .plan .beds) (head .bound)
 bound-holds {r} {head} heads =
     rw (heads .bound) (bound-members r (remaining head) (leftIn head) (λ q. refl) (rising (head .left .0)) (heads .upward) (head .plan .beds))
 
--- The head below a bed, put together.
-pub below-head : {patients : List ℕ} {head : Head} {s bed c : ℕ} {rest : Rest} {plan : CodePlan} (others : List ℕ) → remaining head ≡ s ∷ others
-    → GivesRest patients head s rest → plan .beds ≡ set (head .plan .beds) s bed → plan .len ≡ head .plan .len + 1 → c ≤ 64_000_000
-    → Below patients head s bed c (record { left = rest .left; plan = plan; cost = head .cost + c; bound = rest .bound })
-below-head others lowest rest beds len most = record { left = rest .left others lowest; beds = beds; len = len; cost = refl; most = most; bound = rest .bound }
+-- The head below a bed, put together: its beds are a copy of those so far, whatever bed the copy had for the patient before.
+pub below-head : {patients : List ℕ} (head : Branching) {s : ℕ} (bed : ℕ) {c : ℕ} {rest : Rest} (next others : List ℕ) → remaining head ≡ s ∷ others
+    → GivesRest patients (remaining head) (head .bound) s rest → set next s bed ≡ set (head .plan .beds) s bed → c ≤ 64_000_000
+    → Below patients head s bed c (record { left = rest .left; plan = record { beds = set next s bed; len = head .plan .len + 1 }; cost = head .cost + c; bound = rest .bound })
+below-head head bed next others lowest rest beds most = record { left = rest .left others lowest; beds = beds; len = refl; cost = refl; most = most; bound = rest .bound }
+
+pub same-beds : (next beds : List ℕ) (s bed : ℕ) → ((b : ℕ) → set next s b ≡ set beds s b) → (b : ℕ) → set (set next s bed) s b ≡ set beds s b
+same-beds next beds s bed same b = set-set next s bed b ∙ same b
 
 -- The same of the plan that the bed would make.
-pub below-bed : {patients : List ℕ} {head : Head} {s bed c : ℕ} {rest : Rest} (others : List ℕ) → remaining head ≡ s ∷ others → GivesRest patients head s rest → c ≤ 64_000_000
+pub below-bed : {patients : List ℕ} {head : Branching} {s bed c : ℕ} {rest : Rest} (others : List ℕ) → remaining head ≡ s ∷ others → GivesRest patients (remaining head) (head .bound) s rest → c ≤ 64_000_000
     → Below patients head s bed c (record { left = rest .left; plan = record { beds = set (head .plan .beds) s bed; len = head .plan .len + 1 }; cost = head .cost + c; bound = rest .bound })
-below-bed others lowest rest most = below-head others lowest rest refl refl most
+below-bed {head} {bed} others lowest rest most = below-head head bed (head .plan .beds) others lowest rest refl most

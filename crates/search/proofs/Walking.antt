@@ -26,8 +26,7 @@ use Rattle.packed_rows.specs.Packed.{rowOf, isBefore}
 use Rattle.packed_rows.specs.Packing.{packedRow}
 use Rattle.row_list.specs.Rows.{rowIn, rowsIn, Room, Inserted}
 use Rattle.row_list.specs.Laws.{cut-long, cut-at}
-use Rattle.search.specs.Walks.{remaining, leftIn, headRow, Light, Heads, BranchOf, AsksNext, Below, Decides, AllPadded, isPast, AsksCut, Asks, Gives}
-use Rattle.search.specs.declared.walk.Head.{Head}
+use Rattle.search.specs.Walks.{Branching, remaining, leftIn, headRow, Light, Heads, BranchOf, AsksNext, Below, Decides, AllPadded, isPast, AsksCut, Asks, Gives}
 use Rattle.search.proofs.Steps.{known, low-beds, split, decided, fits-next, asks-few, asks-room, below-split, row-below, light-below, heads-below, bound-holds}
 use Rattle.search.proofs.Padded.{row-padded, row-cut, inserted-cut, inserted-padded}
 
@@ -41,7 +40,7 @@ not-before v w e h = go (rowOrder .view v w) e
     go (after k) f = rowOrder .irrefl {x = v} (rowOrder .trans {x = v} {y = w} {z = v} h k)
 
 -- Where the loop stands: the list has grown by the rows whose bed for s is below the next one.
-pub record Sofar (store patients terms : List ℕ) (v n m : ℕ) (area : List ℕ) (head : Head) (s count : ℕ) (now : List ℕ) (found bed : ℕ) : Type 0 where
+pub record Sofar (store patients terms : List ℕ) (v n m : ℕ) (area : List ℕ) (head : Branching) (s count : ℕ) (now : List ℕ) (found bed : ℕ) : Type 0 where
   pub others : List ℕ
   pub lowest : remaining head ≡ s ∷ others
   pub counts : count ≡ bedsAt patients s
@@ -52,7 +51,7 @@ pub record Sofar (store patients terms : List ℕ) (v n m : ℕ) (area : List �
   pub grown : (r : Region) → Heads r store patients terms v head → Ready rowOrder m (rowsIn v n area) (BranchOf r v head)
       → Grown rowOrder m (rowsIn v n area) (BranchBelow r (leftIn head) (head .plan .beds) (headRow v head) s bed) (rowsIn v found now)
 
-module _ {store patients terms : List ℕ} {v n m : ℕ} {area : List ℕ} {head : Head} where
+module _ {store patients terms : List ℕ} {v n m : ℕ} {area : List ℕ} {head : Branching} where
   -- Nobody is left: the row of the head is inserted.
   pub walk-end : Asks store patients terms v n m area head → {found : ℕ} {now : List ℕ} (x : Code.Row) → isEmpty (remaining head) ≡ true
       → rowOf x ≡ packedRow v (head .cost) (head .plan .beds) → Inserted n m x area now found → Gives store patients terms v n m area head now found
@@ -134,15 +133,15 @@ module _ {store patients terms : List ℕ} {v n m : ℕ} {area : List ℕ} {head
             fits = fits (asks .region) (asks .heads);
           }
 
-      pub asks-cut : AsksCut v found m now (head .plan) s bed
+      pub asks-cut : AsksCut v found m now (head .plan .beds) (head .plan .len) s bed
       asks-cut =
           record {
             patients = asks .heads .few;
             room = room-now;
             padded = sofar .padded;
             few = asks-few asks-next;
-            placed = asks-room asks-next;
-            beds = asks .light .beds;
+            notAll = asks-room asks-next;
+            long = asks .light .beds;
             low = low-beds (asks .heads) (set (head .plan .beds) s bed) (fits-next (asks .heads) (sofar .lowest) (asks .light) bed (fits (asks .region) (asks .heads)));
           }
 
@@ -172,7 +171,7 @@ module _ {store patients terms : List ℕ} {v n m : ℕ} {area : List ℕ} {head
           (ap (λ l. costOver l r (set (head .plan .beds) s bed)) (decided heads (sofar .lowest)) ∙ decides r v heads (fits r heads)) (sofar .grown r heads ready))
 
       -- A bed with a head below it.
-      module _ {c : ℕ} {below : Head} (is : Below patients head s bed c below) (decides : Decides store patients terms head s bed (some c)) where
+      module _ {c : ℕ} {below : Branching} (is : Below patients head s bed c below) (decides : Decides store patients terms head s bed (some c)) where
         pub asks-below : Asks store patients terms v found m now below
         asks-below =
             record {

@@ -7,6 +7,7 @@ use Rattle.definitions.specs.Plans.{Row, bedOf, costOver, compareRows}
 use Rattle.ranking.specs.Members.{_∈_}
 use Rattle.ranking.specs.Growing.{Grown, Ready}
 use Rattle.theorems.specs.List.{rowOrder}
+use Rattle.patient_set.specs.declared.PatientSet.{PatientSet}
 use Rattle.patient_set.specs.Sets.{members}
 use Rattle.partial_rows.specs.Rows.{Branch, Position}
 use Rattle.buckets.specs.Terms.{Fitting, bucketOf, leastIn, leastAt, Prepared}
@@ -18,25 +19,35 @@ use Rattle.search.specs.Lowest.{Upward}
 use Rattle.search.specs.declared.walk.Head.{Head}
 use Rattle.search.specs.declared.walk.Rest.{Rest}
 
+-- A branch: who is left, the plan so far, its cost, and a lower bound of what the rest costs. The head of one, with its beds.
+pub record Branching : Type 0 where
+  pub left : PatientSet
+  pub plan : Code.Plan
+  pub cost : ℕ
+  pub bound : ℕ
+
+abbrev pub branchAt : Head → List ℕ → Branching
+branchAt head beds = record { left = head .left; plan = record { beds = beds; len = head .placed }; cost = head .cost; bound = head .bound }
+
 -- The patients that are left; is a patient left? The row of the beds and the cost so far.
-abbrev pub remaining : Head → List ℕ
+abbrev pub remaining : Branching → List ℕ
 remaining head = members (head .left .0)
 
-abbrev pub leftIn : Head → ℕ → Bool
+abbrev pub leftIn : Branching → ℕ → Bool
 leftIn head = contains (remaining head)
 
-abbrev pub headRow : ℕ → Head → Row
+abbrev pub headRow : ℕ → Branching → Row
 headRow v head = record { cost = head .cost; beds = take v (head .plan .beds) }
 
 -- A head whose sums fit: the cost grows with the patients placed.
-pub record Light (head : Head) : Type 0 where
+pub record Light (head : Branching) : Type 0 where
   pub beds : length (head .plan .beds) ≡ 32
   pub placed : head .plan .len + length (remaining head) ≤ 32
   pub cost : head .cost ≤ head .plan .len * 64_000_000
   pub bound : head .bound ≤ 137_438_953_472
 
 -- A head of a branch in a region: its bound is the sum of the least numbers of the buckets of those who are left.
-pub record Heads (r : Region) (store patients terms : List ℕ) (v : ℕ) (head : Head) : Type 0 where
+pub record Heads (r : Region) (store patients terms : List ℕ) (v : ℕ) (head : Branching) : Type 0 where
   pub prepared : Prepared r store patients terms
   pub counted : v ≡ length (r .patients)
   pub few : v ≤ 32
@@ -46,12 +57,12 @@ pub record Heads (r : Region) (store patients terms : List ℕ) (v : ℕ) (head 
   pub bound : head .bound ≡ sum (map (leastIn r) (remaining head))
 
 -- The rows of the branch below a head.
-abbrev pub BranchOf : Region → ℕ → Head → Row → Type 0
+abbrev pub BranchOf : Region → ℕ → Branching → Row → Type 0
 BranchOf r v head = Branch r (leftIn head) (head .plan .beds) (headRow v head)
 
 -- ---- one more bed
 
-pub record AsksNext (store patients terms : List ℕ) (head : Head) (s bed : ℕ) : Type 0 where
+pub record AsksNext (store patients terms : List ℕ) (head : Branching) (s bed : ℕ) : Type 0 where
   pub region : Region
   pub v : ℕ
   pub heads : Heads region store patients terms v head
@@ -61,7 +72,7 @@ pub record AsksNext (store patients terms : List ℕ) (head : Head) (s bed : ℕ
   pub fits : bed < patientAt region s .bedCount
 
 -- The head below a bed that costs c.
-pub record Below (patients : List ℕ) (head : Head) (s bed c : ℕ) (below : Head) : Type 0 where
+pub record Below (patients : List ℕ) (head : Branching) (s bed c : ℕ) (below : Branching) : Type 0 where
   pub left : remaining head ≡ s ∷ remaining below
   pub beds : below .plan .beds ≡ set (head .plan .beds) s bed
   pub len : below .plan .len ≡ head .plan .len + 1
@@ -70,18 +81,18 @@ pub record Below (patients : List ℕ) (head : Head) (s bed c : ℕ) (below : He
   pub bound : below .bound ≡ head .bound - leastAt patients s
 
 -- What the bed decides costs so much, or is forbidden, in every region that the head is one of.
-abbrev pub Decides : List ℕ → List ℕ → List ℕ → Head → ℕ → ℕ → Option ℕ → Type 0
+abbrev pub Decides : List ℕ → List ℕ → List ℕ → Branching → ℕ → ℕ → Option ℕ → Type 0
 Decides store patients terms head s bed cost =
     (r : Region) (v : ℕ) → Heads r store patients terms v head → bed < patientAt r s .bedCount → costOver (bucketOf r s) r (set (head .plan .beds) s bed) ≡ cost
 
 -- What is left without the lowest patient.
-pub record AsksRest (patients : List ℕ) (head : Head) (s : ℕ) : Type 0 where
+pub record AsksRest (patients : List ℕ) (bound s : ℕ) : Type 0 where
   pub few : s < 32
-  pub least : leastAt patients s ≤ head .bound
+  pub least : leastAt patients s ≤ bound
 
-pub record GivesRest (patients : List ℕ) (head : Head) (s : ℕ) (rest : Rest) : Type 0 where
-  pub left : (others : List ℕ) → remaining head ≡ s ∷ others → remaining head ≡ s ∷ members (rest .left .0)
-  pub bound : rest .bound ≡ head .bound - leastAt patients s
+pub record GivesRest (patients before : List ℕ) (least s : ℕ) (rest : Rest) : Type 0 where
+  pub left : (others : List ℕ) → before ≡ s ∷ others → before ≡ s ∷ members (rest .left .0)
+  pub bound : rest .bound ≡ least - leastAt patients s
 
 -- The first n rows of a list have bed 0 from patient v on.
 abbrev pub AllPadded : ℕ → ℕ → List ℕ → Type 0
@@ -93,18 +104,18 @@ AllPadded v n area = (z : Row) → z ∈ wholeRows n area → Padded v z
 unfoldable pub isPast : ℕ → ℕ → ℕ → List ℕ → ℕ → List ℕ → Bool
 isPast v n m area cost beds = eqb n m && not (isBefore (compareRows (cut v (record { cost = cost; beds = beds })) (rowIn v area (m - 1))))
 
-pub record AsksCut (v n m : ℕ) (area : List ℕ) (plan : Code.Plan) (s bed : ℕ) : Type 0 where
+pub record AsksCut (v n m : ℕ) (area beds : List ℕ) (placed s bed : ℕ) : Type 0 where
   pub patients : v ≤ 32
   pub room : Room n m area
   pub padded : AllPadded v n area
   pub few : s < 32
-  pub placed : plan .len < 32
-  pub beds : length (plan .beds) ≡ 32
-  pub low : (q : ℕ) → q < v → bedOf (set (plan .beds) s bed) q < 16
+  pub notAll : placed < 32
+  pub long : length beds ≡ 32
+  pub low : (q : ℕ) → q < v → bedOf (set beds s bed) q < 16
 
 -- ---- the walk
 
-pub record Asks (store patients terms : List ℕ) (v n m : ℕ) (area : List ℕ) (head : Head) : Type 0 where
+pub record Asks (store patients terms : List ℕ) (v n m : ℕ) (area : List ℕ) (head : Branching) : Type 0 where
   pub region : Region
   pub heads : Heads region store patients terms v head
   pub light : Light head
@@ -112,7 +123,7 @@ pub record Asks (store patients terms : List ℕ) (v n m : ℕ) (area : List ℕ
   pub padded : AllPadded v n area
 
 -- The list grows by the rows of the branch.
-pub record Gives (store patients terms : List ℕ) (v n m : ℕ) (area : List ℕ) (head : Head) (after : List ℕ) (found : ℕ) : Type 0 where
+pub record Gives (store patients terms : List ℕ) (v n m : ℕ) (area : List ℕ) (head : Branching) (after : List ℕ) (found : ℕ) : Type 0 where
   pub count : found ≤ m
   pub long : length after ≡ length area
   pub padded : AllPadded v found after

@@ -56,9 +56,10 @@ fn add_tree(
     requires { ⌜ AsksTree (now entries) (now patients) (now terms) v m n (now work) (set .0) ⌝ }
     ensures { λ k. ⌜ GivesTree (now (entries .entry)) (now (patients .entry)) (now (terms .entry)) v m n (now (work .entry)) (set .0) (now (work .exit)) k ⌝ }
 {
+    let plan = Plan::new();
     let head = Head {
         left: set,
-        plan: Plan::new(),
+        placed: plan.len,
         cost: 0,
         bound: least_sum(patients, set),
     };
@@ -67,6 +68,7 @@ fn add_tree(
         patients,
         terms,
         entries,
+        &plan.beds,
         v,
         0,
         m,

@@ -12,12 +12,13 @@ use row_list::insert;
 use row_list::is_past;
 ghost use mathlib.Core.Path.{_≡_};
 ghost use lib.ListN.{set};
-ghost use Rattle.search.specs.Walks.{AsksRest, GivesRest, isPast, AsksCut, Asks, Gives};
+ghost use Rattle.patient_set.specs.Sets.{members};
+ghost use Rattle.search.specs.Walks.{branchAt, AsksRest, GivesRest, isPast, AsksCut, Asks, Gives};
 
-// The head of a branch: who is left, the beds and the cost so far, and a lower bound of what the rest costs.
+// The head of a branch: who is left, how many are placed, the cost so far, and a lower bound of what the rest costs.
 pub struct Head {
     pub left: PatientSet,
-    pub plan: Plan,
+    pub placed: usize,
     pub cost: u64,
     pub bound: u64,
 }
@@ -29,30 +30,30 @@ pub struct Rest {
 }
 
 // The others, and the bound without the lowest patient's bucket.
-fn rest_of(patients: &[u32; 96], head: Head, s: usize) -> Rest
-    requires { ⌜ AsksRest (now patients) head s ⌝ }
-    ensures { λ rest. ⌜ GivesRest (now (patients .entry)) head s rest ⌝ }
+fn rest_of(patients: &[u32; 96], left: PatientSet, bound: u64, s: usize) -> Rest
+    requires { ⌜ AsksRest (now patients) bound s ⌝ }
+    ensures { λ rest. ⌜ GivesRest (now (patients .entry)) (members (left .0)) bound s rest ⌝ }
 {
-    let left = head.left;
     Rest {
         left: left.minus(PatientSet::one(s)),
-        bound: head.bound - least_cost(patients, s) as u64,
+        bound: bound - least_cost(patients, s) as u64,
     }
 }
 
-// Is the list full, and a row of this cost, with the plan's beds and one more, not before its last? Only at equal costs the beds are looked at.
+// Is the list full, and a row of this cost, with the beds so far and one more, not before its last? Only at equal costs the beds are looked at.
 fn is_cut(
     list: &[u32],
+    beds: &[u8; 32],
+    placed: usize,
     v: usize,
     n: usize,
     m: usize,
     cost: u64,
-    plan: Plan,
     s: usize,
     bed: u8,
 ) -> bool
-    requires { ⌜ AsksCut v n m (now list) plan s bed ⌝ }
-    ensures { λ r. ⌜ r ≡ isPast v n m (now (list .entry)) cost (set (plan .beds) s bed) ⌝ }
+    requires { ⌜ AsksCut v n m (now list) (now beds) placed s bed ⌝ }
+    ensures { λ r. ⌜ r ≡ isPast v n m (now (list .entry)) cost (set (now (beds .entry)) s bed) ⌝ }
 {
     if n < m {
         return false;
@@ -64,54 +65,60 @@ fn is_cut(
     if last < cost {
         return true;
     }
-    let placed = plan.place(s, bed);
-    let row = pack(cost, &placed.beds, v);
+    let before = Plan {
+        beds: *beds,
+        len: placed,
+    };
+    let plan = before.place(s, bed);
+    let row = pack(cost, &plan.beds, v);
     is_past(list, n, m, row)
 }
 
-// Adds the rows of the branch to the list: the m cheapest are kept.
+// Adds the rows of the branch to the list: the m cheapest are kept. The beds so far are lent, and copied once for all beds of the patient.
 pub fn walk(
     list: &mut [u32],
     patients: &[u32; 96],
     terms: &[u32; 640],
     entries: &[u32; 4096],
+    beds: &[u8; 32],
     v: usize,
     n: usize,
     m: usize,
     head: Head,
 ) -> usize
-    requires { ⌜ Asks (now entries) (now patients) (now terms) v n m (now list) head ⌝ }
-    ensures { λ found. ⌜ Gives (now (entries .entry)) (now (patients .entry)) (now (terms .entry)) v n m (now (list .entry)) head (now (list .exit)) found ⌝ }
+    requires { ⌜ Asks (now entries) (now patients) (now terms) v n m (now list) (branchAt head (now beds)) ⌝ }
+    ensures { λ found. ⌜ Gives (now (entries .entry)) (now (patients .entry)) (now (terms .entry)) v n m (now (list .entry)) (branchAt head (now (beds .entry))) (now (list .exit)) found ⌝ }
 {
     let left = head.left;
     if left.is_empty() {
-        let plan = head.plan;
-        let beds = plan.beds;
-        let row = pack(head.cost, &beds, v);
+        let row = pack(head.cost, beds, v);
         return insert(list, n, m, row);
     }
     let s = left.lowest() as usize;
     let count = bed_count(patients, s);
-    let rest = rest_of(patients, head, s);
+    let rest = rest_of(patients, left, head.bound, s);
     let others = rest.left;
     let bound = rest.bound;
-    let before = head.plan;
     let mut sums = [0u64; 16];
-    bed_costs(&mut sums, patients, terms, entries, s, count, &before.beds);
+    bed_costs(&mut sums, patients, terms, entries, s, count, beds);
+    let placed = head.placed;
+    let mut next = *beds;
     let mut found = n;
     let mut bed: usize = 0;
     while bed < count {
         let cost = bed_cost(&sums, bed);
         if let Cost::Of(n) = cost {
             let sum = head.cost + n;
-            if !is_cut(list, v, found, m, sum + bound, before, s, bed as u8) {
+            let least = sum + bound;
+            if !is_cut(list, beds, placed, v, found, m, least, s, bed as u8) {
+                next[s] = bed as u8;
                 let below = Head {
                     left: others,
-                    plan: before.place(s, bed as u8),
+                    placed: placed + 1,
                     cost: sum,
                     bound: bound,
                 };
-                found = walk(list, patients, terms, entries, v, found, m, below);
+                found = walk(list, patients, terms, entries, &next, v, found, m, below);
             }
         }
         bed += 1;

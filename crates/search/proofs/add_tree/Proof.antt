@@ -22,18 +22,18 @@ part-walk-end c = search needs
 
 walk-requires : tie.Need-walk-requires
 unfolding part
-walk-requires c κs = asks-walk (c .before .before .before .before .pre) (record { left = refl; beds = c .before .before .new .ensures .0; len = c .before .before .new .ensures .1; cost = refl; bound = c .before .least-sum .ensures })
+walk-requires c κs = asks-walk (c .before .before .before .before .before .before .pre) (record { left = refl; beds = c .before .before .before .before .new .ensures .0; len = c .before .before .before .before .new .ensures .1; cost = refl; bound = c .before .before .before .least-sum .ensures })
 
 combine-requires : tie.Need-combine-requires
 unfolding part
-combine-requires c κs = asks-combine (c .before .before .before .before .before .before .before .before .pre) (record { left = refl; beds = c .before .before .before .before .before .before .new .ensures .0; len = c .before .before .before .before .before .before .new .ensures .1; cost = refl; bound = c .before .before .before .before .before .least-sum .ensures }) (c .before .before .before .walk .ensures)
+combine-requires c κs = asks-combine (c .before .before .before .before .before .before .before .before .before .before .pre) (record { left = refl; beds = c .before .before .before .before .before .before .before .before .new .ensures .0; len = c .before .before .before .before .before .before .before .before .new .ensures .1; cost = refl; bound = c .before .before .before .before .before .before .before .least-sum .ensures }) (c .before .before .before .walk .ensures)
 
 same-length : tie.Need-same-length
 same-length c = search needs
 
 returns : tie.Need-returns
 unfolding part
-returns c = tree-added (c .before .before .before .before .before .before .before .before .before .before .before .pre) (record { left = refl; beds = c .before .before .before .before .before .before .before .before .before .new .ensures .0; len = c .before .before .before .before .before .before .before .before .before .new .ensures .1; cost = refl; bound = c .before .before .before .before .before .before .before .before .least-sum .ensures }) (c .before .before .before .before .before .before .walk .ensures) (c .before .before .combine .ensures)
+returns c = tree-added (c .before .before .before .before .before .before .before .before .before .before .before .before .before .pre) (record { left = refl; beds = c .before .before .before .before .before .before .before .before .before .before .before .new .ensures .0; len = c .before .before .before .before .before .before .before .before .before .before .before .new .ensures .1; cost = refl; bound = c .before .before .before .before .before .before .before .before .before .before .least-sum .ensures }) (c .before .before .before .before .before .before .walk .ensures) (c .before .before .combine .ensures)
 
 pub add-tree-spec : {M : Type 1} → statement M
 add-tree-spec =

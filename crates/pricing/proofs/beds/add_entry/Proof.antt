@@ -1,5 +1,5 @@
 use native.Mathlib.Omega.{arith}
-use Rattle.pricing.proofs.Along.{add-to-none, add-mark, small-number, add-number}
+use Rattle.pricing.proofs.Adding.{add-to-none, add-mark, small-number, add-number}
 use Rattle.pricing.proofs.beds.add_entry.Statement.{statement}
 use Rattle.pricing.proofs.beds.add_entry.Tie as tie
 

@@ -20,8 +20,8 @@ sub-t9 c = search needs
 returns : tie.Need-returns
 returns c =
     record {
-      left = λ others e. rest-left _ _ _ _ others e (c .before .before .before .one .ensures) (c .before .before .minus .ensures);
-      bound = ap (λ n. c .before .before .before .before .before .args .head .bound - n) (c .before .least-cost .ensures .0);
+      left = λ others e. rest-left _ _ _ _ others e (c .before .before .one .ensures) (c .before .minus .ensures);
+      bound = ap (λ n. c .before .before .before .args .bound - n) (c .least-cost .ensures .0);
     }
 
 pub rest-of-spec : {M : Type 1} → statement M

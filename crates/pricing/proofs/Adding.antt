@@ -1,0 +1,75 @@
+-- The loop that adds to the sum of each bed the entry for it. Assumes nothing.
+use mathlib.Core.Path.{_≡_, refl, sym, ap, ap₂, _∙_}
+use Prim.Native.Nat.{_≤_}
+use native.Mathlib.Omega.{arith}
+use lib.ListN.{set, length-set}
+use lib.Seq.{getD-set-same, getD-set-other}
+use borrow.Author.Tests.{eqb-true, eqb-false}
+use Rattle.definitions.specs.Basics.{ℕ, _+_, _<_, Bool, true, false, Option, none, some, List, length, getD, eqb}
+use Rattle.theorems.specs.Sums.{plus}
+use Rattle.held_region.specs.Held.{mark}
+use Rattle.pricing.specs.Pricing.{noSum, sumIn, entryIn}
+use Rattle.pricing.specs.Costs.{entry-number, sum-number}
+use Rattle.pricing.specs.BedCosts.{Small, AsksEntries, GivesEntries}
+
+-- ---- one more entry
+
+pub add-to-none : (sum entry : ℕ) → sum ≡ noSum → sumIn noSum ≡ plus (sumIn sum) (entryIn entry)
+add-to-none sum entry e = ap (λ w. plus (sumIn w) (entryIn entry)) (sym e)
+
+plus-none : (o : Option ℕ) → none ≡ plus o none
+plus-none none = refl
+plus-none (some n) = refl
+
+pub add-mark : (sum entry : ℕ) → entry ≡ mark → sumIn noSum ≡ plus (sumIn sum) (entryIn entry)
+add-mark sum entry e = plus-none (sumIn sum) ∙ ap (λ w. plus (sumIn sum) (entryIn w)) (sym e)
+
+pub small-number : (sum : ℕ) → Small sum → (sum ≡ noSum → ⊥) → sum ≤ 64_000_000
+small-number sum small other = small sum (sum-number sum other)
+
+pub add-number : (sum entry : ℕ) → Small sum → (sum ≡ noSum → ⊥) → (entry ≡ mark → ⊥) → entry < 4_294_967_296 → sumIn (sum + entry) ≡ plus (sumIn sum) (entryIn entry)
+add-number sum entry small number other fits =
+    let most = small-number sum small number in
+    sum-number (sum + entry) (λ e. omega (arith, most)) ∙ sym (rw (sum-number sum number, entry-number entry other) refl)
+
+-- ---- one more entry for each bed
+
+-- Where the loop stands: the beds below the next one have their entry, the others wait.
+pub record Added (store : List ℕ) (from count : ℕ) (sums now : List ℕ) (bed : ℕ) : Type 0 where
+  pub few : bed ≤ count
+  pub long : length now ≡ 16
+  pub done : (b : ℕ) → b < bed → sumIn (getD now b 0) ≡ plus (sumIn (getD sums b 0)) (entryIn (getD store (from + b) 0))
+  pub waiting : (b : ℕ) → bed ≤ b → getD now b 0 ≡ getD sums b 0
+
+module _ {store : List ℕ} {from count : ℕ} {sums : List ℕ} (asks : AsksEntries store from count sums) where
+  pub added-start : Added store from count sums sums 0
+  added-start = record { few = omega arith; long = asks .long; done = λ b h. absurd (omega arith); waiting = λ b h. refl }
+
+  module _ {now : List ℕ} {bed : ℕ} (added : Added store from count sums now bed) (more : bed < count) where
+    added-bed : bed < 16
+    added-bed = omega (arith, asks .few)
+
+    pub added-small : (word : ℕ) → word ≡ getD now bed 0 → Small word
+    added-small word is n e = asks .small bed more n (ap sumIn (sym (added .waiting bed (omega arith)) ∙ sym is) ∙ e)
+
+    pub added-next : (sum entry word : ℕ) → sum ≡ getD now bed 0 → entry ≡ getD store (from + bed) 0 → sumIn word ≡ plus (sumIn sum) (entryIn entry)
+        → Added store from count sums (set now bed word) (bed + 1)
+    added-next sum entry word isSum isEntry is = record {
+      few = omega arith;
+      long = length-set now bed word ∙ added .long;
+      done = λ b h. each b h (eqb b bed) refl;
+      waiting = λ b h. getD-set-other now bed b word 0 (λ e. omega arith) ∙ added .waiting b (omega arith);
+    }
+      where
+        each : (b : ℕ) → b < bed + 1 → (same : Bool) → eqb b bed ≡ same → sumIn (getD (set now bed word) b 0) ≡ plus (sumIn (getD sums b 0)) (entryIn (getD store (from + b) 0))
+        each b h true e =
+            let here : b ≡ bed = eqb-true b bed e in
+            let old : sum ≡ getD sums b 0 = rw here (isSum ∙ added .waiting bed (omega arith)) in
+            ap sumIn (ap (λ i. getD (set now bed word) i 0) here ∙ getD-set-same now bed word 0 (omega (arith, added-bed, added .long)))
+            ∙ is ∙ ap₂ (λ x y. plus (sumIn x) (entryIn y)) old (isEntry ∙ ap (λ i. getD store (from + i) 0) (sym here))
+        each b h false e =
+            let other = eqb-false b bed e in
+            ap sumIn (getD-set-other now bed b word 0 other) ∙ added .done b (omega (arith, other))
+
+  pub added-done : {now : List ℕ} {bed : ℕ} → count ≤ bed → Added store from count sums now bed → GivesEntries store from count sums now
+  added-done end added = record { long = added .long; each = λ b h. added .done b (omega arith) }
