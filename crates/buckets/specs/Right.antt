@@ -7,13 +7,14 @@ use borrow.Author.Tests.{ltb-true, lt-ltb, le-ltb, eqb-true}
 use Rattle.definitions.specs.Basics.{ℕ, zero, suc, _-_, _<_, _≡_, refl, Bool, true, false, not, _&&_, _||_, Option, none, some, noneOr, List, [], _∷_, length, getD, eqb, ltb, product, every, everyTwo, any}
 use Rattle.definitions.specs.Limits.{limits, within, patientCount, tableCount, plansWanted, clinic, bedCount, memberCount, entry, entryCount}
 use Rattle.definitions.specs.Syntax.{Table, Region, patientAt, bedCounts}
+use Rattle.definitions.specs.Plans.{Plan, bedOf}
 use Rattle.definitions.specs.Questions.{countsTrue, countsWithin, patientsWithin, membersRight, entryCountsRight, entriesWithin}
 use Rattle.theorems.specs.Tests.{both}
 use Rattle.theorems.specs.Every.{every-at}
 use Rattle.theorems.specs.Accepted.{at-least, at-most}
 use Rattle.partial_rows.specs.Sets.{only}
 use Rattle.held_region.specs.Held.{tableAt}
-use Rattle.buckets.specs.Terms.{Answered, highest}
+use Rattle.buckets.specs.Terms.{Answered, Fitting, highest}
 use Rattle.buckets.specs.Stores.{entriesOf}
 
 -- What questions 7 to 9 say of a table.
@@ -66,6 +67,10 @@ module _ (r : Region) (a : Answered r) where
   pub beds-few : (s : ℕ) → s < length (r .patients) → patientAt r s .bedCount ≤ 16
   unfolding limits
   beds-few s h = at-most bedCount _ (beds-within s h)
+
+  -- So four bits hold each bed of a plan that fits.
+  pub fitting-low : (plan : Plan) → Fitting r plan → (s : ℕ) → s < length (r .patients) → bedOf plan s < 16
+  fitting-low plan fits s h = omega (arith, fits s h, beds-few s h)
 
   pub table-right : (i : ℕ) → i < length (r .tables) → TableRight r (tableAt r i)
   unfolding membersRight entryCountsRight entriesWithin limits

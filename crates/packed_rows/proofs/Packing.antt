@@ -3,30 +3,28 @@ use mathlib.Core.Path.{_≡_, sym, ap, _∙_}
 use native.Mathlib.Numerals.{unary-clauses}
 use native.Mathlib.Omega.{arith}
 use Prim.Native.Nat.{_≤_}
-use lib.ListN.{length-append, length-map, length-replicate, getD-replicate, List·getD-append, List·getD-map}
-use lib.Seq.{length-take-le, getD-take, getD-append-add}
+use lib.ListN.{length-append, length-replicate, getD-replicate, List·getD-append, List·getD-map}
+use lib.Seq.{getD-take, getD-append-add}
 use Rattle.definitions.specs.Basics.{ℕ, _+_, _-_, _*_, _%_, _<_, List, [], _∷_, _++_, map, flatMap, length, getD, take, replicate, below}
 use Rattle.definitions.specs.Plans.{bedOf}
 use Rattle.theorems.specs.Below.{by-number}
 use Rattle.packed_rows.specs.Packed.{bedsOfWord, packedBeds, packable}
 use Rattle.packed_rows.specs.Laws.{bedsFrom, push-bed}
+use Rattle.packed_rows.specs.Packing.{front-long}
 
 -- The beds to be packed.
 module _ (v : ℕ) (beds : List ℕ) (few : v ≤ 32) (long : length beds ≡ 32) where
-  reduced-long : length (map (λ b. b % 16) (take v beds)) ≡ v
-  reduced-long = length-map (take v beds) (λ b. b % 16) ∙ length-take-le v beds (omega arith)
-
   packable-long : length (packable v beds) ≡ 32
-  packable-long = length-append (map (λ b. b % 16) (take v beds)) (replicate (32 - v) 0) ∙ omega (arith, reduced-long, length-replicate {A = ℕ} (32 - v) 0)
+  packable-long = length-append (map (λ b. b % 16) (take v beds)) (replicate (32 - v) 0) ∙ omega (arith, front-long v beds few long, length-replicate {A = ℕ} (32 - v) 0)
 
   pub patient-bed : (s : ℕ) → s < v → getD beds s 0 % 16 ≡ bedOf (packable v beds) s
   patient-bed s h =
-      sym (List·getD-append (map (λ b. b % 16) (take v beds)) (replicate (32 - v) 0) 0 s (omega (arith, reduced-long))
+      sym (List·getD-append (map (λ b. b % 16) (take v beds)) (replicate (32 - v) 0) 0 s (omega (arith, front-long v beds few long))
       ∙ List·getD-map (λ b. b % 16) (take v beds) s 0 ∙ ap (λ (b : ℕ). b % 16) (getD-take v beds s 0 h))
 
   pub no-patient-bed : (s : ℕ) → v ≤ s → s < 32 → 0 ≡ bedOf (packable v beds) s
   no-patient-bed s h k =
-      let e : s ≡ length (map (λ b. b % 16) (take v beds)) + (s - v) = omega (arith, reduced-long) in
+      let e : s ≡ length (map (λ b. b % 16) (take v beds)) + (s - v) = omega (arith, front-long v beds few long) in
       sym (ap (bedOf (packable v beds)) e ∙ getD-append-add (map (λ b. b % 16) (take v beds)) (replicate (32 - v) 0) (s - v) 0 ∙ getD-replicate (32 - v) (s - v) 0 0 (omega arith))
 
   pub all-packed : (w x y z : ℕ) → bedsOfWord 7 w ≡ bedsFrom (packable v beds) 0 → bedsOfWord 7 x ≡ bedsFrom (packable v beds) 8

@@ -21,16 +21,16 @@ four-bits (b ∷ beds) low =
     let rest = four-bits beds (λ s h. low (suc s) (omega arith)) in
     λ i. first i ∷ rest i
 
-module _ (v cost : ℕ) (beds : List ℕ) (few : v ≤ 32) (long : length beds ≡ 32) where
-  front : length (map (λ b. b % 16) (take v beds)) ≡ v
-  front = length-map (take v beds) (λ b. b % 16) ∙ length-take-le v beds (omega arith)
+pub front-long : (v : ℕ) (beds : List ℕ) → v ≤ 32 → length beds ≡ 32 → length (map (λ b. b % 16) (take v beds)) ≡ v
+front-long v beds few long = length-map (take v beds) (λ b. b % 16) ∙ length-take-le v beds (omega arith)
 
+module _ (v cost : ℕ) (beds : List ℕ) (few : v ≤ 32) (long : length beds ≡ 32) where
   pub pack-padded : Padded v (packedRow v cost beds)
-  pack-padded = padded-with v cost (map (λ b. b % 16) (take v beds)) few front
+  pack-padded = padded-with v cost (map (λ b. b % 16) (take v beds)) few (front-long v beds few long)
 
   pub pack-cut : ((s : ℕ) → s < v → bedOf beds s < 16) → cut v (packedRow v cost beds) ≡ record { cost = cost; beds = take v beds }
   pack-cut low =
-      cut-with v cost (map (λ b. b % 16) (take v beds)) front
+      cut-with v cost (map (λ b. b % 16) (take v beds)) (front-long v beds few long)
       ∙ ap (λ (l : List ℕ). record { cost = cost; beds = l }) (four-bits (take v beds) (λ s h.
       let less : s < v = omega (arith, length-take-le v beds (omega arith)) in
       rw (getD-take v beds s 0 less) (low s less)))

@@ -14,7 +14,7 @@ use Rattle.partial_rows.specs.Sets.{only, Splits}
 use Rattle.partial_rows.specs.Rows.{Position, decidedTables, withBed, LowerBound}
 use Rattle.partial_rows.specs.Branches.{position-bed}
 use Rattle.buckets.specs.Terms.{Fitting, bucketOf, leastIn, leastAt, bedsAt, Prepared}
-use Rattle.buckets.specs.Right.{beds-few}
+use Rattle.buckets.specs.Right.{fitting-low}
 use Rattle.pricing.specs.BedCosts as Price
 use Rattle.pricing.specs.Pricing.{sumIn}
 use Rattle.pricing.specs.Costs.{fitting-set}
@@ -60,9 +60,7 @@ module _ {r : Region} {store patients terms : List ℕ} {v : ℕ} {head : Branch
 
 -- Four bits hold each bed that fits.
 pub low-beds : {r : Region} {store patients terms : List ℕ} {v : ℕ} {head : Branching} → Heads r store patients terms v head → (beds : List ℕ) → Fitting r beds → (q : ℕ) → q < v → bedOf beds q < 16
-low-beds {r} heads beds fits q h =
-    let is : q < length (r .patients) = omega (arith, heads .counted) in
-    omega (arith, fits q is, beds-few r (heads .prepared .answered) q is)
+low-beds {r} heads beds fits q h = fitting-low r (heads .prepared .answered) beds fits q (omega (arith, heads .counted))
 
 -- What is asked for on the way to the head below a bed.
 module _ {store patients terms : List ℕ} {head : Branching} {s bed : ℕ} (asks : AsksNext store patients terms head s bed) where

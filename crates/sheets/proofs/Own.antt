@@ -1,30 +1,30 @@
 -- A clinic's own row: its cost is the price in the region with only the clinic's own tables. Assumes nothing.
-use mathlib.Core.Path.{_≡_, refl, sym, ap, _∙_}
-use mathlib.Core.List.{map-map}
+use mathlib.Core.Path.{_≡_, refl, sym, ap, _∙_, subst}
 use Prim.Native.Nat.{_≤_}
 use native.Mathlib.Omega.{arith}
 use borrow.Author.Tests.{ltb-true, lt-ltb}
-use lib.ListN.{length-map}
 use lib.Seq.{getD-take, length-take-le}
-use Rattle.definitions.specs.Basics.{ℕ, _-_, _%_, _<_, true, Option·getD, List, _++_, map, length, take, replicate, ltb, below, every, keep, contains}
+use Rattle.definitions.specs.Basics.{ℕ, _<_, true, Option·getD, List, map, length, getD, take, ltb, below, every, keep, contains}
 use Rattle.definitions.specs.Syntax.{Region, patientAt, patientsOf}
 use Rattle.definitions.specs.Plans as Said
 use Rattle.definitions.specs.Plans.{bedOf, entryFor, costOver, total}
 use Rattle.definitions.specs.Sheets.{part, ownTables, ownCost, ownRow}
+use Rattle.ranking.specs.Members.{_∈_, getD-in, in-map-cases}
 use Rattle.theorems.specs.List.{Allowed, numbers-enumerate}
-use Rattle.theorems.specs.Kept.{every-all}
+use Rattle.theorems.specs.Kept.{every-in, every-all}
 use Rattle.patient_set.specs.Sets.{members}
 use Rattle.patient_set.specs.Laws.{size-most}
 use Rattle.patient_set.specs.Lists.{every-keep}
 use Rattle.partial_rows.specs.Beds.{inside, fits-beds}
-use Rattle.partial_rows.specs.Padding.{cut, cut-with, padded-with}
+use Rattle.partial_rows.specs.Padding.{cut}
 use Rattle.held_region.specs.Places.{same-maps}
 use Rattle.buckets.specs.Terms.{Fitting}
 use Rattle.buckets.specs.Among.{among, allAmong}
-use Rattle.buckets.specs.Right.{beds-few}
+use Rattle.buckets.specs.Right.{fitting-low}
 use Rattle.pricing.specs.Pricing.{AsksAll}
 use Rattle.packed_rows.specs.declared.Row.{Row}
 use Rattle.packed_rows.specs.Packed.{rowOf, packable}
+use Rattle.packed_rows.specs.Packing.{packedRow, pack-padded, pack-cut}
 use Rattle.sheets.specs.Steps.{PartTaken, Priced, Own, GivesOwn}
 
 -- A row of the list fits, and so do beds that begin with its beds.
@@ -50,21 +50,22 @@ module _ {r : Region} {clinic : ℕ} {store patients terms : List ℕ} {v set : 
       every-keep (λ s. ltb s v) _ (below (length (r .patients)))
       (every-all (λ s. ltb s v) (below (length (r .patients))) (λ s k. lt-ltb s v (omega (arith, own .all, numbers-enumerate 0 (length (r .patients)) .only s k .1))))
 
-  -- A bed that fits is packed as it is.
-  bed-packed : (beds : List ℕ) → Fitting r beds → (s : ℕ) → s < v → bedOf beds s % 16 ≡ bedOf beds s
-  unfolding patientAt
-  bed-packed beds fits s h =
-      let known : s < length (r .patients) = omega (arith, own .all) in
-      let few : patientAt r s .bedCount ≤ 16 = beds-few (among r (contains (members set))) (own .prepared .answered) s known in
-      omega (arith, fits s known)
+  -- Four bits hold each bed that is moved.
+  own-low : (beds taken : List ℕ) → Fitting r beds → length taken ≡ 32 → PartTaken beds (members set) taken → (s : ℕ) → s < length (members set) → bedOf taken s < 16
+  own-low beds taken fits long is s h =
+      let n = length (members set) in
+      let inside = getD-in (take n taken) s 0 (omega (arith, length-take-le n taken (omega (arith, size-most set)))) in
+      let (q, i, e) = in-map-cases (bedOf beds) (members set) (subst (λ (l : List ℕ). getD (take n taken) s 0 ∈ l) is inside) in
+      let known = ltb-true q v (every-in (λ t. ltb t v) (patientsOf r clinic) patients-known (subst (λ (l : List ℕ). q ∈ l) (own .ofClinic) i)) in
+      let low = fitting-low (among r (contains (members set))) (own .prepared .answered) beds (among-fits beds fits) q (omega (arith, own .all)) in
+      omega (arith, e, low, getD-take n taken s 0 h)
 
   -- The beds and the cost.
-  own-beds : (beds taken : List ℕ) → Fitting r beds → PartTaken beds (members set) taken → map (λ b. b % 16) (take (length (members set)) taken) ≡ part r clinic (take v beds)
+  own-beds : (beds taken : List ℕ) → PartTaken beds (members set) taken → take (length (members set)) taken ≡ part r clinic (take v beds)
   unfolding part
-  own-beds beds taken fits is =
-      ap (map (λ b. b % 16)) (is ∙ ap (map (bedOf beds)) (own .ofClinic)) ∙ map-map (λ b. b % 16) (bedOf beds) (patientsOf r clinic)
-      ∙ same-maps (λ s. ltb s v) (λ s. bedOf beds s % 16) (bedOf (take v beds))
-      (λ s l. let h = ltb-true s v l in bed-packed beds fits s h ∙ sym (getD-take v beds s 0 h)) (patientsOf r clinic) patients-known
+  own-beds beds taken is =
+      is ∙ ap (map (bedOf beds)) (own .ofClinic)
+      ∙ same-maps (λ s. ltb s v) (bedOf beds) (bedOf (take v beds)) (λ s l. sym (getD-take v beds s 0 (ltb-true s v l))) (patientsOf r clinic) patients-known
 
   own-cost : (beds : List ℕ) (cost first : ℕ) → Fitting r beds → Priced store patients terms v beds first → first ≡ ownCost r clinic (record { cost = cost; beds = take v beds })
   unfolding ownCost ownTables total costOver entryFor patientAt
@@ -79,11 +80,11 @@ pub own-made : {store patients terms : List ℕ} {v : ℕ} (row : Row) (set : �
 unfolding ownRow
 own-made {v = v} row set result beds taken k first plain long size priced is packed =
     record {
-      padded = rw whole (padded-with n first ours few ours-long);
+      padded = rw whole (pack-padded n first taken few long);
       is = λ r clinic own fits.
           let fit : Fitting r beds = rw plain fits in
-          ap (cut n) whole ∙ cut-with n first ours ours-long
-          ∙ (λ i. record { cost = own-cost own beds (row .cost) first fit priced i; beds = own-beds own beds taken fit is i })
+          ap (cut n) whole ∙ pack-cut n first taken few long (own-low own beds taken fit long is)
+          ∙ (λ i. record { cost = own-cost own beds (row .cost) first fit priced i; beds = own-beds own beds taken is i })
           ∙ ap (λ (l : List ℕ). ownRow r clinic (record { cost = row .cost; beds = take v l })) plain;
     }
   where
@@ -93,11 +94,5 @@ own-made {v = v} row set result beds taken k first plain long size priced is pac
     few : n ≤ 32
     few = size-most set
 
-    ours : List ℕ
-    ours = map (λ b. b % 16) (take n taken)
-
-    ours-long : length ours ≡ n
-    ours-long = length-map (take n taken) (λ b. b % 16) ∙ length-take-le n taken (omega (arith, size-most set))
-
-    whole : rowOf result ≡ record { cost = first; beds = ours ++ replicate (32 - n) 0 }
-    whole = packed ∙ ap (λ (m : ℕ). record { cost = first; beds = packable m taken }) size
+    whole : rowOf result ≡ packedRow n first taken
+    whole = packed ∙ ap (λ (m : ℕ). packedRow m first taken) size
