@@ -5,7 +5,7 @@ use native.Mathlib.Omega.{arith}
 use Prim.Native.Nat.{_≤_}
 use lib.ListN.{length-map}
 use lib.Seq.{length-take-le, getD-take}
-use Rattle.definitions.specs.Basics.{ℕ, zero, suc, _%_, _<_, List, [], _∷_, map, length, take}
+use Rattle.definitions.specs.Basics.{ℕ, suc, _%_, _<_, List, [], _∷_, map, length, take}
 use Rattle.definitions.specs.Plans.{Row, bedOf}
 use Rattle.partial_rows.specs.Padding.{cut, Padded, padded-with, cut-with}
 use Rattle.packed_rows.specs.Packed.{packable}

@@ -4,7 +4,7 @@ use native.Mathlib.Omega.{arith}
 use lib.ListN.{drop, length-append, length-replicate, take-append-drop}
 use lib.Seq.{length-take-le, take-at, drop-at, getD-drop}
 use Prim.Native.Nat.{_≤_}
-use Rattle.definitions.specs.Basics.{ℕ, zero, suc, _+_, _-_, compare, Ordering, Ordering·eq, _≡_, refl, Bool}
+use Rattle.definitions.specs.Basics.{ℕ, zero, suc, _+_, _-_, compare, Ordering, Ordering·eq, _≡_, refl}
 use Rattle.definitions.specs.Basics.{List, [], _∷_, _++_, length, take, replicate, eqb, same}
 use Rattle.definitions.specs.Plans.{bedOf, thenBy, compareBeds, Row, compareRows}
 use Rattle.definitions.specs.Sheets.{sameBeds}

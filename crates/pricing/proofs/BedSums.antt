@@ -3,7 +3,7 @@ use mathlib.Core.Path.{_≡_, sym, ap, _∙_, subst}
 use Prim.Native.Nat.{_≤_}
 use native.Mathlib.Omega.{arith}
 use lib.ListN.{set, getD-replicate}
-use Rattle.definitions.specs.Basics.{ℕ, _+_, _*_, _<_, some, List, length, getD, replicate}
+use Rattle.definitions.specs.Basics.{ℕ, _+_, _*_, _<_, some, List, length, getD}
 use Rattle.definitions.specs.Syntax.{Region, patientAt}
 use Rattle.definitions.specs.Plans.{bedOf}
 use Rattle.theorems.specs.Sums.{plus, halves}

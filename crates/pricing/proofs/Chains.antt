@@ -4,7 +4,7 @@ use mathlib.Core.Option.{Option·none-ne-some}
 use Prim.Native.Nat.{_≤_}
 use lib.ListN.{set}
 use native.Mathlib.Omega.{arith}
-use Rattle.definitions.specs.Basics.{ℕ, suc, _+_, _*_, _<_, true, Option, none, some, List, [], _∷_, length, getD}
+use Rattle.definitions.specs.Basics.{ℕ, suc, _+_, _*_, _<_, true, Option, some, List, [], _∷_, length, getD}
 use Rattle.definitions.specs.Syntax.{Table, Region}
 use Rattle.definitions.specs.Plans.{Plan, bedOf, constraints, entryFor, costOver}
 use Rattle.ranking.specs.Members.{_∈_, here, there}

@@ -1,9 +1,9 @@
 -- The place of a new row among rows in order, found by halving. Assumes nothing.
-use mathlib.Core.Path.{_≡_, refl, sym, ap, _∙_}
+use mathlib.Core.Path.{_≡_}
 use mathlib.Core.Bool.{true≢false, false≢true}
 use native.Mathlib.Omega.{arith}
 use Prim.Native.Nat.{_≤_}
-use Rattle.definitions.specs.Basics.{ℕ, _+_, _<_, Ordering, Bool, true, false, List, getD}
+use Rattle.definitions.specs.Basics.{ℕ, _+_, _<_, Ordering, true, false, List}
 use Rattle.definitions.specs.Plans as Said
 use Rattle.definitions.specs.Plans.{compareRows}
 use Rattle.ranking.specs.Orders.{View, before, equal, after}

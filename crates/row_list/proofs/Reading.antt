@@ -5,7 +5,7 @@ use Prim.Native.Nat.{ℕ, _+_, _*_, _<_, _≤_}
 use borrow.Author.Count.{below-more}
 use lib.ListN.{length, set, length-set}
 use lib.Seq.{getD-set-same, getD-set-other, take-all}
-use Rattle.definitions.specs.Basics.{List, map, getD, replicate, below}
+use Rattle.definitions.specs.Basics.{List, getD, replicate}
 use Rattle.packed_rows.specs.Packed.{rowOf}
 use Rattle.packed_rows.specs.declared.Row.{Row}
 use Rattle.row_list.specs.Below.{below-take}

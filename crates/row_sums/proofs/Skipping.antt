@@ -8,7 +8,7 @@ use borrow.Author.Tests.{eqb-true, ltb-true}
 use Prim.Native.Nat.{_≤_}
 use lib.ListN.{length-take}
 use lib.Seq.{getD-take}
-use Rattle.definitions.specs.Basics.{ℕ, zero, suc, _+_, _-_, _<_, true, _&&_, eqb, ltb, List, _∷_, _++_, map}
+use Rattle.definitions.specs.Basics.{ℕ, zero, suc, _+_, _-_, _<_, true, eqb, List, _∷_, _++_, map}
 use Rattle.definitions.specs.Basics.{length, getD, take, sort}
 use Rattle.definitions.specs.Plans as Said
 use Rattle.definitions.specs.Plans.{compareRows}

@@ -1,6 +1,6 @@
 -- What the steps of the sums give: a row added to each of a list, and the sums copied back.
 use Prim.Native.Nat.{_≤_}
-use Rattle.definitions.specs.Basics.{ℕ, zero, suc, _+_, _-_, _<_, _≡_, Bool, _&&_, eqb, ltb, List, [], _∷_, _++_, map, length, getD, take, sort}
+use Rattle.definitions.specs.Basics.{ℕ, zero, suc, _+_, _-_, _<_, _≡_, Bool, _&&_, eqb, ltb, List, [], _∷_, _++_, map, length, take, sort}
 use Rattle.definitions.specs.Plans.{Row, compareRows}
 use Rattle.ranking.specs.Members.{_∈_}
 use Rattle.ranking.specs.Combining.{cross}

@@ -1,9 +1,9 @@
 -- When a branch is cut: the list is full, and the branch's best row is not before its last. Assumes nothing.
-use mathlib.Core.Path.{_≡_, sym, ap, _∙_}
+use mathlib.Core.Path.{_≡_, sym, ap}
 use borrow.Author.Tests.{eq-eqb, ne-eqb}
 use native.Mathlib.Omega.{arith}
 use Prim.Native.Nat.{_≤_}
-use Rattle.definitions.specs.Basics.{ℕ, _-_, _<_, Ordering, Ordering·lt, Ordering·gt, compare, Bool, true, false, not, _&&_, List, take}
+use Rattle.definitions.specs.Basics.{ℕ, _-_, _<_, Ordering, Ordering·lt, Ordering·gt, compare, true, false, not, List, take}
 use Rattle.definitions.specs.Plans.{thenBy, compareBeds}
 use Rattle.packed_rows.specs.Packed.{isBefore}
 use Rattle.packed_rows.specs.Numbers.{less, more}

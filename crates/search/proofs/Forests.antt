@@ -6,11 +6,10 @@ use Prim.Native.Nat.{_≤_}
 use native.Mathlib.Decide.{decLt}
 use native.Mathlib.Numerals.{add-one}
 use native.Mathlib.Omega.{arith}
-use borrow.Author.Tests.{ltb-true, lt-ltb, le-ltb}
+use borrow.Author.Tests.{lt-ltb, le-ltb}
 use Rattle.definitions.specs.Basics.{ℕ, suc, _+_, _<_, Bool, true, false, _&&_, List, [], _∷_, length, getD, replicate, eqb, ltb, below, contains}
 use Rattle.definitions.specs.Syntax.{Region}
-use Rattle.definitions.specs.Plans.{Row, listOf}
-use Rattle.ranking.specs.Members.{_∈_, here, here-or-there, none-in-nil}
+use Rattle.ranking.specs.Members.{here, here-or-there, none-in-nil}
 use Rattle.ranking.specs.First.{First}
 use Rattle.theorems.specs.List.{rowOrder}
 use Rattle.patient_set.specs.Sets.{inSet, members}

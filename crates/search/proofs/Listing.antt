@@ -4,14 +4,14 @@ use mathlib.Core.Bool.{or-true}
 use borrow.Author.Tests.{eq-eqb}
 use Prim.Native.Nat.{_≤_}
 use native.Mathlib.Decide.{decLt}
-use native.Mathlib.Nat.{le-trans, mul-le-mul-right}
+use native.Mathlib.Nat.{le-trans}
 use native.Mathlib.Omega.{arith}
 use lib.Seq.{getD-take}
 use lib.ListN.{List·getD-eq-default}
-use Rattle.definitions.specs.Basics.{ℕ, zero, suc, _+_, _*_, _<_, Bool, true, false, _||_, Option, none, some, List, [], _∷_, _++_, map, length, getD, take, replicate, sum, every, keep, eqb, contains, noneOr}
+use Rattle.definitions.specs.Basics.{ℕ, zero, suc, _+_, _*_, _<_, Bool, true, false, _||_, some, List, [], _∷_, _++_, map, length, take, replicate, sum, every, eqb, contains, noneOr}
 use Rattle.definitions.specs.Limits.{limits, within, entry}
-use Rattle.definitions.specs.Syntax.{Table, Region, patientAt}
-use Rattle.definitions.specs.Plans.{Plan, Row, bedOf, constraints, costOver}
+use Rattle.definitions.specs.Syntax.{Region}
+use Rattle.definitions.specs.Plans.{Plan, Row, bedOf, constraints}
 use Rattle.definitions.specs.Questions.{entriesWithin}
 use mathlib.Core.Logic.{inl, inr}
 use Rattle.ranking.specs.Members.{_∈_, here-or-there, none-in-nil, in-map}
@@ -33,18 +33,18 @@ use Rattle.partial_rows.specs.Beds.{no-bed, inside, outside}
 use Rattle.partial_rows.specs.Contexts.{row-context}
 use Rattle.partial_rows.specs.Parts.{parts-injective, parts-combined}
 use Rattle.partial_rows.specs.Walk.{position-start, walk-finds}
-use Rattle.buckets.specs.Terms.{Answered, Fitting, Prepared, leastAt, leastIn}
+use Rattle.buckets.specs.Terms.{Answered, Fitting, leastAt, leastIn}
 use Rattle.buckets.specs.Right.{beds-some, beds-few, tables-few}
 use Rattle.packed_rows.specs.declared.Row as Code
 use Rattle.packed_rows.specs.Packed.{rowOf, Fit}
 use Rattle.packed_rows.specs.Packing.{packedRow}
-use Rattle.row_list.specs.Rows.{wholeRows, rowsIn, Room, Stored}
+use Rattle.row_list.specs.Rows.{wholeRows, rowsIn, Stored}
 use Rattle.row_list.specs.Laws.{rows-none, rows-more}
 use Rattle.row_sums.specs.Sums as Sums
 use Rattle.row_sums.specs.Sums.{part, wholeAt, listAt}
 use Rattle.row_sums.specs.Areas.{replaced, replaced-long, part-long, part-new, part-before}
 use Rattle.search.specs.Lowest.{Upward}
-use Rattle.search.specs.Walks.{Branching, remaining, leftIn, headRow, Light, Heads, BranchOf, AllPadded, Asks, Gives}
+use Rattle.search.specs.Walks.{Branching, leftIn, headRow, Light, Heads, BranchOf, AllPadded, Asks, Gives}
 use Rattle.search.specs.Trees.{LeastSummed, AsksStart, GivesStart, Treed, AsksTree, GivesTree}
 use Rattle.search.proofs.Padded.{cut-keeps, row-padded, row-cut, sum-padded, injective-back, first-cut}
 

@@ -1,9 +1,9 @@
 -- Rows of 32 beds, and the same rows cut to v patients: inserting one, comparing one with the last, and the sums of two lists. Assumes nothing.
-use mathlib.Core.Path.{_≡_, refl, sym, ap, ap₂, _∙_, subst, subst⁻¹}
+use mathlib.Core.Path.{_≡_, refl, sym, ap, ap₂, _∙_, subst⁻¹}
 use mathlib.Core.Logic.{inl, inr}
 use Prim.Native.Nat.{_≤_}
 use native.Mathlib.Omega.{arith}
-use Rattle.definitions.specs.Basics.{ℕ, zero, suc, _+_, _-_, _<_, not, _&&_, eqb, List, [], _∷_, map, length, getD, take, insert}
+use Rattle.definitions.specs.Basics.{ℕ, zero, suc, _-_, _<_, not, _&&_, eqb, List, [], _∷_, map, length, take, insert}
 use Rattle.definitions.specs.Plans.{Row, bedOf, compareRows}
 use Rattle.ranking.specs.Members.{_∈_, getD-in, in-map, in-map-cases}
 use Rattle.ranking.specs.First.{First, first-iff}

@@ -5,20 +5,20 @@ use native.Mathlib.Omega.{arith}
 use lib.ListN.{set, length-set}
 use lib.Seq.{set-set, take-set-lt}
 use borrow.Author.Tests.{eq-eqb}
-use Rattle.definitions.specs.Basics.{ℕ, _+_, _<_, Bool, true, false, not, _&&_, _||_, Option, List, _∷_, map, length, getD, take, sum, eqb, isEmpty, contains, ltb, everyTwo, replicate}
+use Rattle.definitions.specs.Basics.{ℕ, _+_, _<_, true, not, _&&_, _||_, Option, List, _∷_, map, length, getD, take, sum, eqb, isEmpty, contains, ltb, everyTwo, replicate}
 use Rattle.definitions.specs.Syntax.{Region, patientAt}
-use Rattle.definitions.specs.Plans.{Plan, bedOf, Row, costOver}
+use Rattle.definitions.specs.Plans.{bedOf}
 use Rattle.patient_set.specs.Sets.{inSet, members, first}
 use Rattle.patient_set.specs.Laws.{rising, lowest-and-rest}
 use Rattle.partial_rows.specs.Sets.{only, Splits}
 use Rattle.partial_rows.specs.Rows.{Position, decidedTables, withBed, LowerBound}
 use Rattle.partial_rows.specs.Branches.{position-bed}
-use Rattle.buckets.specs.Terms.{Fitting, bucketOf, leastIn, leastAt, bedsAt, Prepared}
+use Rattle.buckets.specs.Terms.{Fitting, bucketOf, leastIn, leastAt, bedsAt}
 use Rattle.buckets.specs.Right.{fitting-low}
 use Rattle.pricing.specs.BedCosts as Price
 use Rattle.pricing.specs.Pricing.{sumIn}
 use Rattle.pricing.specs.Costs.{fitting-set}
-use Rattle.search.specs.Lowest.{Upward, list-split, list-lowest, bucket-decided, upward-rest, bound-members}
+use Rattle.search.specs.Lowest.{list-split, list-lowest, bucket-decided, upward-rest, bound-members}
 use Rattle.search.specs.Walks.{Branching, remaining, leftIn, headRow, Light, Heads, AsksNext, Below, Decides, GivesRest}
 use Rattle.search.specs.declared.walk.Rest.{Rest}
 

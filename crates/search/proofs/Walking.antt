@@ -6,12 +6,12 @@ use native.Mathlib.Numerals.{add-one}
 use native.Mathlib.Omega.{arith}
 use lib.ListN.{set, drop}
 use borrow.Author.Tests.{eqb-true, not-true}
-use Rattle.definitions.specs.Basics.{ℕ, zero, suc, _+_, _-_, _<_, Ordering, Bool, true, false, not, _&&_, Option, none, some, List, [], _∷_, length, getD, take, eqb, isEmpty, insert, contains}
+use Rattle.definitions.specs.Basics.{ℕ, suc, _+_, _-_, _<_, Ordering, true, false, not, none, some, List, [], _∷_, length, take, eqb, isEmpty, insert, contains}
 use Rattle.definitions.specs.Syntax.{Region, patientAt}
 use Rattle.definitions.specs.Plans.{Row, costOver, compareRows}
 use Rattle.ranking.specs.Orders.{View, before, equal, after}
 use Rattle.ranking.specs.Growing.{Grown, Ready}
-use Rattle.ranking.specs.Rising.{Rising, sorted-rising}
+use Rattle.ranking.specs.Rising.{sorted-rising}
 use Rattle.theorems.specs.Tests.{both}
 use Rattle.theorems.specs.List.{rowOrder}
 use Rattle.patient_set.specs.Sets.{first}
@@ -26,7 +26,7 @@ use Rattle.packed_rows.specs.Packed.{rowOf, isBefore}
 use Rattle.packed_rows.specs.Packing.{packedRow}
 use Rattle.row_list.specs.Rows.{rowIn, rowsIn, Room, Inserted}
 use Rattle.row_list.specs.Laws.{cut-long, cut-at}
-use Rattle.search.specs.Walks.{Branching, remaining, leftIn, headRow, Light, Heads, BranchOf, AsksNext, Below, Decides, AllPadded, isPast, AsksCut, Asks, Gives}
+use Rattle.search.specs.Walks.{Branching, remaining, leftIn, headRow, Heads, BranchOf, AsksNext, Below, Decides, AllPadded, isPast, AsksCut, Asks, Gives}
 use Rattle.search.proofs.Steps.{known, low-beds, split, decided, fits-next, asks-few, asks-room, below-split, row-below, light-below, heads-below, bound-holds}
 use Rattle.search.proofs.Padded.{row-padded, row-cut, inserted-cut, inserted-padded}
 

@@ -1,8 +1,8 @@
 -- What listing a region asks for and gives, tree by tree.
 use Prim.Native.Nat.{_≤_}
-use Rattle.definitions.specs.Basics.{ℕ, suc, _<_, _≡_, Bool, true, List, [], _∷_, map, length, replicate, sum, contains}
+use Rattle.definitions.specs.Basics.{ℕ, _<_, _≡_, true, List, [], _∷_, map, length, replicate, sum, contains}
 use Rattle.definitions.specs.Syntax.{Region}
-use Rattle.definitions.specs.Plans.{Row, listOf}
+use Rattle.definitions.specs.Plans.{listOf}
 use Rattle.ranking.specs.First.{First}
 use Rattle.theorems.specs.List.{rowOrder}
 use Rattle.patient_set.specs.Sets.{members}

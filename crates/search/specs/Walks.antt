@@ -1,7 +1,7 @@
 -- What the walk asks for and gives.
 use lib.ListN.{set}
 use Prim.Native.Nat.{_≤_}
-use Rattle.definitions.specs.Basics.{ℕ, _+_, _-_, _*_, _<_, _≡_, Bool, true, false, not, _&&_, Option, none, some, List, _∷_, map, length, take, sum, eqb, contains}
+use Rattle.definitions.specs.Basics.{ℕ, _+_, _-_, _*_, _<_, _≡_, Bool, not, _&&_, Option, List, _∷_, map, length, take, sum, eqb, contains}
 use Rattle.definitions.specs.Syntax.{Region, patientAt}
 use Rattle.definitions.specs.Plans.{Row, bedOf, costOver, compareRows}
 use Rattle.ranking.specs.Members.{_∈_}

@@ -1,29 +1,23 @@
 use borrow.Author.Needs.{needs}
 use borrow.Author.Tests.{eq-eqb, ne-eqb}
 use native.Mathlib.Omega.{arith}
-use mathlib.Core.Path.{ap, _∙_}
+use mathlib.Core.Path.{ap}
 use mathlib.Core.Bool.{not}
-use Rattle.packed_rows.specs.Packed.{rowOf, isBefore}
 use Rattle.row_list.proofs.is_past.Statement.{statement}
 use Rattle.row_list.proofs.is_past.Tie as tie
 
--- src/lib.rt:85:9
 returns : tie.Need-returns
 returns c = rw (ne-eqb (c .before .before .args .n) (c .before .before .args .m) (λ e. omega arith))
 
--- src/lib.rt:87:29
 sub-row-at : tie.Need-sub-row-at
 sub-row-at c = search needs
 
--- src/lib.rt:87:9
 row-at-requires : tie.Need-row-at-requires
 row-at-requires c κs = search needs
 
--- src/lib.rt:88:6
 precedes-requires : tie.Need-precedes-requires
 precedes-requires c κs = search needs
 
--- src/lib.rt:80:1
 returns-2 : tie.Need-returns-2
 returns-2 c = rw (eq-eqb (c .before .before .before .before .args .n) (c .before .before .before .before .args .m) (omega arith), ← c .before .row-at .ensures) (ap not (c .precedes .ensures))
 

@@ -12,47 +12,36 @@ Inv-loop list n row low₀ high₀ low high = Between n row list low high
 abbrev μ-loop : tie.MeasureT-loop
 μ-loop list n row low₀ high₀ low high = high - low
 
--- src/lib.rt:98:5
 loop-holds : tie.Need-loop-holds Inv-loop μ-loop
 loop-holds c = all-between _ _ _
 
--- src/lib.rt:99:29
 sub-middle : tie.Need-sub-middle Inv-loop μ-loop
 sub-middle c = omega arith
 
--- src/lib.rt:99:22
 add-middle : tie.Need-add-middle Inv-loop μ-loop
 add-middle c = omega (arith, c .before .loop .inv .within)
 
--- src/lib.rt:100:13
 row-at-requires : tie.Need-row-at-requires Inv-loop μ-loop
 row-at-requires c κs = omega (arith, c .before .loop .inv .within)
 
--- src/lib.rt:101:12
 precedes-requires : tie.Need-precedes-requires Inv-loop μ-loop
 precedes-requires c κs = search needs
 
--- src/lib.rt:98:5
 loop-less : tie.Need-loop-less Inv-loop μ-loop
 loop-less c = omega arith
 
--- src/lib.rt:98:5
 loop-again : tie.Need-loop-again Inv-loop μ-loop
 loop-again c = lower-half _ _ _ (c .before .before .before .before .loop .inv) (omega arith) (omega arith) (rw (← c .before .before .row-at .ensures) (sym (c .before .precedes .ensures) ∙ c .if1 .taken))
 
--- src/lib.rt:104:19
 add-low : tie.Need-add-low Inv-loop μ-loop
 add-low c = omega (arith, c .before .before .before .before .loop .inv .within)
 
--- src/lib.rt:98:5
 loop-less-2 : tie.Need-loop-less-2 Inv-loop μ-loop
 loop-less-2 c = omega arith
 
--- src/lib.rt:98:5
 loop-again-2 : tie.Need-loop-again-2 Inv-loop μ-loop
 loop-again-2 c = upper-half _ _ _ (c .before .before .before .before .loop .inv) (omega arith) (omega arith) (rw (← c .before .before .row-at .ensures) (sym (c .before .precedes .ensures) ∙ c .if1 .left))
 
--- src/lib.rt:92:1
 returns : tie.Need-returns Inv-loop μ-loop
 returns c = place-found _ _ _ (c .loop-test .left) (c .before .loop .inv)
 

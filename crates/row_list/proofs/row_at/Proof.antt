@@ -11,77 +11,59 @@ Inv-loop list i at words₀ j₀ words j = (j ≤ 4) × Read list i j words
 abbrev μ-loop : tie.MeasureT-loop
 μ-loop list i at words₀ j₀ words j = 4 - j
 
--- src/lib.rt:53:14
 mul-at : tie.Need-mul-at Inv-loop μ-loop
 mul-at c = search needs
 
--- src/lib.rt:56:5
 loop-holds : tie.Need-loop-holds Inv-loop μ-loop
 loop-holds c = (search needs, none-read _ _)
 
--- src/lib.rt:57:25
 add-words : tie.Need-add-words Inv-loop μ-loop
 add-words c = search needs
 
--- src/lib.rt:57:25
 add-words-2 : tie.Need-add-words-2 Inv-loop μ-loop
 add-words-2 c = search needs
 
--- src/lib.rt:57:20
 mul-words : tie.Need-mul-words Inv-loop μ-loop
 mul-words c = search needs
 
--- src/lib.rt:57:20
 shared-slice-read-words : tie.Need-shared-slice-read-words Inv-loop μ-loop
 shared-slice-read-words c = search needs
 
--- src/lib.rt:57:9
 mul-words-2 : tie.Need-mul-words-2 Inv-loop μ-loop
 mul-words-2 c = search needs
 
--- src/lib.rt:57:9
 array-write-words : tie.Need-array-write-words Inv-loop μ-loop
 array-write-words c = search needs
 
--- src/lib.rt:58:9
 add-j : tie.Need-add-j Inv-loop μ-loop
 add-j c = search needs
 
--- src/lib.rt:56:5
 loop-less : tie.Need-loop-less Inv-loop μ-loop
 loop-less c = search needs
 
--- src/lib.rt:56:5
 loop-again : tie.Need-loop-again Inv-loop μ-loop
 loop-again c =
     let l = c .before .before .loop in
     (omega arith, one-read _ _ (l .j) (l .words) (omega arith) (l .inv .1))
 
--- src/lib.rt:60:24
 mul-cost-of : tie.Need-mul-cost-of Inv-loop μ-loop
 mul-cost-of c = search needs
 
--- src/lib.rt:60:24
 shared-slice-read-cost-of : tie.Need-shared-slice-read-cost-of Inv-loop μ-loop
 shared-slice-read-cost-of c = search needs
 
--- src/lib.rt:60:39
 add-cost-of : tie.Need-add-cost-of Inv-loop μ-loop
 add-cost-of c = search needs
 
--- src/lib.rt:60:34
 mul-cost-of-2 : tie.Need-mul-cost-of-2 Inv-loop μ-loop
 mul-cost-of-2 c = search needs
 
--- src/lib.rt:60:34
 shared-slice-read-cost-of-2 : tie.Need-shared-slice-read-cost-of-2 Inv-loop μ-loop
 shared-slice-read-cost-of-2 c = search needs
 
--- src/lib.rt:60:9
 cost-of-requires : tie.Need-cost-of-requires Inv-loop μ-loop
 cost-of-requires c κs = search needs
 
--- src/lib.rt:49:1
 returns : tie.Need-returns Inv-loop μ-loop
 returns c = all-read _ (c .before .before .before .before .before .before .args .i) (c .before .before .before .before .loop .j) _ (c .before .before .before .loop-test .left) (c .cost-of .ensures) (c .before .before .before .before .loop .inv .1)
 

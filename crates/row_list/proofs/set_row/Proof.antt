@@ -13,87 +13,67 @@ Inv-loop list₀ i row at j₀ list j = (j ≤ 4) × Written (i * 6 + 2) j (row 
 abbrev μ-loop : tie.MeasureT-loop
 μ-loop list₀ i row at j₀ list j = 4 - j
 
--- src/lib.rt:69:14
 mul-at : tie.Need-mul-at Inv-loop μ-loop
 mul-at c = search needs
 
--- src/lib.rt:70:16
 low-word-requires : tie.Need-low-word-requires Inv-loop μ-loop
 low-word-requires c κs = search needs
 
--- src/lib.rt:70:5
 mul-list : tie.Need-mul-list Inv-loop μ-loop
 mul-list c = search needs
 
--- src/lib.rt:70:5
 slice-write-list : tie.Need-slice-write-list Inv-loop μ-loop
 slice-write-list c = search needs
 
--- src/lib.rt:71:20
 high-word-requires : tie.Need-high-word-requires Inv-loop μ-loop
 high-word-requires c κs = search needs
 
--- src/lib.rt:71:10
 add-list : tie.Need-add-list Inv-loop μ-loop
 add-list c = search needs
 
--- src/lib.rt:71:5
 mul-list-2 : tie.Need-mul-list-2 Inv-loop μ-loop
 mul-list-2 c = search needs
 
--- src/lib.rt:71:5
 slice-write-list-2 : tie.Need-slice-write-list-2 Inv-loop μ-loop
 slice-write-list-2 c = simp length-set (omega arith)
 
--- src/lib.rt:73:5
 loop-holds : tie.Need-loop-holds Inv-loop μ-loop
 loop-holds c = (search needs, none-written _ _ _)
 
--- src/lib.rt:74:28
 mul-list-3 : tie.Need-mul-list-3 Inv-loop μ-loop
 mul-list-3 c = search needs
 
--- src/lib.rt:74:28
 element-copy-out-list : tie.Need-element-copy-out-list Inv-loop μ-loop
 element-copy-out-list c = search needs
 
--- src/lib.rt:74:14
 add-list-2 : tie.Need-add-list-2 Inv-loop μ-loop
 add-list-2 c = search needs
 
--- src/lib.rt:74:14
 add-list-3 : tie.Need-add-list-3 Inv-loop μ-loop
 add-list-3 c = search needs
 
--- src/lib.rt:74:9
 mul-list-4 : tie.Need-mul-list-4 Inv-loop μ-loop
 mul-list-4 c = search needs
 
--- src/lib.rt:74:9
 slice-write-list-3 : tie.Need-slice-write-list-3 Inv-loop μ-loop
 slice-write-list-3 c =
     let l = c .before .before .loop in
     omega (arith, simp length-set at (l .inv .1 .long))
 
--- src/lib.rt:75:9
 add-j : tie.Need-add-j Inv-loop μ-loop
 add-j c = search needs
 
--- src/lib.rt:73:5
 loop-less : tie.Need-loop-less Inv-loop μ-loop
 loop-less c = search needs
 
--- src/lib.rt:73:5
 loop-again : tie.Need-loop-again Inv-loop μ-loop
 loop-again c =
     let l = c .before .before .loop in
     (omega arith, one-written _ _ _ (l .j) (l .list) (simp length-set (omega arith)) (l .inv .1))
 
--- src/lib.rt:65:1
 same-length : tie.Need-same-length Inv-loop μ-loop
 same-length c = c .before .loop .inv .1 .long ∙ simp length-set
 
--- src/lib.rt:65:1
 returns : tie.Need-returns Inv-loop μ-loop
 returns c =
     let a = c .before .before .before .before .before .args in

@@ -14,31 +14,24 @@ Inv-loop beds₀ v plain j₀ beds j = (j ≤ v) × (length beds ≡ length beds
 abbrev μ-loop : tie.MeasureT-loop
 μ-loop beds₀ v plain j₀ beds j = v - j
 
--- src/lib.rt:25:17
 beds-of-requires : tie.Need-beds-of-requires Inv-loop μ-loop
 beds-of-requires c κs = search needs
 
--- src/lib.rt:27:5
 loop-holds : tie.Need-loop-holds Inv-loop μ-loop
 loop-holds c = search needs
 
--- src/lib.rt:28:19
 array-read-beds : tie.Need-array-read-beds Inv-loop μ-loop
 array-read-beds c = search needs
 
--- src/lib.rt:28:9
 slice-write-beds : tie.Need-slice-write-beds Inv-loop μ-loop
 slice-write-beds c = search needs
 
--- src/lib.rt:29:9
 add-j : tie.Need-add-j Inv-loop μ-loop
 add-j c = search needs
 
--- src/lib.rt:27:5
 loop-less : tie.Need-loop-less Inv-loop μ-loop
 loop-less c = search needs
 
--- src/lib.rt:27:5
 loop-again : tie.Need-loop-again Inv-loop μ-loop
 loop-again c =
     let l = c .before .loop in
@@ -49,11 +42,9 @@ loop-again c =
     let e : length (take (a .v) plain) ≡ a .v = length-take-le (a .v) plain (omega arith) in
     (omega arith, simp length-set (l .inv .1), next-value (take (a .v) plain) (l .j) (l .beds) _ (omega arith) (sym (getD-take (a .v) plain (l .j) 0 (omega arith))) ∙ l .inv .2)
 
--- src/lib.rt:21:1
 same-length : tie.Need-same-length Inv-loop μ-loop
 same-length c = search needs
 
--- src/lib.rt:21:1
 returns : tie.Need-returns Inv-loop μ-loop
 returns c =
     let l = c .before .loop in

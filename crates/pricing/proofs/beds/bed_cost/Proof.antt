@@ -4,22 +4,16 @@ use Rattle.pricing.specs.Pricing.{sumIn}
 use Rattle.pricing.specs.Costs.{sum-number}
 use Rattle.pricing.proofs.beds.bed_cost.Statement.{statement}
 use Rattle.pricing.proofs.beds.bed_cost.Tie as tie
-use Rattle.pricing.proofs.beds.bed_cost.Reads as reads
-use Rattle.pricing.proofs.beds.bed_cost.Lts as lts
 
--- src/beds.rt:97:15
 mul-sum : tie.Need-mul-sum
 mul-sum c = search needs
 
--- src/beds.rt:97:15
 element-copy-out-sum : tie.Need-element-copy-out-sum
 element-copy-out-sum c = search needs
 
--- src/beds.rt:99:9
 returns : tie.Need-returns
 returns c = sym (ap sumIn (c .if1 .taken))
 
--- src/beds.rt:93:1
 returns-2 : tie.Need-returns-2
 returns-2 c = sym (sum-number _ (c .if1 .left))
 

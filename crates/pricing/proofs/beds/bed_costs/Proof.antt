@@ -4,10 +4,6 @@ use Prim.Native.Nat.{_-_}
 use Rattle.pricing.proofs.BedSums.{Sums, first-most, sums-start, sums-reads, sums-entries, sums-later, sums-next, sums-done}
 use Rattle.pricing.proofs.beds.bed_costs.Statement.{statement}
 use Rattle.pricing.proofs.beds.bed_costs.Tie as tie
-use Rattle.pricing.proofs.beds.bed_costs.Reads as reads
-use Rattle.pricing.proofs.beds.bed_costs.Lts as lts
-use Rattle.pricing.proofs.beds.add_entries.Reads as add-entries-reads
-use Rattle.pricing.proofs.entry_place.Reads as entry-place-reads
 
 abbrev Inv-loop : tie.InvT-loop
 Inv-loop sums₀ patients terms entries s count beds k₀ sums k = Sums entries patients terms s count beds sums k
@@ -15,69 +11,53 @@ Inv-loop sums₀ patients terms entries s count beds k₀ sums k = Sums entries 
 abbrev μ-loop : tie.MeasureT-loop
 μ-loop sums₀ patients terms entries s count beds k₀ sums k = 64 - k
 
--- src/beds.rt:55:26
 mul-k : tie.Need-mul-k Inv-loop μ-loop
 mul-k c = search needs
 
--- src/beds.rt:55:26
 add-k : tie.Need-add-k Inv-loop μ-loop
 add-k c = search needs
 
--- src/beds.rt:55:17
 mul-k-2 : tie.Need-mul-k-2 Inv-loop μ-loop
 mul-k-2 c = search needs
 
--- src/beds.rt:55:17
 element-copy-out-k : tie.Need-element-copy-out-k Inv-loop μ-loop
 element-copy-out-k c = search needs
 
--- src/beds.rt:55:17
 cast-k : tie.Need-cast-k Inv-loop μ-loop
 cast-k c = omega (arith, first-most (c .before .pre))
 
--- src/beds.rt:56:5
 loop-holds : tie.Need-loop-holds Inv-loop μ-loop
 loop-holds c = sums-start (c .before .pre)
 
--- src/beds.rt:57:13
 entry-place-requires : tie.Need-entry-place-requires Inv-loop μ-loop
 entry-place-requires c κs = sums-reads (c .before .before .before .pre) (c .before .loop .inv) (c .loop-test .taken)
 
--- src/beds.rt:58:9
 add-entries-requires : tie.Need-add-entries-requires Inv-loop μ-loop
 add-entries-requires c κs = sums-entries (c .before .before .before .before .before .pre) (c .before .before .before .loop .inv) (c .before .before .loop-test .taken) (c .before .entry-place .ensures)
 
--- src/beds.rt:59:19
 mul-k-3 : tie.Need-mul-k-3 Inv-loop μ-loop
 mul-k-3 c = search needs
 
--- src/beds.rt:59:19
 add-k-2 : tie.Need-add-k-2 Inv-loop μ-loop
 add-k-2 c = search needs
 
--- src/beds.rt:59:13
 mul-k-4 : tie.Need-mul-k-4 Inv-loop μ-loop
 mul-k-4 c = search needs
 
--- src/beds.rt:59:13
 element-copy-out-k-2 : tie.Need-element-copy-out-k-2 Inv-loop μ-loop
 element-copy-out-k-2 c = search needs
 
--- src/beds.rt:59:13
 cast-k-2 : tie.Need-cast-k-2 Inv-loop μ-loop
 cast-k-2 c = omega (arith, sums-later (c .before .before .before .before .before .before .before .pre) (c .before .before .before .before .before .loop .inv) (c .before .before .before .before .loop-test .taken) .1)
 
--- src/beds.rt:56:5
 loop-less : tie.Need-loop-less Inv-loop μ-loop
 loop-less c =
     let later = sums-later (c .before .before .before .before .before .before .before .pre) (c .before .before .before .before .before .loop .inv) (c .before .before .before .before .loop-test .taken) in
     omega (arith, later .0, later .1)
 
--- src/beds.rt:56:5
 loop-again : tie.Need-loop-again Inv-loop μ-loop
 loop-again c = sums-next (c .before .before .before .before .before .before .before .pre) (c .before .before .before .before .before .loop .inv) (c .before .before .before .before .loop-test .taken) (c .before .before .before .entry-place .ensures) (c .before .add-entries .ensures)
 
--- src/beds.rt:43:1
 returns : tie.Need-returns Inv-loop μ-loop
 returns c = sums-done (c .before .before .before .pre) (c .before .loop .inv) (c .loop-test .left)
 

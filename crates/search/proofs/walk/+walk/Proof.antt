@@ -4,11 +4,11 @@ use mathlib.Core.Path.{_≡_, refl, sym, ap, _∙_}
 use mathlib.Core.Logic.{⊎-elim}
 use Prim.Native.Nat.{ℕ, _<_, _-_}
 use denote.Ref.{now}
-use lib.ListN.{set, length, length-set, drop}
+use lib.ListN.{set, length, drop}
 use borrow.Author.Tests.{not-false}
 use Rattle.pricing.specs.Pricing.{costIn}
 use Rattle.patient_set.specs.Sets.{members}
-use Rattle.search.specs.Walks.{branchAt, isPast}
+use Rattle.search.specs.Walks.{branchAt}
 use Rattle.search.proofs.Steps.{few, least-most, asks-few, asks-room, asks-beds, decides, below-head, same-beds, below-bed}
 use Rattle.search.proofs.Walking.{Sofar, walk-end, sofar-start, sofar-done, bed-small, asks-next, asks-cut, sofar-skip, asks-below, sofar-walk, sofar-cut, lowest-first}
 use borrow.Fn.Kinds.{In}

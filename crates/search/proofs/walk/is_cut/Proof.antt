@@ -3,7 +3,7 @@ use native.Mathlib.Omega.{arith}
 use mathlib.Core.Path.{ap, _∙_, subst}
 use Prim.Native.Nat.{ℕ, _<_}
 use denote.Ref.{now}
-use lib.ListN.{set, length, length-set}
+use lib.ListN.{set, length-set}
 use Rattle.packed_rows.specs.Packing.{packedRow}
 use Rattle.search.proofs.Cutting.{not-full, cheaper, dearer}
 use Rattle.search.proofs.Padded.{past-cut}
