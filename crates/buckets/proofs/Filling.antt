@@ -14,15 +14,16 @@ use Rattle.partial_rows.specs.Rows.{decidedTables}
 use Rattle.partial_rows.specs.Bounds.{leastEntry}
 use Rattle.held_region.specs.declared.Table.{Table}
 use Rattle.held_region.specs.declared.Region.{Region}
-use Rattle.held_region.specs.Held.{Holds, tableAt, storeOf}
-use Rattle.held_region.specs.Outline.{outline, tableIn, membersOf}
-use Rattle.held_region.specs.Sound.{Sound}
+use Rattle.held_region.specs.Held.{tableAt}
+use Rattle.held_region.specs.Outline.{said, outline, tableIn, membersOf}
+use Rattle.held_region.specs.Asked.{outline-count, outline-patient}
+use Rattle.held_region.specs.Said.{patients-said, members-said, entry-counts-said, total-said, stands}
+use Rattle.held_region.specs.Sound.{Sound, room}
 use Rattle.held_region.specs.Entries.{countsMatch, entryTotal, counts-match}
-use Rattle.held_region.specs.Faithful.{patient-lines, total-told, sound-told, entry-counts-told}
 use Rattle.buckets.specs.Terms.{Answered, Planned, Term, Chain, Prepared, highest, bucketOf, leastIn, bedsAt, leastAt, firstAt}
 use Rattle.buckets.specs.Least.{leastNumber}
 use Rattle.buckets.specs.Places.{strideOf, stride-same}
-use Rattle.buckets.specs.Stores.{startOf, start-next, start-all, start-most}
+use Rattle.held_region.specs.Stores.{startOf, start-next, start-all, start-most}
 use Rattle.buckets.specs.Right.{in-bucket, patients-few, tables-few, entries-few, beds-few}
 use Rattle.buckets.specs.Chains.{term-right, chain-kept, chain-lower}
 use Rattle.buckets.specs.Among.{allAmong, among, answered-among, term-among}
@@ -42,32 +43,35 @@ pub record Filled (P : ℕ → Bool) (r : Said.Region) (store : List ℕ) (i sta
   pub least : (s : ℕ) → s < length (r .patients) → leastAt patients s ≡ sum (map leastEntry (bucketFrom P r i s))
   pub bucket : (s : ℕ) → s < length (r .patients) → Chain (among r P) store terms i (firstAt patients s) (bucketFrom P r i s)
 
-module _ (h : Region) (P : ℕ → Bool) (r : Said.Region) (held : Holds h r) (a : Answered r) where
+module _ (h : Region) (store : List ℕ) (P : ℕ → Bool) (a : Answered (said h store)) where
+  abbrev r : Said.Region
+  r = said h store
+
   -- No table yet.
   pub filled-none : (start : ℕ) (words terms : List ℕ) → PatientsWritten (h .patients) (h .v) words → start ≡ entryTotal (outline h)
-      → Filled P r (h .entries) (h .t) start words terms
+      → Filled P r store (h .t) start words terms
   unfolding Chain
   filled-none start words terms w total =
       record {
-        starts = total ∙ total-told h r held (a .counted) ∙ sym (start-all (r .tables)) ∙ ap (startOf (r .tables)) (held-lines h r held a);
-        beds = λ s l. w .beds s (known s l) ∙ ap (λ p. p .bedCount) (held .patients s l);
+        starts = total ∙ sym (total-said h store) ∙ sym (start-all (r .tables)) ∙ ap (startOf (r .tables)) (held-lines h store a);
+        beds = λ s l. w .beds s (known s l) ∙ ap (λ p. p .bedCount) (sym (outline-patient h store s (known s l)));
         least = λ s l. w .least s ∙ sym (ap (λ ts. sum (map leastEntry (keep (highest s) (keep (allAmong P) ts)))) none-left);
-        bucket = λ s l. subst (λ ts. Chain (among r P) (h .entries) terms (h .t) (firstAt words s) (keep (highest s) (keep (allAmong P) ts))) (sym none-left) (w .first s (known s l));
+        bucket = λ s l. subst (λ ts. Chain (among r P) store terms (h .t) (firstAt words s) (keep (highest s) (keep (allAmong P) ts))) (sym none-left) (w .first s (known s l));
       }
     where
       known : (s : ℕ) → s < length (r .patients) → s < h .v
-      known s l = omega (arith, patient-lines h r held (a .counted))
+      known s l = omega (arith, outline-count h store)
 
       none-left : drop (h .t) (r .tables) ≡ []
-      none-left = drop-of-length-le (r .tables) {i = h .t} (omega (arith, held-lines h r held a))
+      none-left = drop-of-length-le (r .tables) {i = h .t} (omega (arith, held-lines h store a))
 
   -- All tables.
-  pub filled-all : (start : ℕ) (patients terms : List ℕ) → Filled P r (h .entries) 0 start patients terms → Prepared (among r P) (h .entries) patients terms
+  pub filled-all : (start : ℕ) (patients terms : List ℕ) → Filled P r store 0 start patients terms → Prepared (among r P) store patients terms
   unfolding bucketOf leastIn decidedTables patientAt
   filled-all start patients terms f = record { answered = answered-among r P a; beds = f .beds; least = f .least; bucket = f .bucket }
 
   -- One more table.
-  module _ (i : ℕ) (l : i < h .t) (start : ℕ) (patients terms : List ℕ) (f : Filled P r (h .entries) (suc i) start patients terms) where
+  module _ (i : ℕ) (l : i < h .t) (start : ℕ) (patients terms : List ℕ) (f : Filled P r store (suc i) start patients terms) where
     abbrev table : Table
     table = tableIn h i
 
@@ -78,7 +82,7 @@ module _ (h : Region) (P : ℕ → Bool) (r : Said.Region) (held : Holds h r) (a
     from = start - table .entries
 
     start-down : start ≡ startOf (r .tables) i + table .entries
-    start-down = omega (arith, f .starts, start-next (r .tables) i (held-place h r held a i l), entries-same h r held a i l)
+    start-down = omega (arith, f .starts, start-next (r .tables) i (held-place h store a i l), entries-same h store a i l)
 
     pub start-enough : table .entries ≤ start
     start-enough = omega (arith, start-down)
@@ -86,79 +90,78 @@ module _ (h : Region) (P : ℕ → Bool) (r : Said.Region) (held : Holds h r) (a
     from-is : from ≡ startOf (r .tables) i
     from-is = omega (arith, start-down)
 
-    least-is : leastNumber (h .entries) from (from + table .entries) ≡ leastEntry t
-    least-is = ap (λ n. leastNumber (h .entries) n (n + table .entries)) from-is ∙ least-told h r held a i l
+    least-is : leastNumber store from (from + table .entries) ≡ leastEntry t
+    least-is = ap (λ n. leastNumber store n (n + table .entries)) from-is ∙ least-told h store a i l
 
     next-table : (s : ℕ) → bucketFrom P r i s
         ≡ keep (highest s) (cond (allAmong P t) (t ∷ keep (allAmong P) (drop (suc i) (r .tables))) (keep (allAmong P) (drop (suc i) (r .tables))))
-    next-table s = ap (λ ts. keep (highest s) (keep (allAmong P) ts)) (drop-cons (r .tables) i (record { members = []; entries = [] }) (held-place h r held a i l))
+    next-table s = ap (λ ts. keep (highest s) (keep (allAmong P) ts)) (drop-cons (r .tables) i (record { members = []; entries = [] }) (held-place h store a i l))
 
     member-known : (j : ℕ) → j < table .members → getD (table .first) j 0 < length (r .patients)
     member-known j m =
-        omega (arith, first-same h r held a i l j m, held-right h r held a i l .known j (omega (arith, count-same h r held a i l)))
+        omega (arith, first-same h store a i l j m, held-right h store a i l .known j (omega (arith, count-same h store a i l)))
 
-    pub term-known : length patients ≡ 96 → length terms ≡ 640 → TermKnown (h .entries) table i from patients terms
+    pub term-known : length patients ≡ 96 → length terms ≡ 640 → TermKnown store table i from patients terms
     term-known wide termsWide =
         record {
           members =
               record {
-                few = omega (arith, count-same h r held a i l, held-right h r held a i l .few);
+                few = omega (arith, count-same h store a i l, held-right h store a i l .few);
                 known = λ j m. omega (arith, member-known j m, patients-few r a);
                 small = λ j m. omega (arith, f .beds _ (member-known j m), beds-few r a _ (member-known j m));
-                term = omega (arith, held-place h r held a i l, tables-few r a);
+                term = omega (arith, held-place h store a i l, tables-few r a);
                 wide = termsWide;
               };
           wide = wide;
           last =
               record {
-                some = omega (arith, count-same h r held a i l, held-right h r held a i l .some);
-                few = omega (arith, count-same h r held a i l, held-right h r held a i l .few);
-                patient = omega (arith, last-known h r held a i l, patients-few r a);
+                some = omega (arith, count-same h store a i l, held-right h store a i l .some);
+                few = omega (arith, count-same h store a i l, held-right h store a i l .few);
+                patient = omega (arith, last-known h store a i l, patients-few r a);
               };
           inside = omega (arith, start-down, f .starts, start-most (r .tables) (suc i), entries-few r a);
           fits =
               omega (
                 arith,
                 least-is,
-                least-one h r held a i l,
-                least-fits h r held a _ (allAmong P) (suc i) _ (f .least (lastOf table) (last-known h r held a i l)),
+                least-one h store a i l,
+                least-fits h store a _ (allAmong P) (suc i) _ (f .least (lastOf table) (last-known h store a i l)),
               );
         }
 
     -- A table that is not among the patients is passed over.
-    pub filled-over : every P (t .members) ≡ false → Filled P r (h .entries) i from patients terms
+    pub filled-over : every P (t .members) ≡ false → Filled P r store i from patients terms
     filled-over out =
         record {
           starts = from-is;
           beds = f .beds;
           least = λ s m. f .least s m ∙ sym (ap (λ ts. sum (map leastEntry ts)) (over s));
           bucket = λ s m.
-              subst (λ ts. Chain (among r P) (h .entries) terms i (firstAt patients s) ts) (sym (over s))
-              (chain-lower (among r P) (h .entries) terms (suc i) i (firstAt patients s) (bucketFrom P r (suc i) s) (omega arith) (f .bucket s m));
+              subst (λ ts. Chain (among r P) store terms i (firstAt patients s) ts) (sym (over s))
+              (chain-lower (among r P) store terms (suc i) i (firstAt patients s) (bucketFrom P r (suc i) s) (omega arith) (f .bucket s m));
         }
       where
         over : (s : ℕ) → bucketFrom P r i s ≡ bucketFrom P r (suc i) s
         over s = next-table s ∙ ap (λ b. keep (highest s) (cond b (t ∷ keep (allAmong P) (drop (suc i) (r .tables))) (keep (allAmong P) (drop (suc i) (r .tables))))) out
 
-    module _ (own : every P (t .members) ≡ true) (blank : (p : ℕ) → p < suc i * 10 → getD terms p 0 ≡ 0) {counted after : List ℕ} (w : TermAdded (h .entries) table i from patients counted terms after) where
-      term-there : Term (among r P) (h .entries) after i t
+    module _ (own : every P (t .members) ≡ true) (blank : (p : ℕ) → p < suc i * 10 → getD terms p 0 ≡ 0) {counted after : List ℕ} (w : TermAdded store table i from patients counted terms after) where
+      term-there : Term (among r P) store after i t
       term-there =
-          subst (λ store. Term (among r P) store after i t) (sym (held .entries))
-          (term-among r P (storeOf (r .tables)) after i t
-          (term-right r a i (held-place h r held a i l) after (w .starts ∙ from-is)
-          (λ j m. w .members .members (λ q n. blank _ (omega arith)) j m ∙ ap (λ ms. getD ms j 0) (members-same h r held a i l))
+          (term-among r P store after i t
+          (term-right r a i (held-place h store a i l) after (w .starts ∙ from-is)
+          (λ j m. w .members .members (λ q n. blank _ (omega arith)) j m ∙ ap (λ ms. getD ms j 0) (members-same h store a i l))
           (λ j m.
-          w .members .strides (λ q n. blank _ (omega arith)) j m ∙ ap (λ ms. strideOf (bedsAt patients) ms j) (members-same h r held a i l)
-          ∙ stride-same (bedsAt patients) (λ s. patientAt r s .bedCount) (t .members) (λ q n. f .beds _ (held-right h r held a i l .known q n)) j)))
+          w .members .strides (λ q n. blank _ (omega arith)) j m ∙ ap (λ ms. strideOf (bedsAt patients) ms j) (members-same h store a i l)
+          ∙ stride-same (bedsAt patients) (λ s. patientAt r s .bedCount) (t .members) (λ q n. f .beds _ (held-right h store a i l .known q n)) j) store (stands h store)))
 
-      kept : (s : ℕ) → s < length (r .patients) → Chain (among r P) (h .entries) after (suc i) (firstAt patients s) (bucketFrom P r (suc i) s)
-      kept s m = chain-kept (among r P) (h .entries) terms after (suc i) (firstAt patients s) (bucketFrom P r (suc i) s) (λ q n. w .members .others .higher q (omega arith)) (f .bucket s m)
+      kept : (s : ℕ) → s < length (r .patients) → Chain (among r P) store after (suc i) (firstAt patients s) (bucketFrom P r (suc i) s)
+      kept s m = chain-kept (among r P) store terms after (suc i) (firstAt patients s) (bucketFrom P r (suc i) s) (λ q n. w .members .others .higher q (omega arith)) (f .bucket s m)
 
       one-more : (s : ℕ) → bucketFrom P r i s ≡ cond (eqb s (lastOf table)) (t ∷ bucketFrom P r (suc i) s) (bucketFrom P r (suc i) s)
       one-more s =
           next-table s ∙ ap (λ b. keep (highest s) (cond b (t ∷ keep (allAmong P) (drop (suc i) (r .tables))) (keep (allAmong P) (drop (suc i) (r .tables))))) own
           ∙ ap (λ b. cond b (t ∷ bucketFrom P r (suc i) s) (bucketFrom P r (suc i) s))
-          (in-bucket s t (held-right h r held a i l .some) (held-right h r held a i l .rising) ∙ ap (eqb s) (sym (last-same h r held a i l)))
+          (in-bucket s t (held-right h store a i l .some) (held-right h store a i l .rising) ∙ ap (eqb s) (sym (last-same h store a i l)))
 
       put : (s : ℕ) → s ≡ lastOf table → bucketFrom P r i s ≡ t ∷ bucketFrom P r (suc i) s
       put s e = one-more s ∙ ap (λ b. cond b (t ∷ bucketFrom P r (suc i) s) (bucketFrom P r (suc i) s)) (eq-eqb s (lastOf table) e)
@@ -169,32 +172,32 @@ module _ (h : Region) (P : ℕ → Bool) (r : Said.Region) (held : Holds h r) (a
       -- The bucket of the table's last member, and the others.
       least-last : leastAt counted (lastOf table) ≡ sum (map leastEntry (bucketFrom P r i (lastOf table)))
       least-last =
-          w .least ∙ ap₂ (λ x y. x + y) (f .least (lastOf table) (last-known h r held a i l)) least-is ∙ add-comm _ _
+          w .least ∙ ap₂ (λ x y. x + y) (f .least (lastOf table) (last-known h store a i l)) least-is ∙ add-comm _ _
           ∙ sym (ap (λ ts. sum (map leastEntry ts)) (put (lastOf table) refl))
 
-      bucket-last : Chain (among r P) (h .entries) after i (firstAt counted (lastOf table)) (bucketFrom P r i (lastOf table))
+      bucket-last : Chain (among r P) store after i (firstAt counted (lastOf table)) (bucketFrom P r i (lastOf table))
       unfolding Chain
       bucket-last =
-          subst (λ ts. Chain (among r P) (h .entries) after i (firstAt counted (lastOf table)) ts) (sym (put (lastOf table) refl))
-          (subst (λ p. Chain (among r P) (h .entries) after i p (t ∷ bucketFrom P r (suc i) (lastOf table))) (sym (w .first)) (
+          subst (λ ts. Chain (among r P) store after i (firstAt counted (lastOf table)) ts) (sym (put (lastOf table) refl))
+          (subst (λ p. Chain (among r P) store after i p (t ∷ bucketFrom P r (suc i) (lastOf table))) (sym (w .first)) (
             le-refl i,
-            omega (arith, held-place h r held a i l, tables-few r a),
+            omega (arith, held-place h store a i l, tables-few r a),
             term-there,
-            subst (λ p. Chain (among r P) (h .entries) after (suc i) p (bucketFrom P r (suc i) (lastOf table))) (sym (w .next)) (kept (lastOf table) (last-known h r held a i l)),
+            subst (λ p. Chain (among r P) store after (suc i) p (bucketFrom P r (suc i) (lastOf table))) (sym (w .next)) (kept (lastOf table) (last-known h store a i l)),
           ))
 
       least-of : (s : ℕ) → s < length (r .patients) → Dec (s ≡ lastOf table) → leastAt counted s ≡ sum (map leastEntry (bucketFrom P r i s))
       least-of s m (yes e) = rw e least-last
       least-of s m (no n) = w .otherLeast s n ∙ f .least s m ∙ sym (ap (λ ts. sum (map leastEntry ts)) (passed s n))
 
-      bucket-of : (s : ℕ) → s < length (r .patients) → Dec (s ≡ lastOf table) → Chain (among r P) (h .entries) after i (firstAt counted s) (bucketFrom P r i s)
+      bucket-of : (s : ℕ) → s < length (r .patients) → Dec (s ≡ lastOf table) → Chain (among r P) store after i (firstAt counted s) (bucketFrom P r i s)
       bucket-of s m (yes e) = rw e bucket-last
       bucket-of s m (no n) =
-          subst (λ ts. Chain (among r P) (h .entries) after i (firstAt counted s) ts) (sym (passed s n))
-          (subst (λ p. Chain (among r P) (h .entries) after i p (bucketFrom P r (suc i) s)) (sym (w .otherFirst s n))
-          (chain-lower (among r P) (h .entries) after (suc i) i (firstAt patients s) (bucketFrom P r (suc i) s) (omega arith) (kept s m)))
+          subst (λ ts. Chain (among r P) store after i (firstAt counted s) ts) (sym (passed s n))
+          (subst (λ p. Chain (among r P) store after i p (bucketFrom P r (suc i) s)) (sym (w .otherFirst s n))
+          (chain-lower (among r P) store after (suc i) i (firstAt patients s) (bucketFrom P r (suc i) s) (omega arith) (kept s m)))
 
-      pub filled-more : Filled P r (h .entries) i from counted after
+      pub filled-more : Filled P r store i from counted after
       filled-more =
           record {
             starts = from-is;
@@ -205,26 +208,31 @@ module _ (h : Region) (P : ℕ → Bool) (r : Said.Region) (held : Holds h r) (a
 
 -- ---- the loop
 
--- At place i: the terms below it are blank, and of every region that is held the tables among the patients from it on are in their buckets.
-pub record Filling (h : Region) (P : ℕ → Bool) (i start : ℕ) (patients terms : List ℕ) : Type 0 where
+-- At place i: the terms below it are blank, and the tables among the patients from it on are in their buckets.
+pub record Filling (h : Region) (store : List ℕ) (P : ℕ → Bool) (i start : ℕ) (patients terms : List ℕ) : Type 0 where
   pub wide : length patients ≡ 96
   pub termsWide : length terms ≡ 640
   pub left : i ≤ h .t
   pub few : i ≤ 64
   pub blank : (p : ℕ) → p < i * 10 → getD terms p 0 ≡ 0
-  pub each : (r : Said.Region) → Holds h r → Answered r → Filled P r (h .entries) i start patients terms
+  pub filled : Filled P (said h store) store i start patients terms
 
-module _ (h : Region) where
+module _ (h : Region) (store : List ℕ) (a : Planned h store) where
   -- What the functions that are called ask for.
-  pub sound-held : Planned h → Sound h
-  sound-held p = sound-told h (p .region) (p .holds) (p .answered .counted) (p .answered .countsFit) (p .answered .patientsFit) (p .answered .membersFit)
+  pub sound-held : Sound h
+  sound-held =
+      record {
+        fits = room h store (a .countsFit);
+        patients = sym (patients-said h store) ∙ a .patientsFit;
+        members = sym (members-said h store) ∙ a .membersFit;
+      }
 
-  pub counts-held : Planned h → countsMatch (outline h) ≡ true
-  counts-held p = counts-match (outline h) (entry-counts-told h (p .region) (p .holds) (p .answered .counted) (p .answered .membersFit) ∙ p .answered .entryCountsFit)
+  pub counts-held : countsMatch (outline h) ≡ true
+  counts-held = counts-match (outline h) (sym (entry-counts-said h store) ∙ a .entryCountsFit)
 
   module _ (P : ℕ → Bool) where
     pub filling-none : (start : ℕ) (words : List ℕ) → h .t ≤ 64
-        → PatientsWritten (h .patients) (h .v) words → start ≡ entryTotal (outline h) → Filling h P (h .t) start words (replicate 640 0)
+        → PatientsWritten (h .patients) (h .v) words → start ≡ entryTotal (outline h) → Filling h store P (h .t) start words (replicate 640 0)
     filling-none start words few w total =
         record {
           wide = w .wide;
@@ -232,16 +240,15 @@ module _ (h : Region) where
           left = omega arith;
           few = few;
           blank = λ p l. zeros 640 p;
-          each = λ r held a. filled-none h P r held a start words (replicate 640 0) w total;
+          filled = filled-none h store P a start words (replicate 640 0) w total;
         }
 
-    pub filling-all : (start i : ℕ) (patients terms : List ℕ) → i ≤ 0 → Filling h P i start patients terms
-        → (r : Said.Region) → Holds h r → Answered r → Prepared (among r P) (h .entries) patients terms
-    filling-all start i patients terms done f r held a =
+    pub filling-all : (start i : ℕ) (patients terms : List ℕ) → i ≤ 0 → Filling h store P i start patients terms → Prepared (among (said h store) P) store patients terms
+    filling-all start i patients terms done f =
         let none-left : i ≡ 0 = omega arith in
-        filled-all h P r held a start patients terms (rw none-left at (f .each r held a))
+        filled-all h store P a start patients terms (rw none-left at (f .filled))
 
-    module _ (i start : ℕ) (patients terms : List ℕ) (more : 0 < i) (f : Filling h P i start patients terms) where
+    module _ (i start : ℕ) (patients terms : List ℕ) (more : 0 < i) (f : Filling h store P i start patients terms) where
       abbrev k : ℕ
       k = i - 1
 
@@ -251,21 +258,20 @@ module _ (h : Region) where
       next-place : i ≡ suc k
       next-place = omega arith
 
-      filled : (r : Said.Region) → Holds h r → Answered r → Filled P r (h .entries) (suc k) start patients terms
-      filled r held a = subst (λ n. Filled P r (h .entries) n start patients terms) next-place (f .each r held a)
+      filled-next : Filled P (said h store) store (suc k) start patients terms
+      filled-next = subst (λ n. Filled P (said h store) store n start patients terms) next-place (f .filled)
 
-      pub filling-start : Planned h → tableIn h k .entries ≤ start
-      filling-start p = start-enough h P (p .region) (p .holds) (p .answered) k filling-place start patients terms (filled (p .region) (p .holds) (p .answered))
+      pub filling-start : tableIn h k .entries ≤ start
+      filling-start = start-enough h store P a k filling-place start patients terms filled-next
 
-      pub filling-known : Planned h → TermKnown (h .entries) (tableIn h k) k (start - tableIn h k .entries) patients terms
-      filling-known p =
-          term-known h P (p .region) (p .holds) (p .answered) k filling-place start patients terms (filled (p .region) (p .holds) (p .answered)) (f .wide) (f .termsWide)
+      pub filling-known : TermKnown store (tableIn h k) k (start - tableIn h k .entries) patients terms
+      filling-known = term-known h store P a k filling-place start patients terms filled-next (f .wide) (f .termsWide)
 
       -- The test of the held table is that of the table said.
-      said : (r : Said.Region) → Holds h r → Answered r → {b : Bool} → b ≡ every P (membersOf (tableIn h k)) → every P (tableAt r k .members) ≡ b
-      said r held a e = sym (e ∙ ap (every P) (members-same h r held a k filling-place))
+      asked-said : {b : Bool} → b ≡ every P (membersOf (tableIn h k)) → every P (tableAt (said h store) k .members) ≡ b
+      asked-said e = sym (e ∙ ap (every P) (members-same h store a k filling-place))
 
-      pub filling-over : {b : Bool} → b ≡ every P (membersOf (tableIn h k)) → b ≡ false → Filling h P k (start - tableIn h k .entries) patients terms
+      pub filling-over : {b : Bool} → b ≡ every P (membersOf (tableIn h k)) → b ≡ false → Filling h store P k (start - tableIn h k .entries) patients terms
       filling-over e out =
           record {
             wide = f .wide;
@@ -273,12 +279,12 @@ module _ (h : Region) where
             left = omega (arith, f .left);
             few = omega (arith, f .few);
             blank = λ p l. f .blank p (omega arith);
-            each = λ r held a. filled-over h P r held a k filling-place start patients terms (filled r held a) (said r held a e ∙ out);
+            filled = filled-over h store P a k filling-place start patients terms filled-next (asked-said e ∙ out);
           }
 
       pub filling-more : {b : Bool} → b ≡ every P (membersOf (tableIn h k)) → b ≡ true → {counted after : List ℕ}
-          → TermAdded (h .entries) (tableIn h k) k (start - tableIn h k .entries) patients counted terms after
-          → Filling h P k (start - tableIn h k .entries) counted after
+          → TermAdded store (tableIn h k) k (start - tableIn h k .entries) patients counted terms after
+          → Filling h store P k (start - tableIn h k .entries) counted after
       filling-more e own {counted} {after} w =
           record {
             wide = w .wide;
@@ -286,5 +292,5 @@ module _ (h : Region) where
             left = omega (arith, f .left);
             few = omega (arith, f .few);
             blank = λ p l. w .members .others .lower p l ∙ f .blank p (omega arith);
-            each = λ r held a. filled-more h P r held a k filling-place start patients terms (filled r held a) (said r held a e ∙ own) (λ p l. f .blank p (omega arith)) w;
+            filled = filled-more h store P a k filling-place start patients terms filled-next (asked-said e ∙ own) (λ p l. f .blank p (omega arith)) w;
           }

@@ -3,7 +3,7 @@ use mathlib.Core.Path.{_≡_, sym, ap, _∙_}
 use Prim.Native.Nat.{_≤_}
 use native.Mathlib.Omega.{arith}
 use borrow.Author.Tests.{lt-ltb}
-use lib.ListN.{drop, length-drop, length-replicate}
+use lib.ListN.{drop, length-drop}
 use Rattle.definitions.specs.Basics.{ℕ, zero, suc, _+_, _-_, _*_, _<_, refl, Bool, true, false, cond, Option, none, some, Option·getD, noneOr, List, [], _∷_, map, length, getD, ltb, sum, every, keep}
 use Rattle.definitions.specs.Limits.{limits, within, entry}
 use Rattle.definitions.specs.Questions.{entriesWithin}
@@ -15,14 +15,14 @@ use Rattle.patient_set.specs.Lists.{length-keep, every-keep}
 use Rattle.partial_rows.specs.Bounds.{smaller, leastOf, leastEntry}
 use Rattle.held_region.specs.declared.Table.{Table}
 use Rattle.held_region.specs.declared.Region.{Region}
-use Rattle.held_region.specs.Held.{Holds, HoldsTable, noTable, mark, tableAt, storeOf}
-use Rattle.held_region.specs.Outline.{tableIn, membersOf}
+use Rattle.held_region.specs.Held.{mark, tableAt}
+use Rattle.held_region.specs.Outline.{said, tableIn, membersOf}
+use Rattle.held_region.specs.Said.{tables-count, members-of, entries-of, stands}
 use Rattle.held_region.specs.Places.{length-by-places, at-place}
-use Rattle.held_region.specs.Faithful.{table-lines, members-told, entries-counted}
 use Rattle.buckets.specs.Terms.{Answered}
 use Rattle.buckets.specs.Least.{leastNumber, least-of-entries}
-use Rattle.buckets.specs.Stores.{startOf, stored-at}
-use Rattle.buckets.specs.Right.{TableRight, table-right, entries-few, tables-few}
+use Rattle.held_region.specs.Stores.{startOf}
+use Rattle.buckets.specs.Right.{TableRight, table-right, tables-few}
 use Rattle.buckets.specs.Written.{lastOf}
 
 -- ---- least numbers
@@ -64,9 +64,12 @@ every-drop p (suc i) (x ∷ l) all = every-drop p i l (both (p x) all .1)
 
 -- ---- a held table
 
-module _ (h : Region) (r : Said.Region) (holds : Holds h r) (a : Answered r) where
+module _ (h : Region) (store : List ℕ) (a : Answered (said h store)) where
+  abbrev r : Said.Region
+  r = said h store
+
   pub held-lines : length (r .tables) ≡ h .t
-  held-lines = table-lines h r holds (a .counted)
+  held-lines = tables-count h store
 
   -- The sum of some tables' least numbers, and one more, fits.
   pub least-fits : (f g : Said.Table → Bool) (i n : ℕ) → n ≡ sum (map leastEntry (keep f (keep g (drop i (r .tables))))) → n ≤ 64_000_000
@@ -94,14 +97,11 @@ module _ (h : Region) (r : Said.Region) (holds : Holds h r) (a : Answered r) whe
     pub held-right : TableRight r t
     held-right = table-right r a i held-place
 
-    holds-table : HoldsTable (getD (h .tables) i noTable) t
-    holds-table = holds .tables i held-place
-
     pub members-same : membersOf table ≡ t .members
-    members-same = members-told h t i holds-table (held-right .few)
+    members-same = members-of h store i l
 
     pub entries-same : table .entries ≡ length (t .entries)
-    entries-same = sym (length-replicate (table .entries) none) ∙ entries-counted h t i holds-table
+    entries-same = entries-of h store i l
 
     pub count-same : table .members ≡ length (t .members)
     count-same = sym (length-by-places (λ j. getD (table .first) j 0) 0 (table .members)) ∙ ap length members-same
@@ -115,12 +115,11 @@ module _ (h : Region) (r : Said.Region) (holds : Holds h r) (a : Answered r) whe
     pub last-known : lastOf table < length (r .patients)
     last-known = omega (arith, last-same, held-right .known (length (t .members) - 1) (omega (arith, held-right .some)))
 
-    pub least-told : leastNumber (h .entries) (startOf (r .tables) i) (startOf (r .tables) i + table .entries) ≡ leastEntry t
+    pub least-told : leastNumber store (startOf (r .tables) i) (startOf (r .tables) i + table .entries) ≡ leastEntry t
     unfolding leastEntry
     least-told =
-        ap (λ n. leastNumber (h .entries) (startOf (r .tables) i) (startOf (r .tables) i + n)) entries-same
-        ∙ ap (λ store. leastNumber store (startOf (r .tables) i) (startOf (r .tables) i + length (t .entries))) (holds .entries)
-        ∙ least-of-entries (storeOf (r .tables)) (startOf (r .tables) i) (t .entries) (λ q m. stored-at (r .tables) i q (entries-few r a) held-place m)
+        ap (λ n. leastNumber store (startOf (r .tables) i) (startOf (r .tables) i + n)) entries-same
+        ∙ least-of-entries store (startOf (r .tables) i) (t .entries) (λ q m. stands h store i q held-place m)
         (every-weaken (noneOr (within entry)) (noneOr (λ n. ltb n mark)) below-mark (t .entries) (held-right .within))
 
     pub least-one : leastEntry t ≤ 1_000_000

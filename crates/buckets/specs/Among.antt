@@ -14,7 +14,7 @@ use Rattle.patient_set.specs.Lists.{keep-all, length-keep, every-keep, every-we
 use Rattle.patient_set.specs.Laws.{member, members-full}
 use Rattle.held_region.specs.Sets.{none-left}
 use Rattle.buckets.specs.Terms.{Answered, Term, Prepared}
-use Rattle.buckets.specs.Stores.{entriesOf}
+use Rattle.held_region.specs.Stores.{entriesOf}
 use Rattle.buckets.specs.Right.{patients-counted, patients-few, tables-few, entries-few}
 
 -- Are all members of a table among some patients?

@@ -9,10 +9,10 @@ use lib.ListN.{set, List·getD-eq-default}
 use Rattle.definitions.specs.Basics.{ℕ, zero, suc, _+_, _-_, _*_, _<_, _≡_, refl, true, List, [], _∷_, map, length, getD, numbersFrom, sum, product}
 use Rattle.definitions.specs.Syntax.{Table, Region, patientAt}
 use Rattle.definitions.specs.Plans.{Plan, bedOf, entryFor}
-use Rattle.held_region.specs.Held.{tableAt, storeOf}
+use Rattle.held_region.specs.Held.{tableAt}
 use Rattle.buckets.specs.Terms.{Answered, Fitting, highest, startAt, nextAt, memberAt, strideAt, placeAt, Term, Chain}
 use Rattle.buckets.specs.Places.{strideOf, placeOf, place-strides, place-bound, place-last}
-use Rattle.buckets.specs.Stores.{startOf, start-next, start-most, stored-at}
+use Rattle.held_region.specs.Stores.{startOf, start-next, start-most, Stands}
 use Rattle.buckets.specs.Right.{TableRight, table-right, patients-few, entries-few, beds-some, in-bucket, entry-small}
 
 sum-same : (f g : ℕ → ℕ) (a n : ℕ) → ((j : ℕ) → j < a + n → f j ≡ g j) → sum (map f (numbersFrom a n)) ≡ sum (map g (numbersFrom a n))
@@ -61,15 +61,15 @@ module _ (r : Region) (a : Answered r) (i : ℕ) (h : i < length (r .tables)) (t
     bounded : (plan : Plan) → Fitting r plan → placeOf count (bedOf plan) (t .members) < length (t .entries)
     bounded plan fits = omega (arith, right .counted, place-bound count (bedOf plan) (t .members) (λ j l. fits _ (right .known j l)))
 
-    pub term-right : Term r (storeOf (r .tables)) terms i t
+    pub term-right : (store : List ℕ) → Stands store (r .tables) → Term r store terms i t
     unfolding entryFor
-    term-right =
+    term-right store stands =
         record {
           known = λ j l. omega (arith, members j l, member-small j (decLt j (length (t .members))));
           near = λ j l. omega (arith, strides j l, stride-most count (t .members) (λ q m. beds-some r a _ (right .known q m)) j, right .counted, ends);
           starts = omega (arith, starts, ends);
           inside = λ plan fits. omega (arith, places plan, bounded plan fits, ends);
-          finds = λ plan fits. ap (λ n. getD (storeOf (r .tables)) n 0) (places plan) ∙ stored-at (r .tables) i _ (entries-few r a) h (bounded plan fits);
+          finds = λ plan fits. ap (λ n. getD store n 0) (places plan) ∙ stands i _ h (bounded plan fits);
           small = λ plan e is. entry-small (t .entries) (right .within) _ e is;
           beside = λ s bed plan top inside. omega (arith, places (set plan s bed), places plan, place-last count plan (t .members) bed (right .some) (right .rising) (top-last s top) inside);
         }

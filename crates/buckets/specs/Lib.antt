@@ -2,7 +2,6 @@ pub mod Terms
 pub mod Places
 pub mod Least
 pub mod Written
-pub mod Stores
 pub mod Right
 pub mod Chains
 pub mod Among

@@ -15,7 +15,7 @@ use Rattle.theorems.specs.Accepted.{at-least, at-most}
 use Rattle.partial_rows.specs.Sets.{only}
 use Rattle.held_region.specs.Held.{tableAt}
 use Rattle.buckets.specs.Terms.{Answered, Fitting, highest}
-use Rattle.buckets.specs.Stores.{entriesOf}
+use Rattle.held_region.specs.Stores.{entriesOf}
 
 -- What questions 7 to 9 say of a table.
 pub record TableRight (r : Region) (t : Table) : Type 0 where

@@ -9,7 +9,8 @@ use Rattle.partial_rows.specs.Sets.{only}
 use Rattle.partial_rows.specs.Rows.{holds, decidedTables}
 use Rattle.partial_rows.specs.Bounds.{leastEntry}
 use Rattle.held_region.specs.declared.Region as Code
-use Rattle.held_region.specs.Held.{Holds, codeOf}
+use Rattle.held_region.specs.Held.{codeOf}
+use Rattle.held_region.specs.Outline.{said}
 
 -- Questions 3 and 5 to 10 are answered yes.
 pub record Answered (r : Region) : Type 0 where
@@ -22,11 +23,9 @@ pub record Answered (r : Region) : Type 0 where
   pub entriesFit : entriesWithin r ≡ true
   pub related : membersRelated r ≡ true
 
--- A held region that can be planned: it holds what a file says whose questions are answered yes.
-pub record Planned (h : Code.Region) : Type 0 where
-  pub region : Region
-  pub holds : Holds h region
-  pub answered : Answered region
+-- A held region and a store that can be planned: questions 3 and 5 to 10 of what they say are answered yes.
+abbrev pub Planned : Code.Region → List ℕ → Type 0
+Planned h store = Answered (said h store)
 
 -- A plan with each bed below its patient's count.
 abbrev pub Fitting : Region → Plan → Type 0

@@ -8,14 +8,12 @@ use patient_set::PatientSet;
 use region_sets::member_set;
 ghost use mathlib.Core.Path.{_≡_};
 ghost use Prim.Native.Nat.{_≤_, _<_};
-ghost use Rattle.definitions.specs.Syntax as Said;
 ghost use Rattle.definitions.specs.Basics.{every, contains};
 ghost use Rattle.patient_set.specs.Sets.{members};
-ghost use Rattle.held_region.specs.Held.{Holds};
-ghost use Rattle.held_region.specs.Outline.{membersOf};
+ghost use Rattle.held_region.specs.Outline.{membersOf, said};
 ghost use Rattle.held_region.specs.Related as Related;
 ghost use Rattle.buckets.specs.Among.{among};
-ghost use Rattle.buckets.specs.Terms.{Answered, Planned, Prepared};
+ghost use Rattle.buckets.specs.Terms.{Planned, Prepared};
 ghost use Rattle.buckets.specs.Least.{leastNumber};
 ghost use Rattle.buckets.specs.Written.{PatientsWritten, MembersKnown, MembersWritten, LastKnown, lastOf, TermKnown, TermAdded};
 
@@ -119,9 +117,9 @@ fn is_among(table: Table, of: PatientSet) -> bool
 
 // Every table among the patients of a set as a term in the bucket of its highest member.
 // From the last table on, so that each bucket has the order of the file.
-pub fn prepare_within(region: Region, of: PatientSet) -> Buckets
-    requires { ⌜ Planned region ⌝ }
-    ensures { λ b. ⌜ ((r : Said.Region) → Holds region r → Answered r → Prepared (among r (contains (members (of .0)))) (region .entries) (b .patients) (b .terms)) ⌝ }
+pub fn prepare_within(region: Region, store: &[u32; 4096], of: PatientSet) -> Buckets
+    requires { ⌜ Planned region (now store) ⌝ }
+    ensures { λ b. ⌜ Prepared (among (said region (now (store .entry))) (contains (members (of .0)))) (now (store .entry)) (b .patients) (b .terms) ⌝ }
 {
     let held = region.patients;
     let mut patients = patient_words(held, region.v);
@@ -133,7 +131,7 @@ pub fn prepare_within(region: Region, of: PatientSet) -> Buckets
         let table = region.tables[i];
         start -= table.entries;
         if is_among(table, of) {
-            add_term(&mut patients, &mut terms, &region.entries, table, i, start);
+            add_term(&mut patients, &mut terms, store, table, i, start);
         }
     }
     Buckets {
@@ -143,9 +141,9 @@ pub fn prepare_within(region: Region, of: PatientSet) -> Buckets
 }
 
 // Every table as a term.
-pub fn prepare(region: Region) -> Buckets
-    requires { ⌜ Planned region ⌝ }
-    ensures { λ b. ⌜ ((r : Said.Region) → Holds region r → Answered r → Prepared r (region .entries) (b .patients) (b .terms)) ⌝ }
+pub fn prepare(region: Region, store: &[u32; 4096]) -> Buckets
+    requires { ⌜ Planned region (now store) ⌝ }
+    ensures { λ b. ⌜ Prepared (said region (now (store .entry))) (now (store .entry)) (b .patients) (b .terms) ⌝ }
 {
-    prepare_within(region, PatientSet::FULL)
+    prepare_within(region, store, PatientSet::FULL)
 }

@@ -5,17 +5,16 @@ use native.Mathlib.Decide.{decLt}
 use native.Mathlib.Omega.{arith}
 use lib.ListN.{set}
 use lib.Seq.{getD-set-same, getD-set-other}
-use Rattle.definitions.specs.Basics.{ℕ, _+_, _<_, true, Option, none, some, List, length, getD}
+use Rattle.definitions.specs.Basics.{ℕ, _+_, _<_, true, Option, none, some, List, [], length, getD}
 use Rattle.definitions.specs.Syntax as Said
 use Rattle.definitions.specs.Syntax.{patientAt}
 use Rattle.definitions.specs.Questions.{parentsSmaller}
 use Rattle.partial_rows.specs.Trees.{rootOf}
 use Rattle.held_region.specs.declared.Region.{Region}
-use Rattle.held_region.specs.Held.{Holds, parentOf}
-use Rattle.held_region.specs.Outline.{patientIn}
+use Rattle.held_region.specs.Held.{parentOf}
+use Rattle.held_region.specs.Outline.{outline, Fits, patientIn}
+use Rattle.held_region.specs.Asked.{outline-patient}
 use Rattle.held_region.specs.Ancestors.{parent-below, ancestors-root, ancestors-next}
-use Rattle.held_region.specs.Faithful.{patient-lines, fits-told}
-use Rattle.buckets.specs.Terms.{Answered, Planned}
 use Rattle.forest.specs.Trees.{rootFrom}
 
 -- A root's root is itself; any other patient has its parent's.
@@ -28,38 +27,34 @@ module _ (r : Said.Region) (smaller : parentsSmaller r ≡ true) where
   unfolding rootOf
   root-next s p e = rw (ancestors-next r smaller s p e) refl
 
--- There is room for all patients.
-pub few-patients : (h : Region) → Planned h → h .v ≤ 32
-few-patients h planned = fits-told h (planned .region) (planned .holds) (planned .answered .counted) (planned .answered .countsFit) .patients
-
--- The first n numbers are roots, whatever is held.
+-- The first n numbers are roots.
 abbrev pub RootedTo : Region → ℕ → List ℕ → Type 0
-RootedTo h n roots = (r : Said.Region) → Holds h r → Answered r → (s : ℕ) → s < n → getD roots s 0 ≡ rootOf r s
+RootedTo h n roots = (s : ℕ) → s < n → getD roots s 0 ≡ rootOf (outline h) s
 
-module _ (h : Region) (s : ℕ) (l : s < h .v) where
+module _ (h : Region) (pre : (Fits h) × (parentsSmaller (outline h) ≡ true)) (s : ℕ) (l : s < h .v) where
   abbrev parent : Option ℕ
   parent = parentOf (patientIn h s .parent)
 
-  said : (r : Said.Region) → Holds h r → Answered r → patientAt r s .parent ≡ parent
-  said r holds answered = ap (λ p. p .parent) (sym (holds .patients s (omega (arith, patient-lines h r holds (answered .counted)))))
+  own-parent : patientAt (outline h) s .parent ≡ parent
+  own-parent = ap (λ p. p .parent) (outline-patient h [] s l)
 
-  pub parent-known : Planned h → (p : ℕ) → parent ≡ some p → p < 32
-  parent-known planned p e =
-      let below = parent-below (planned .region) (planned .answered .parentsFit) s p (said (planned .region) (planned .holds) (planned .answered) ∙ e) in
-      omega (arith, below .1, few-patients h planned)
+  pub parent-known : (p : ℕ) → parent ≡ some p → p < 32
+  parent-known p e =
+      let below = parent-below (outline h) (pre .1) s p (own-parent ∙ e) in
+      omega (arith, below .1, pre .0 .patients)
 
   -- One patient more.
   pub rooted-more : (roots : List ℕ) (root : ℕ) → s < length roots → root ≡ rootFrom roots s parent → RootedTo h s roots → RootedTo h (s + 1) (set roots s root)
-  rooted-more roots root room is rooted r holds answered j m = go (decLt j s)
+  rooted-more roots root room is rooted j m = go (decLt j s)
     where
-      own : (o : Option ℕ) → parent ≡ o → rootFrom roots s o ≡ rootOf r s
-      own none e = sym (root-itself r (answered .parentsFit) s (said r holds answered ∙ e))
+      own : (o : Option ℕ) → parent ≡ o → rootFrom roots s o ≡ rootOf (outline h) s
+      own none e = sym (root-itself (outline h) (pre .1) s (own-parent ∙ e))
       own (some p) e =
-          let up : patientAt r s .parent ≡ some p = said r holds answered ∙ e in
-          rooted r holds answered p (parent-below r (answered .parentsFit) s p up .1) ∙ sym (root-next r (answered .parentsFit) s p up)
+          let up : patientAt (outline h) s .parent ≡ some p = own-parent ∙ e in
+          rooted p (parent-below (outline h) (pre .1) s p up .1) ∙ sym (root-next (outline h) (pre .1) s p up)
 
-      go : Dec (j < s) → getD (set roots s root) j 0 ≡ rootOf r j
-      go (yes n) = getD-set-other roots s j root 0 (λ e. omega arith) ∙ rooted r holds answered j n
+      go : Dec (j < s) → getD (set roots s root) j 0 ≡ rootOf (outline h) j
+      go (yes n) = getD-set-other roots s j root 0 (λ e. omega arith) ∙ rooted j n
       go (no n) =
           let same : j ≡ s = omega arith in
-          ap (λ k. getD (set roots s root) k 0) same ∙ getD-set-same roots s root 0 room ∙ is ∙ own parent refl ∙ ap (rootOf r) (sym same)
+          ap (λ k. getD (set roots s root) k 0) same ∙ getD-set-same roots s root 0 room ∙ is ∙ own parent refl ∙ ap (rootOf (outline h)) (sym same)

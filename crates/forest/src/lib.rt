@@ -4,11 +4,11 @@ use held_region::Region;
 use patient_set::PatientSet;
 ghost use mathlib.Core.Path.{_≡_};
 ghost use Prim.Native.Nat.{ℕ, _<_, _≤_};
-ghost use Rattle.definitions.specs.Basics.{some, _&&_, eqb, ltb, getD};
-ghost use Rattle.definitions.specs.Syntax as Said;
+ghost use Rattle.definitions.specs.Basics.{true, some, _&&_, eqb, ltb, getD};
+ghost use Rattle.definitions.specs.Questions.{parentsSmaller};
 ghost use Rattle.patient_set.specs.Sets.{inSet};
-ghost use Rattle.held_region.specs.Held.{Holds, parentOf};
-ghost use Rattle.buckets.specs.Terms.{Answered, Planned};
+ghost use Rattle.held_region.specs.Held.{parentOf};
+ghost use Rattle.held_region.specs.Outline.{outline, Fits};
 ghost use Rattle.forest.specs.Trees.{Rooted, rootFrom};
 
 // The root of patient s, who has this parent: its own number, or its parent's root.
@@ -27,8 +27,8 @@ fn root_number(roots: [u32; 32], s: usize, parent: Parent) -> u32
 
 // The root of each patient. A parent's number is smaller, so its root is known first.
 pub fn root_numbers(region: Region) -> [u32; 32]
-    requires { ⌜ Planned region ⌝ }
-    ensures { λ roots. ⌜ ((r : Said.Region) → Holds region r → Answered r → Rooted r roots) ⌝ }
+    requires { ⌜ (Fits region) × (parentsSmaller (outline region) ≡ true) ⌝ }
+    ensures { λ roots. ⌜ Rooted (outline region) roots ⌝ }
 {
     let mut roots = [0u32; 32];
     let mut s = 0;

@@ -4,10 +4,9 @@ use mathlib.Core.Bool.{and-eq-true-iff}
 use Prim.Native.Nat.{_≤_}
 use native.Mathlib.Nat.{le-trans, mul-le-mul, pow-zero, pow-succ', pow-le-pow-right, zero-lt-suc}
 use native.Mathlib.Omega.{arith}
-use lib.ListN.{length-replicate}
 use borrow.Author.Tests.{ltb-true, leb-true, le-leb, eqb-true}
 use Rattle.patient_set.specs.Lists.{every-weaker}
-use Rattle.definitions.specs.Basics.{ℕ, _<_, _*_, _^_, Bool, true, _||_, none, List, [], _∷_, map, length, getD, eqb, leb, ltb, sum, product, below, every}
+use Rattle.definitions.specs.Basics.{ℕ, _<_, _*_, _^_, Bool, true, _||_, List, [], _∷_, map, length, getD, eqb, leb, ltb, sum, product, below, every}
 use Rattle.definitions.specs.Limits.{limits, within, entry, entryCount}
 use Rattle.definitions.specs.Syntax as Said
 use Rattle.definitions.specs.Syntax.{bedCounts}
@@ -17,8 +16,8 @@ use Rattle.held_region.specs.declared.Table.{Table}
 use Rattle.held_region.specs.declared.Region.{Region}
 use Rattle.held_region.specs.Held.{mark}
 use Rattle.held_region.specs.Limits.{within-most}
-use Rattle.held_region.specs.Outline.{outline, tableIn, tableOf, membersOf}
-use Rattle.held_region.specs.Places.{every-map, every-place, same-maps, same-tests}
+use Rattle.held_region.specs.Outline.{said, outline, tableIn, tableSaid, membersOf}
+use Rattle.held_region.specs.Places.{length-by-places, every-map, every-place, same-maps, same-tests}
 use Rattle.held_region.specs.Asked.{outline-patient, outline-tables}
 use Rattle.held_region.specs.Sound.{Sound, bedsIn, beds-most, members-fit, members-few, members-held, member-below}
 
@@ -57,6 +56,16 @@ product-most k f (x ∷ l) all =
     let parts = and-eq-true-iff (leb (f x) k) (every (λ y. leb (f y) k) l) .0 all in
     subst⁻¹ (λ n. f x * product (map f l) ≤ n) (pow-succ' k (length l)) (mul-le-mul (leb-true (f x) k (parts .0)) (product-most k f l (parts .1)))
 
+-- A table has as many entries as are counted, whatever the store says.
+pub entries-count : (h : Region) (store : List ℕ) (i : ℕ) → length (tableSaid h store i .entries) ≡ tableIn h i .entries
+entries-count h store i = length-by-places _ 0 (tableIn h i .entries)
+
+pub counts-by-places : (h : Region) (store : List ℕ) → countsMatch (said h store) ≡ every (λ i. eqb (tableIn h i .entries) (product (bedCounts (said h store) (membersOf (tableIn h i))))) (below (h .t))
+counts-by-places h store =
+    ap (every (λ t. eqb (length (t .entries)) (product (bedCounts (said h store) (t .members))))) (outline-tables h store)
+    ∙ every-map (λ t. eqb (length (t .entries)) (product (bedCounts (said h store) (t .members)))) (tableSaid h store) (below (h .t))
+    ∙ same-tests _ _ (h .t) (λ i l. ap (λ n. eqb n (product (bedCounts (said h store) (membersOf (tableIn h i))))) (entries-count h store i))
+
 module _ (h : Region) (sound : Sound h) where
   module _ (i : ℕ) (l : i < h .t) where
     abbrev table : Table
@@ -73,7 +82,7 @@ module _ (h : Region) (sound : Sound h) where
     -- The outline has the bed counts that are read.
     same-beds : bedCounts (outline h) (membersOf table) ≡ map (bedsIn (h .patients)) (membersOf table)
     same-beds =
-        same-maps (λ s. ltb s (h .v)) _ _ (λ s m. ap (λ p. p .bedCount) (outline-patient h s (ltb-true s (h .v) m))) (membersOf table) (members-fit h sound i l .1)
+        same-maps (λ s. ltb s (h .v)) _ _ (λ s m. ap (λ p. p .bedCount) (outline-patient h [] s (ltb-true s (h .v) m))) (membersOf table) (members-fit h sound i l .1)
 
     product-small : product (map (bedsIn (h .patients)) (membersOf table)) ≤ 65_536
     product-small =
@@ -83,22 +92,16 @@ module _ (h : Region) (sound : Sound h) where
         (pow-le-pow-right (zero-lt-suc 15) (members-few h sound i l))
 
   pub counts-asked : countsMatch (outline h) ≡ every (λ i. eqb (tableIn h i .entries) (product (map (bedsIn (h .patients)) (membersOf (tableIn h i))))) (below (h .t))
-  counts-asked =
-      outline-counts ∙ same-tests _ _ (h .t) (λ i l. ap₂ (λ n beds. eqb n (product beds)) (length-replicate (tableIn h i .entries) none) (same-beds i l))
-    where
-      outline-counts : countsMatch (outline h) ≡ every (λ i. eqb (length (tableOf (tableIn h i) .entries)) (product (bedCounts (outline h) (membersOf (tableIn h i))))) (below (h .t))
-      outline-counts =
-          ap (every (λ t. eqb (length (t .entries)) (product (bedCounts (outline h) (t .members))))) (outline-tables h)
-          ∙ every-map (λ t. eqb (length (t .entries)) (product (bedCounts (outline h) (t .members)))) (λ i. tableOf (tableIn h i)) (below (h .t))
+  counts-asked = counts-by-places h [] ∙ same-tests _ _ (h .t) (λ i l. ap (λ beds. eqb (tableIn h i .entries) (product beds)) (same-beds i l))
 
   pub entries-most : countsMatch (outline h) ≡ true → (i : ℕ) → i < h .t → tableIn h i .entries ≤ 65_536
   entries-most match i l =
       let equal = eqb-true (tableIn h i .entries) (product (map (bedsIn (h .patients)) (membersOf (tableIn h i)))) (every-place _ (h .t) i (sym counts-asked ∙ match) l) in
       omega (arith, product-small i l)
 
-pub total-asked : (h : Region) → entryTotal (outline h) ≡ sum (map (λ i. tableIn h i .entries) (below (h .t)))
-total-asked h = ap (λ l. sum (map (λ t. length (t .entries)) l)) (outline-tables h) ∙ ap sum (counted (below (h .t)))
+pub total-asked : (h : Region) (store : List ℕ) → entryTotal (said h store) ≡ sum (map (λ i. tableIn h i .entries) (below (h .t)))
+total-asked h store = ap (λ l. sum (map (λ t. length (t .entries)) l)) (outline-tables h store) ∙ ap sum (counted (below (h .t)))
   where
-    counted : (l : List ℕ) → map (λ t. length (t .entries)) (map (λ i. tableOf (tableIn h i)) l) ≡ map (λ i. tableIn h i .entries) l
+    counted : (l : List ℕ) → map (λ t. length (t .entries)) (map (tableSaid h store) l) ≡ map (λ i. tableIn h i .entries) l
     counted [] = refl
-    counted (i ∷ l) = ap₂ (λ n ns. n ∷ ns) (length-replicate (tableIn h i .entries) none) (counted l)
+    counted (i ∷ l) = ap₂ (λ n ns. n ∷ ns) (entries-count h store i) (counted l)

@@ -1,5 +1,5 @@
 -- When a held region holds what a file says.
-use Rattle.definitions.specs.Basics.{ℕ, _<_, _≡_, Option, none, some, List, [], _++_, map, flatMap, length, getD, take, replicate}
+use Rattle.definitions.specs.Basics.{ℕ, _<_, _≡_, Option, none, some, List, [], map, flatMap, length, getD, take, replicate}
 use Rattle.definitions.specs.Syntax as Said
 use Rattle.held_region.specs.declared.Parent.{Parent}
 use Rattle.held_region.specs.declared.Parent.the-variants.{Root, Of}
@@ -33,16 +33,16 @@ abbrev pub codeOf : Option ℕ → ℕ
 codeOf none = mark
 codeOf (some e) = e
 
--- The store before any table is read. (Shut, so that no statement is written out.)
-unfoldable pub blankStore : List ℕ
-blankStore = replicate 4096 mark
-
 abbrev pub blankRegion : Region
-blankRegion = record { v = 0; t = 0; m = 0; patients = replicate 32 noPatient; tables = replicate 64 noTable; entries = blankStore }
+blankRegion = record { v = 0; t = 0; m = 0; patients = replicate 32 noPatient; tables = replicate 64 noTable }
 
--- The store of some tables: their entries one after the other, as far as they go, and forbidden ones after them.
-unfoldable pub storeOf : List Said.Table → List ℕ
-storeOf tables = take 4096 (flatMap (λ t. map codeOf (t .entries)) tables ++ blankStore)
+-- The numbers of some tables: their entries one after the other.
+abbrev pub codesOf : List Said.Table → List ℕ
+codesOf tables = flatMap (λ t. map codeOf (t .entries)) tables
+
+-- A store holds some numbers as far as it goes. (What stands behind them is not said.)
+abbrev pub StoreHolds : List ℕ → List ℕ → Type 0
+StoreHolds store numbers = (i : ℕ) → i < 4096 → i < length numbers → getD store i 0 ≡ getD numbers i 0
 
 -- The first four members, and how many members and entries there are.
 pub record HoldsTable (h : Table) (t : Said.Table) : Type 0 where
@@ -50,10 +50,10 @@ pub record HoldsTable (h : Table) (t : Said.Table) : Type 0 where
   pub members : take (length (t .members)) (h .first) ≡ take 4 (t .members)
   pub entryCount : h .entries ≡ length (t .entries)
 
-pub record Holds (h : Region) (r : Said.Region) : Type 0 where
+pub record Holds (h : Region) (store : List ℕ) (r : Said.Region) : Type 0 where
   pub patientCount : h .v ≡ r .patientCount
   pub tableCount : h .t ≡ r .tableCount
   pub plansWanted : h .m ≡ r .plansWanted
   pub patients : (i : ℕ) → i < length (r .patients) → patientOf (getD (h .patients) i noPatient) ≡ Said.patientAt r i
   pub tables : (i : ℕ) → i < length (r .tables) → HoldsTable (getD (h .tables) i noTable) (tableAt r i)
-  pub entries : h .entries ≡ storeOf (r .tables)
+  pub entries : StoreHolds store (codesOf (r .tables))

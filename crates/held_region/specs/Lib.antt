@@ -10,7 +10,8 @@ pub mod Ancestors
 pub mod Chains
 pub mod Sets
 pub mod Related
+pub mod Stores
+pub mod Said
 pub mod Refusals
 pub mod Faithful
-pub mod Stored
 pub mod Answers

@@ -12,7 +12,7 @@ use Rattle.definitions.specs.Syntax as Said
 use Rattle.definitions.specs.Questions.{membersRight}
 use Rattle.held_region.specs.declared.Table.{Table}
 use Rattle.held_region.specs.declared.Region.{Region}
-use Rattle.held_region.specs.Outline.{outline, tableIn, tableOf, membersOf}
+use Rattle.held_region.specs.Outline.{said, tableIn, tableSaid, membersOf}
 use Rattle.held_region.specs.Chains.{from-zero}
 use Rattle.held_region.specs.Places.{length-by-places, every-map, every-place, placesFrom, places-all, places-next, places-done}
 
@@ -66,9 +66,9 @@ module _ (v : ℕ) (t : Table) where
   pub unfit : within memberCount (t .members) ≡ false → false ≡ membersFit v (membersOf t)
   unfit count = sym (ap (λ b. b && every (λ s. ltb s v) (membersOf t) && everyTwo ltb (membersOf t)) (ap (within memberCount) counted ∙ count))
 
-pub members-asked : (h : Region) → membersRight (outline h) ≡ every (λ i. membersFit (h .v) (membersOf (tableIn h i))) (below (h .t))
-unfolding membersRight outline
-members-asked h = every-map (λ t. membersFit (h .v) (t .members)) (λ i. tableOf (tableIn h i)) (below (h .t))
+pub members-asked : (h : Region) (store : List ℕ) → membersRight (said h store) ≡ every (λ i. membersFit (h .v) (membersOf (tableIn h i))) (below (h .t))
+unfolding membersRight said
+members-asked h store = every-map (λ t. membersFit (h .v) (t .members)) (tableSaid h store) (below (h .t))
 
 -- What all members pass, each passes.
 pub every-member : (t : Table) (p : ℕ → Bool) → every p (membersOf t) ≡ true → (j : ℕ) → j < t .members → p (getD (t .first) j 0) ≡ true

@@ -1,16 +1,15 @@
 -- The number of each answer, and what the questions from the fifth on are asked of.
 use mathlib.Core.Path.{_≡_}
-use Rattle.definitions.specs.Basics.{ℕ, Bool, true, _&&_, [], _∷_, ltb, noneOr, every}
+use Rattle.definitions.specs.Basics.{ℕ, Bool, true, not, _&&_, _||_, cond, List, [], _∷_, ltb, noneOr, every}
 use Rattle.definitions.specs.Syntax as Said
-use Rattle.definitions.specs.Questions.{Asked, countsTrue, countsWithin, patientsWithin, parentsSmaller, membersRight, entryCountsRight, entriesWithin, membersRelated}
+use Rattle.definitions.specs.Spelling.{spellBody}
+use Rattle.definitions.specs.Questions.{Asked, checksum, countsTrue, countsWithin, patientsWithin, parentsSmaller, membersRight, entryCountsRight, entriesWithin, membersRelated}
 use Rattle.held_region.specs.declared.Region.{Region}
 use Rattle.held_region.specs.declared.Refusal.{Refusal}
 use Rattle.held_region.specs.declared.Refusal.the-variants.{TooLong, Layout, Counts, Sum, Limits, Patients, Members, EntryCounts, Entries, Ancestors}
 use Rattle.held_region.specs.declared.Judged.{Judged}
 use Rattle.held_region.specs.declared.Judged.the-variants.{Fine, Refused}
 use Rattle.held_region.specs.Held.{Holds, mark}
-use Rattle.held_region.specs.Outline.{outline}
-use Rattle.held_region.specs.Entries.{storeFits, entryTotal}
 
 -- The paper's number of each question.
 abbrev pub questionOf : Refusal → ℕ
@@ -29,29 +28,28 @@ abbrev pub numberOf : Judged → ℕ
 numberOf Fine = 0
 numberOf (Refused refusal) = questionOf refusal
 
--- Questions 5 to 10, as every entry asks them of a file.
-unfoldable pub askedOf : Said.Region → Asked
-askedOf r =
-    (5, countsWithin r) ∷ (6, patientsWithin r && parentsSmaller r) ∷ (7, membersRight r) ∷ (8, entryCountsRight r) ∷ (9, entriesWithin r) ∷ (10, membersRelated r) ∷ []
+-- Questions 5 to 10 as they are asked of what is said, with or without what they ask of parents: the half of 6, and 10. The last three alone.
+unfoldable pub lastAsked : Bool → Said.Region → Asked
+lastAsked parents r = (8, entryCountsRight r) ∷ (9, entriesWithin r) ∷ cond parents ((10, membersRelated r) ∷ []) []
 
--- The same, as they are asked of a held region; and the last three alone.
-unfoldable pub lastAskedOfHeld : Region → Asked
-lastAskedOfHeld h = (8, entryCountsRight (outline h)) ∷ (9, storeFits (entryTotal (outline h)) (h .entries)) ∷ (10, membersRelated (outline h)) ∷ []
+unfoldable pub asked : Bool → Said.Region → Asked
+asked parents r = (5, countsWithin r) ∷ (6, patientsWithin r && (not parents || parentsSmaller r)) ∷ (7, membersRight r) ∷ lastAsked parents r
 
-unfoldable pub askedOfHeld : Region → Asked
-askedOfHeld h =
-    (5, countsWithin (outline h)) ∷ (6, patientsWithin (outline h) && parentsSmaller (outline h)) ∷ (7, membersRight (outline h)) ∷ lastAskedOfHeld h
+-- As every entry asks them of a file.
+abbrev pub askedOf : Said.Region → Asked
+askedOf = asked true
 
 -- Is no number of a table the mark?
 abbrev pub unmarked : Said.Table → Bool
 unmarked t = every (noneOr (λ e. ltb e mark)) (t .entries)
 
--- A held region that was read from a file: it has the file's counts, which are true. Where they are within their limits it holds the rest.
--- (A file's numbers have at most seven digits, so none is the mark.)
-pub record ReadFrom (h : Region) (r : Said.Region) : Type 0 where
+-- A held region and a store that were read from a file: they have the file's counts, which are true, as is its sum.
+-- Where the counts are within their limits they hold the rest. (A file's numbers have at most seven digits, so none is the mark.)
+pub record ReadFrom (h : Region) (store : List ℕ) (r : Said.Region) : Type 0 where
   pub patientCount : h .v ≡ r .patientCount
   pub tableCount : h .t ≡ r .tableCount
   pub plansWanted : h .m ≡ r .plansWanted
   pub counted : countsTrue r ≡ true
-  pub holds : countsWithin r ≡ true → Holds h r
+  pub summed : r .statedSum ≡ checksum (spellBody r)
+  pub holds : countsWithin r ≡ true → Holds h store r
   pub unmarked : every unmarked (r .tables) ≡ true

@@ -11,14 +11,14 @@ use Rattle.patient_set.specs.Lists.{every-weaker}
 use Rattle.patient_set.specs.Laws.{members-below}
 use Rattle.patient_set.specs.declared.PatientSet.{PatientSet}
 use Rattle.patient_set.specs.Sets.{inSet, members}
-use Rattle.definitions.specs.Basics.{ℕ, _+_, _<_, Bool, true, false, _&&_, _||_, Option, none, some, List, length, getD, eqb, ltb, below, every, everyTwo, keep, contains}
+use Rattle.definitions.specs.Basics.{ℕ, _+_, _<_, Bool, true, false, _&&_, _||_, Option, none, some, List, [], length, getD, eqb, ltb, below, every, everyTwo, keep, contains}
 use Rattle.definitions.specs.Syntax as Said
 use Rattle.definitions.specs.Syntax.{patientAt, patientsOf}
 use Rattle.definitions.specs.Questions.{parentsSmaller, ancestors, membersRelated}
 use Rattle.held_region.specs.declared.Table.{Table}
 use Rattle.held_region.specs.declared.Region.{Region}
 use Rattle.held_region.specs.Held.{parentOf}
-use Rattle.held_region.specs.Outline.{outline, patientIn, tableIn, tableOf, membersOf}
+use Rattle.held_region.specs.Outline.{said, outline, patientIn, tableIn, tableSaid, membersOf}
 use Rattle.held_region.specs.Places.{every-map}
 use Rattle.held_region.specs.Asked.{outline-count, outline-patient, outline-tables}
 use Rattle.held_region.specs.Sound.{Sound, members-fit, members-held}
@@ -48,8 +48,11 @@ abbrev pub chained : (ℕ → ℕ → Bool) → List ℕ → Bool
 chained isAbove l = every (λ b. every (isAbove b) (keep (λ q. ltb q b) l)) l
 
 -- Question 10, of one table.
+abbrev pub relatedBy : (ℕ → List ℕ) → List ℕ → Bool
+relatedBy above l = everyTwo (λ a b. contains (above a) b || contains (above b) a) l
+
 abbrev pub related : Said.Region → List ℕ → Bool
-related r l = everyTwo (λ a b. contains (ancestors r a) b || contains (ancestors r b) a) l
+related r = relatedBy (ancestors r)
 
 -- The set of a clinic, once all places are passed.
 pub clinic-members : (h : Region) (c w : ℕ) → h .v ≤ 32 → ((q : ℕ) → inSet w q ≡ (ltb q (h .v) && eqb (patientIn h q .clinic) c)) → members w ≡ patientsOf (outline h) c
@@ -57,8 +60,8 @@ unfolding patientsOf
 clinic-members h c w l is =
     members-below w (h .v) l (λ q m. is q ∙ ap (λ b. b && eqb (patientIn h q .clinic) c) (le-ltb q (h .v) m))
     ∙ same-keep (inSet w) (λ q. eqb (patientAt (outline h) q .clinic) c) 0 (h .v)
-    (λ q m n. is q ∙ ap (λ b. b && eqb (patientIn h q .clinic) c) (lt-ltb q (h .v) (omega arith)) ∙ ap (λ p. eqb (p .clinic) c) (sym (outline-patient h q (omega arith))))
-    ∙ ap (λ n. keep (λ q. eqb (patientAt (outline h) q .clinic) c) (below n)) (sym (outline-count h))
+    (λ q m n. is q ∙ ap (λ b. b && eqb (patientIn h q .clinic) c) (lt-ltb q (h .v) (omega arith)) ∙ ap (λ p. eqb (p .clinic) c) (sym (outline-patient h [] q (omega arith))))
+    ∙ ap (λ n. keep (λ q. eqb (patientAt (outline h) q .clinic) c) (below n)) (sym (outline-count h []))
 
 module _ (h : Region) (smaller : parentsSmaller (outline h) ≡ true) where
   -- One patient more: the set of s is made from its parent's.
@@ -66,17 +69,17 @@ module _ (h : Region) (smaller : parentsSmaller (outline h) ≡ true) where
     abbrev parent : Option ℕ
     parent = parentOf (patientIn h s .parent)
 
-    said : patientAt (outline h) s .parent ≡ parent
-    said = ap (λ p. p .parent) (outline-patient h s l)
+    own-parent : patientAt (outline h) s .parent ≡ parent
+    own-parent = ap (λ p. p .parent) (outline-patient h [] s l)
 
     pub parent-smaller : (p : ℕ) → parent ≡ some p → p < s
-    parent-smaller p e = parent-below (outline h) smaller s p (said ∙ e) .1
+    parent-smaller p e = parent-below (outline h) smaller s p (own-parent ∙ e) .1
 
     own : (sets : List PatientSet) → AncestorsHeld h s sets → (o : Option ℕ) → parent ≡ o → (q : ℕ) → aboveOf sets o q ≡ contains (ancestors (outline h) s) q
-    own sets held none e q = sym (ap (λ a. contains a q) (ancestors-root (outline h) smaller s (said ∙ e)))
+    own sets held none e q = sym (ap (λ a. contains a q) (ancestors-root (outline h) smaller s (own-parent ∙ e)))
     own sets held (some p) e q =
         ap (λ b. b || eqb q p) (held p (parent-smaller p e) q) ∙ or-comm (contains (ancestors (outline h) p) q) (eqb q p)
-        ∙ sym (ap (λ a. contains a q) (ancestors-next (outline h) smaller s p (said ∙ e)))
+        ∙ sym (ap (λ a. contains a q) (ancestors-next (outline h) smaller s p (own-parent ∙ e)))
 
     pub ancestors-more : (sets : List PatientSet) (new : PatientSet) → s < length sets → AncestorsHeld h s sets
         → ((q : ℕ) → inSet (new .0) q ≡ aboveOf sets parent q) → AncestorsHeld h (s + 1) (set sets s new)
@@ -97,11 +100,11 @@ module _ (h : Region) (smaller : parentsSmaller (outline h) ≡ true) where
       ∙ chain (λ a b. contains (ancestors (outline h) b) a) l up
       ∙ sym (same-two (λ a b. contains (ancestors (outline h) b) a) _ (λ a b m. ap (λ x. x || contains (ancestors (outline h) b) a) (no-later (outline h) smaller a b m)) l up)
 
-pub related-asked : (h : Region) → membersRelated (outline h) ≡ every (λ i. related (outline h) (membersOf (tableIn h i))) (below (h .t))
+pub related-asked : (h : Region) (store : List ℕ) → membersRelated (said h store) ≡ every (λ i. related (said h store) (membersOf (tableIn h i))) (below (h .t))
 unfolding membersRelated
-related-asked h =
-    ap (every (λ t. related (outline h) (t .members))) (outline-tables h)
-    ∙ every-map (λ t. related (outline h) (t .members)) (λ i. tableOf (tableIn h i)) (below (h .t))
+related-asked h store =
+    ap (every (λ t. related (said h store) (t .members))) (outline-tables h store)
+    ∙ every-map (λ t. related (said h store) (t .members)) (tableSaid h store) (below (h .t))
 
 module _ (h : Region) (sound : Sound h) (i : ℕ) (l : i < h .t) where
   abbrev table : Table

@@ -4,14 +4,14 @@ use mathlib.Core.Bool.{and-eq-true-iff}
 use Prim.Native.Nat.{_≤_}
 use native.Mathlib.Omega.{arith}
 use borrow.Author.Tests.{ltb-true}
-use Rattle.definitions.specs.Basics.{ℕ, _<_, true, _&&_, List, length, getD, ltb, every, everyTwo}
+use Rattle.definitions.specs.Basics.{ℕ, _<_, true, _&&_, List, [], length, getD, ltb, every, everyTwo}
 use Rattle.definitions.specs.Limits.{limits, within, patientCount, tableCount, clinic, bedCount, memberCount}
 use Rattle.definitions.specs.Questions.{countsWithin, patientsWithin, membersRight}
 use Rattle.held_region.specs.declared.Patient.{Patient}
 use Rattle.held_region.specs.declared.Region.{Region}
 use Rattle.held_region.specs.Held.{noPatient, patientOf}
 use Rattle.held_region.specs.Limits.{within-most}
-use Rattle.held_region.specs.Outline.{outline, Fits, patientIn, tableIn, membersOf, patientFits}
+use Rattle.held_region.specs.Outline.{said, outline, Fits, patientIn, tableIn, membersOf, patientFits}
 use Rattle.held_region.specs.Places.{length-by-places, every-place}
 use Rattle.held_region.specs.Asked.{patients-asked}
 use Rattle.held_region.specs.Members.{membersFit, members-asked, every-member}
@@ -26,9 +26,9 @@ abbrev pub bedsIn : List Patient → ℕ → ℕ
 bedsIn patients s = getD patients s noPatient .beds
 
 -- Where question 5 is answered yes, there is room for all.
-pub room : (h : Region) → countsWithin (outline h) ≡ true → Fits h
-unfolding countsWithin outline limits
-room h yes-five =
+pub room : (h : Region) (store : List ℕ) → countsWithin (said h store) ≡ true → Fits h
+unfolding countsWithin said limits
+room h store yes-five =
     let two = and-eq-true-iff (within patientCount (h .v) && within tableCount (h .t)) _ .0 yes-five in
     let counts = and-eq-true-iff (within patientCount (h .v)) _ .0 (two .0) in
     record { patients = within-most patientCount (h .v) (counts .0); tables = within-most tableCount (h .t) (counts .1) }
@@ -38,7 +38,7 @@ module _ (h : Region) (sound : Sound h) where
   pub beds-most : (s : ℕ) → s < h .v → bedsIn (h .patients) s ≤ 16
   unfolding limits
   beds-most s l =
-      let fits : patientFits (patientOf (patientIn h s)) ≡ true = every-place _ (h .v) s (sym (patients-asked h) ∙ sound .patients) l in
+      let fits : patientFits (patientOf (patientIn h s)) ≡ true = every-place _ (h .v) s (sym (patients-asked h []) ∙ sound .patients) l in
       within-most bedCount _ (and-eq-true-iff (within clinic (patientIn h s .clinic)) _ .0 fits .1)
 
   module _ (i : ℕ) (l : i < h .t) where
@@ -48,7 +48,7 @@ module _ (h : Region) (sound : Sound h) where
     -- A table's members: their number is right, they are below V, and they rise.
     pub members-fit : (within memberCount (length members) ≡ true) × (every (λ s. ltb s (h .v)) members ≡ true) × (everyTwo ltb members ≡ true)
     members-fit =
-        let fits : membersFit (h .v) members ≡ true = every-place _ (h .t) i (sym (members-asked h) ∙ sound .members) l in
+        let fits : membersFit (h .v) members ≡ true = every-place _ (h .t) i (sym (members-asked h []) ∙ sound .members) l in
         let all = and-eq-true-iff (within memberCount (length members) && every (λ s. ltb s (h .v)) members) _ .0 fits in
         let two = and-eq-true-iff (within memberCount (length members)) _ .0 (all .0) in
         (two .0, two .1, all .1)

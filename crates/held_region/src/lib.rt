@@ -23,14 +23,14 @@ pub struct Table {
     pub entries: usize,
 }
 
-// V, T and m of the first line, the patients, the tables, and one store for the entries of all tables.
+// V, T and m of the first line, the patients and the tables. The entries of all tables stand in one store of 4,096 numbers beside it,
+// which the entry function has and lends.
 pub struct Region {
     pub v: usize,
     pub t: usize,
     pub m: usize,
     pub patients: [Patient; 32],
     pub tables: [Table; 64],
-    pub entries: [u32; 4096],
 }
 
 // The mark of a forbidden entry.
@@ -49,7 +49,7 @@ pub const NO_TABLE: Table = Table {
     entries: 0,
 };
 
-// No patient, no table, and every entry forbidden.
+// No patient and no table.
 pub fn blank() -> Region
     ensures { λ r. ⌜ r ≡ blankRegion ⌝ }
 {
@@ -59,7 +59,6 @@ pub fn blank() -> Region
         m: 0,
         patients: [NO_PATIENT; 32],
         tables: [NO_TABLE; 64],
-        entries: [FORBIDDEN; 4096],
     }
 }
 

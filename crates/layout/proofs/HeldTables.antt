@@ -6,21 +6,21 @@ use native.Mathlib.Omega.{arith}
 use native.Mathlib.Decide.{ℕ-discrete}
 use Prim.Native.Char.{code}
 use Prim.Native.Nat.{_≤_}
-use lib.ListN.{set, drop, length-append, length-map, length-set, length-take, length-replicate}
+use lib.ListN.{set, drop, length-append, length-map, length-set, length-take}
 use Rattle.definitions.specs.Basics.{ℕ, _+_, _-_, _<_, none, some, List, isSome, bind, [], _∷_, _++_, map, flatMap, length, take, replicate, text}
 use Rattle.definitions.specs.Syntax as Said
 use Rattle.definitions.specs.Layout.{whole, word, exactly, lines, many, tableLine, endLine}
 use Rattle.held_region.specs.declared.Table.{Table}
-use Rattle.held_region.specs.Held.{mark, codeOf, noTable, blankStore, storeOf, HoldsTable}
+use Rattle.held_region.specs.Held.{codeOf, codesOf, StoreHolds, noTable, HoldsTable}
 use Rattle.scanner.specs.Words.{exactly-short, exactly-same, exactly-other}
 use Rattle.line_reader.specs.Answers.{LineEnd}
 use Rattle.table_reader.specs.declared.TableLine.{TableLine}
 use Rattle.table_reader.specs.FirstHeld.{held-none, held-more}
-use Rattle.table_reader.specs.Stores.{stored-none, stored-list}
-use Rattle.table_reader.specs.TableReading.{Holding, Adds, TableThere, TableRead}
+use Rattle.table_reader.specs.Stores.{stored-none}
+use Rattle.table_reader.specs.TableReading.{Adds, TableThere, TableRead}
 use Rattle.table_reader.proofs.HeldTables.{one-more, adds-none, adds-then}
 use Rattle.layout.specs.Taken.{taken-none, taken-more, taken-other, taken-all}
-use Rattle.layout.specs.TableLines.{codesOf, noTableSaid, TablesSoFar, TableLines}
+use Rattle.layout.specs.TableLines.{noTableSaid, TablesSoFar, TableLines}
 
 -- A list does not begin with two words that differ behind what they have in common.
 differ : (common : List ℕ) (u v : ℕ) (us vs xs : List ℕ) → (u ≡ v → ⊥) → (exactly (common ++ v ∷ vs) xs ≡ none → ⊥) → exactly (common ++ u ∷ us) xs ≡ none
@@ -43,13 +43,11 @@ unfolding flatMap
 flatMap-snoc f [] x = append-nil (f x)
 flatMap-snoc {B = B} f (y ∷ xs) x = ap {B = List B} (λ l. f y ++ l) (flatMap-snoc f xs x) ∙ sym (append-assoc (f y) (flatMap f xs) (f x))
 
--- A store that was blank is the store of the tables whose entries were added.
-store-said : {before after : List ℕ} (said : List Said.Table) → Adds 0 before after (codesOf said) → before ≡ blankStore → after ≡ storeOf said
-unfolding blankStore storeOf
-store-said {after = after} said added blank =
-    let h : Holding (replicate 4096 mark) [] = record { wide = length-replicate 4096 mark; stored = stored-none mark 4096 } in
-    let g = added .behind [] refl (rw blank h) in
-    stored-list mark after (codesOf said) (g .stored) ∙ ap (λ n. take n (codesOf said ++ replicate n mark)) (g .wide)
+-- The store, whatever it was, holds the tables whose entries were added.
+store-said : {before after : List ℕ} (said : List Said.Table) → Adds 0 before after (codesOf said) → length before ≡ 4096 → StoreHolds after (codesOf said)
+store-said {before} {after} said added wide =
+    let g = added .behind [] refl (record { wide = wide; stored = stored-none before }) in
+    λ i h l. g .stored .held i (omega (arith, g .wide)) l
 
 -- No line yet.
 pub tables-none : (s : List ℕ) (at : ℕ) (store : List ℕ) → TablesSoFar s at store (replicate 64 noTable) 0 0 at store
@@ -100,7 +98,7 @@ module _ {s : List ℕ} {at : ℕ} {before : List ℕ} {first : List Table} {cou
     holds = p .holds;
     ahead = p .taken .ahead;
     within = p .taken .within;
-    stored = λ blank l ls q ends. kept l ls q ends ∙ store-said (p .said) (p .added) blank;
+    stored = λ wide l ls q ends. rw (kept l ls q ends) (store-said (p .said) (p .added) wide);
   }
 
   pub tables-other : {end : ℕ} {after : List ℕ} {r : TableLine} → LineEnd s i end → i < length s → TableRead (take (end - i) (drop i s)) used store after r → r .found ≡ false

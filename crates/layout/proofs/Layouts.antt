@@ -82,7 +82,7 @@ module _ {s : List ℕ} {e : ℕ} (first : LineEnd s 0 e) where
         patientsHeld = p .holds;
         tablesCounted = q .counted;
         tablesHeld = q .holds;
-        stored = λ blank. q .stored blank line (lines (drop last s)) cut-end (ap isSome stated);
+        stored = λ wide. q .stored wide line (lines (drop last s)) cut-end (ap isSome stated);
         body = body-before s (ts .next) before-end (cut-end ∙ ap (λ ls. line ∷ ls) none-left);
       }
         where

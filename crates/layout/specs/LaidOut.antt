@@ -8,7 +8,7 @@ use Rattle.definitions.specs.Syntax as Said
 use Rattle.definitions.specs.Layout.{many, one, whole, lines, regionLine, patientLine, tableLine, endLine, regionLines, layout}
 use Rattle.theorems.specs.Lines.{flatten-lines}
 use Rattle.theorems.specs.Spelling.{drop-last}
-use Rattle.held_region.specs.Held.{HoldsTable, noTable, blankStore, storeOf}
+use Rattle.held_region.specs.Held.{HoldsTable, noTable, codesOf, StoreHolds}
 use Rattle.table_reader.specs.TableReading.{Found}
 use Rattle.layout.specs.declared.Laid.{Laid}
 use Rattle.table_reader.specs.FirstHeld.{FirstHeld}
@@ -27,7 +27,7 @@ pub record LaidThere (s : List ℕ) (r : Laid) (before after : List ℕ) : Type 
   pub patientsHeld : HeldPatients (r .patients .first) (tree .patients)
   pub tablesCounted : r .tables .count ≡ length (tree .tables)
   pub tablesHeld : FirstHeld 64 HoldsTable noTable noTableSaid (r .tables .first) (tree .tables)
-  pub stored : before ≡ blankStore → after ≡ storeOf (tree .tables)
+  pub stored : length before ≡ 4096 → StoreHolds after (codesOf (tree .tables))
   pub body : flatten (dropLast (lines s)) ≡ take (r .end) s
 
 abbrev pub LaidOut : List ℕ → Laid → List ℕ → List ℕ → Type 0

@@ -6,14 +6,13 @@ use native.Mathlib.Nat.{mul-one}
 use native.Mathlib.Omega.{arith}
 use borrow.Author.Tests.{leb-true}
 use Rattle.definitions.specs.Basics.{ℕ, _*_, _<_, Bool, true, _&&_, List, [], _∷_, length, getD, replicate, leb}
-use Rattle.definitions.specs.Syntax as Said
 use Rattle.definitions.specs.Plans.{Row}
 use Rattle.definitions.specs.Questions.{roomForRows, areasLongEnough}
 use Rattle.definitions.specs.Outcomes.{written, outcomeOf}
 use Rattle.ranking.specs.Members.{_∈_, getD-in}
 use Rattle.theorems.specs.Tests.{both}
 use Rattle.held_region.specs.declared.Region.{Region}
-use Rattle.held_region.specs.Held.{Holds}
+use Rattle.held_region.specs.Outline.{said}
 use Rattle.buckets.specs.Terms.{Planned}
 use Rattle.row_list.specs.Rows.{rowIn, rowsIn}
 use Rattle.row_list.specs.Laws.{cut-long, cut-at}
@@ -23,13 +22,12 @@ use Rattle.planner.specs.Lists.{longEnough}
 use Rattle.planner.specs.Found.{outcomeWith}
 
 -- Question 12 of the areas is that of their lengths.
-asked-same : (h : Region) (r : Said.Region) → Holds h r → (beds costs work : List ℕ)
-    → longEnough (h .v) (h .m) (length beds) (length costs) (length work) ≡ areasLongEnough r beds costs work
-unfolding areasLongEnough roomForRows
-asked-same h r holds beds costs work =
-    ap₂ (λ v m. longEnough v m (length beds) (length costs) (length work)) (holds .patientCount) (holds .plansWanted)
-    ∙ ap (λ m. leb (r .plansWanted * r .patientCount) (length beds) && (leb m (length costs) && leb 16_384 (length work))) (sym (mul-one (r .plansWanted)))
-    ∙ sym (and-assoc (leb (r .plansWanted * r .patientCount) (length beds)) (leb (r .plansWanted * 1) (length costs)) (leb 16_384 (length work)))
+asked-same : (h : Region) (store beds costs work : List ℕ)
+    → longEnough (h .v) (h .m) (length beds) (length costs) (length work) ≡ areasLongEnough (said h store) beds costs work
+unfolding areasLongEnough roomForRows said
+asked-same h store beds costs work =
+    ap (λ m. leb (h .m * h .v) (length beds) && (leb m (length costs) && leb 16_384 (length work))) (sym (mul-one (h .m)))
+    ∙ sym (and-assoc (leb (h .m * h .v) (length beds)) (leb (h .m * 1) (length costs)) (leb 16_384 (length work)))
 
 -- What question 12's yes says of each area.
 areas-long : (v m beds costs work : ℕ) → longEnough v m beds costs work ≡ true → (m * v ≤ beds) × (m ≤ costs) × (16_384 ≤ work)
@@ -38,15 +36,15 @@ areas-long v m beds costs work long =
     let (second, third) = both (leb m costs) others in
     (leb-true (m * v) beds first, leb-true m costs second, leb-true 16_384 work third)
 
-module _ (h : Region) {long : Bool} (beds costs work : List ℕ) (asked : long ≡ longEnough (h .v) (h .m) (length beds) (length costs) (length work)) where
-  pub question : (r : Said.Region) → Holds h r → {answer : Bool} → long ≡ answer → areasLongEnough r beds costs work ≡ answer
-  question r holds e = sym (asked-same h r holds beds costs work) ∙ sym asked ∙ e
+module _ (h : Region) (store : List ℕ) {long : Bool} (beds costs work : List ℕ) (asked : long ≡ longEnough (h .v) (h .m) (length beds) (length costs) (length work)) where
+  pub question : {answer : Bool} → long ≡ answer → areasLongEnough (said h store) beds costs work ≡ answer
+  question e = sym (asked-same h store beds costs work) ∙ sym asked ∙ e
 
   module _ (yes-twelve : long ≡ true) where
     pub all-long : (h .m * h .v ≤ length beds) × (h .m ≤ length costs) × (16_384 ≤ length work)
     all-long = areas-long (h .v) (h .m) (length beds) (length costs) (length work) (sym asked ∙ yes-twelve)
 
-    pub asks-list : Planned h → AsksRegion h work
+    pub asks-list : Planned h store → AsksRegion h store work
     asks-list planned = record { planned = planned; long = omega (arith, all-long .2) }
 
 -- Rows that lie in an area.

@@ -21,33 +21,27 @@ use Rattle.patient_set.specs.Lists.{every-keep}
 use Rattle.patient_set.specs.Sets.{members}
 use Rattle.patient_set.specs.Laws.{members-empty}
 use Rattle.held_region.specs.declared.Region.{Region}
-use Rattle.held_region.specs.Held.{Holds}
 use Rattle.held_region.specs.Outline.{outline}
-use Rattle.held_region.specs.Faithful.{clinic-told, table-lines, fits-told}
 use Rattle.buckets.specs.Terms.{Answered}
+use Rattle.buckets.specs.Right.{tables-few}
 use Rattle.planner.specs.Asked.{present-asked}
-use Rattle.planner.specs.Sheets.{HoldsClinic}
 
 -- A number beyond the limits of clinics has none.
-no-patients : (r : Said.Region) (c : ℕ) → Answered r → within clinic c ≡ false → patientsOf r c ≡ []
+no-patients : (r : Said.Region) (c : ℕ) → patientsWithin r ≡ true → within clinic c ≡ false → patientsOf r c ≡ []
 unfolding patientsWithin clinicPresent
-no-patients r c answered outside = go (patientsOf r c) refl
+no-patients r c fitting outside = go (patientsOf r c) refl
   where
     go : (l : List ℕ) → patientsOf r c ≡ l → l ≡ []
     go [] e = refl
     go (s ∷ l) e =
         let asked : clinicPresent r c ≡ true = present-asked r c ∙ ap (λ m. not (isEmpty m)) e in
         let (p, k, same) = any-out (λ p. eqb (p .clinic) c) (r .patients) asked in
-        let fits = both (within clinic (p .clinic)) (every-in _ (r .patients) (answered .patientsFit) k) .0 in
+        let fits = both (within clinic (p .clinic)) (every-in _ (r .patients) fitting k) .0 in
         absurd (true≢false (sym fits ∙ ap (within clinic) (eqb-true (p .clinic) c same) ∙ outside))
 
--- The set of such a clinic is empty; that of any other is found from the held region.
-module _ (h : Region) (c : ℕ) where
-  pub nobody-held : within clinic c ≡ false → HoldsClinic h c 0
-  nobody-held outside r holds answered = members-empty ∙ sym (no-patients r c answered outside)
-
-  pub outline-held : (set : ℕ) → members set ≡ patientsOf (outline h) c → HoldsClinic h c set
-  outline-held set is r holds answered = is ∙ clinic-told h r holds (answered .counted) c
+-- The set of such a clinic is empty.
+pub nobody-held : (h : Region) (c : ℕ) → patientsWithin (outline h) ≡ true → within clinic c ≡ false → members 0 ≡ patientsOf (outline h) c
+nobody-held h c fitting outside = members-empty ∙ sym (no-patients (outline h) c fitting outside)
 
 -- A clinic's number is a 32-bit number.
 pub clinic-narrow : (c : ℕ) → within clinic c ≡ true → c < 4_294_967_296
@@ -55,15 +49,15 @@ unfolding limits
 clinic-narrow c inside = omega (arith, at-most clinic c inside)
 
 -- Each own cost is at most 64,000,000.
-pub own-costs-small : (h : Region) (r : Said.Region) → Holds h r → Answered r → (c : ℕ) (z : Row) → z ∈ sheetOf r c → z .cost ≤ 64_000_000
+pub own-costs-small : (r : Said.Region) → Answered r → (c : ℕ) (z : Row) → z ∈ sheetOf r c → z .cost ≤ 64_000_000
 unfolding ownRow ownCost ownTables entriesWithin limits
-own-costs-small h r holds answered c z k =
+own-costs-small r answered c z k =
     let (w, i, e) = sheet-rows r c z k in
     let most = go (w .beds) (costOver (ownTables r c) r (w .beds)) refl in
     omega (arith, most, ap (λ (x : Row). x .cost) e)
   where
     few : length (ownTables r c) ≤ 64
-    few = le-trans (keep-short _ (r .tables)) (omega (arith, table-lines h r holds (answered .counted), fits-told h r holds (answered .counted) (answered .countsFit) .tables))
+    few = le-trans (keep-short _ (r .tables)) (tables-few r answered)
 
     go : (plan : List ℕ) (o : Option ℕ) → costOver (ownTables r c) r plan ≡ o → Option·getD o 0 ≤ 64_000_000
     go plan none e = omega arith

@@ -1,5 +1,5 @@
 -- The list of a loaded region: what is written of it, and the answer. Assumes nothing.
-use mathlib.Core.Path.{_≡_, sym, ap, _∙_}
+use mathlib.Core.Path.{_≡_, refl, sym, ap, _∙_}
 use Prim.Native.Nat.{_≤_}
 use native.Mathlib.Nat.{le-trans, mul-le-mul-right}
 use native.Mathlib.Omega.{arith}
@@ -14,7 +14,7 @@ use Rattle.theorems.specs.Accepted.{total-most}
 use Rattle.theorems.specs.List.{list-first}
 use Rattle.partial_rows.specs.Padding.{cut}
 use Rattle.held_region.specs.declared.Region.{Region}
-use Rattle.held_region.specs.Held.{Holds}
+use Rattle.held_region.specs.Outline.{said}
 use Rattle.buckets.specs.Terms.{Answered, Planned}
 use Rattle.row_list.specs.Rows.{rowsIn}
 use Rattle.row_list.specs.Laws.{rows-take}
@@ -30,16 +30,16 @@ use Rattle.planner.specs.Lists.{longEnough, RegionListed}
 use Rattle.planner.proofs.Areas.{question, all-long, rows-counted, narrow, written-out}
 
 -- A list that was found, and where its rows lie.
-module _ (h : Region) (planned : Planned h) {n : ℕ} {work area : List ℕ} (gives : GivesRegion h work area n) where
+module _ (h : Region) (store : List ℕ) (planned : Planned h store) {n : ℕ} {work area : List ℕ} (gives : GivesRegion h store work area n) where
   pub most : n ≤ 64
-  most = omega (arith, gives .count, counts-few h planned .1)
+  most = omega (arith, gives .count, counts-few h store planned .1)
 
-  found : (r : Said.Region) → Holds h r → Answered r → rowsIn (h .v) n area ≡ listOf r
+  found : rowsIn (h .v) n area ≡ listOf (said h store)
   unfolding part
-  found r holds answered = sym (ap (map (cut (h .v))) (rows-take n 384 area (omega (arith, most)))) ∙ gives .list r holds answered
+  found = sym (ap (map (cut (h .v))) (rows-take n 384 area (omega (arith, most)))) ∙ gives .list
 
-  pub found-count : (r : Said.Region) → Holds h r → Answered r → n ≡ length (listOf r)
-  found-count r holds answered = rows-counted (h .v) n area (found r holds answered)
+  pub found-count : n ≡ length (listOf (said h store))
+  found-count = rows-counted (h .v) n area found
 
   pub cleared : {after : List ℕ} → after ≡ replicate (length area) 0 → after ≡ replicate (length work) 0
   cleared e = e ∙ ap (λ k. replicate k 0) (gives .long)
@@ -49,41 +49,45 @@ totals-small : (r : Said.Region) → Answered r → (z : Row) → z ∈ listOf r
 unfolding limits
 totals-small r answered z k = total-most r (z .beds) (z .cost) (answered .counted) (answered .countsFit) (answered .entriesFit) (list-first r .sound k .priced)
 
-module _ (h : Region) (planned : Planned h) {long : Bool} (beds costs work : List ℕ) (asked : long ≡ longEnough (h .v) (h .m) (length beds) (length costs) (length work)) where
-  pub listed-short : long ≡ false → RegionListed h beds costs work Short beds costs work
-  unfolding outcomeOf
-  listed-short e r holds answered = asked-outcome _ _ beds costs work (lastAsked r (areasLongEnough r beds costs work)) (no-twelve r (question h beds costs work asked r holds e))
+module _ (h : Region) (store : List ℕ) (planned : Planned h store) {long : Bool} (beds costs work : List ℕ)
+    (asked : long ≡ longEnough (h .v) (h .m) (length beds) (length costs) (length work)) where
+  abbrev r : Said.Region
+  r = said h store
 
-  module _ (yes-twelve : long ≡ true) {n : ℕ} {area : List ℕ} (gives : GivesRegion h work area n) where
+  pub listed-short : long ≡ false → RegionListed r beds costs work Short beds costs work
+  unfolding outcomeOf
+  listed-short e = asked-outcome _ _ beds costs work (lastAsked r (areasLongEnough r beds costs work)) (no-twelve r (question h store beds costs work asked e))
+
+  module _ (yes-twelve : long ≡ true) {n : ℕ} {area : List ℕ} (gives : GivesRegion h store work area n) where
     pub writable : Writable (h .v) n area beds costs
     writable =
-        let (beds-long, costs-long, work-long) = all-long h beds costs work asked yes-twelve in
-        let r = planned .region in
+        let (beds-long, costs-long, work-long) = all-long h store beds costs work asked yes-twelve in
         record {
-          patients = counts-few h planned .0;
-          wanted = most h planned gives;
-          held = omega (arith, most h planned gives, gives .long, work-long);
+          patients = counts-few h store planned .0;
+          wanted = most h store planned gives;
+          held = omega (arith, most h store planned gives, gives .long, work-long);
           bedsLong = le-trans (mul-le-mul-right (h .v) (gives .count)) beds-long;
           costsLong = le-trans (gives .count) costs-long;
-          narrow = narrow (h .v) n area (found h planned gives r (planned .holds) (planned .answered)) (totals-small r (planned .answered));
+          narrow = narrow (h .v) n area (found h store planned gives) (totals-small r planned);
         }
 
     -- No row is written of an empty list.
     pub listed-nothing : n ≡ 0 → {bedsAfter costsAfter after : List ℕ} → RowsWritten (h .v) n area beds costs bedsAfter costsAfter → after ≡ replicate (length area) 0
-        → RegionListed h beds costs work Nothing bedsAfter costsAfter after
+        → RegionListed r beds costs work Nothing bedsAfter costsAfter after
     unfolding outcomeOf
-    listed-nothing none-found {bedsAfter} {costsAfter} rows zeros r holds answered =
-        let count = found-count h planned gives r holds answered in
-        let none-allowed = list-none r answered count none-found in
-        let empty : rowsIn (h .v) n area ≡ [] = found h planned gives r holds answered ∙ no-list r answered count none-found in
+    listed-nothing none-found {bedsAfter} {costsAfter} rows zeros =
+        let count = found-count h store planned gives in
+        let none-allowed = list-none r planned count none-found in
+        let empty : rowsIn (h .v) n area ≡ [] = found h store planned gives ∙ no-list r planned count none-found in
         let same-beds : bedsAfter ≡ beds = rows .eachBed ∙ ap (λ l. written 0 (h .v) (λ row. row .beds) l beds) empty in
         let same-costs : costsAfter ≡ costs = rows .eachCost ∙ ap (λ l. written 0 1 (λ row. row .cost ∷ []) l costs) empty in
-        (λ i. listedOutcome Nothing (same-beds i) (same-costs i) (cleared h planned gives zeros i))
-        ∙ asked-outcome _ _ beds costs work (lastAsked r (areasLongEnough r beds costs work)) (no-thirteen r (question h beds costs work asked r holds yes-twelve) none-allowed)
+        (λ i. listedOutcome Nothing (same-beds i) (same-costs i) (cleared h store planned gives zeros i))
+        ∙ asked-outcome _ _ beds costs work (lastAsked r (areasLongEnough r beds costs work)) (no-thirteen r (question h store beds costs work asked yes-twelve) none-allowed)
 
     pub listed-rows : (n ≡ 0 → ⊥) → {bedsAfter costsAfter after : List ℕ} → RowsWritten (h .v) n area beds costs bedsAfter costsAfter → after ≡ replicate (length area) 0
-        → RegionListed h beds costs work (Rows n) bedsAfter costsAfter after
-    listed-rows some-found rows zeros r holds answered =
-        let allowed = list-some r answered (found-count h planned gives r holds answered) some-found in
-        written-out (h .v) n area (found h planned gives r holds answered) (r .patientCount) beds costs work (holds .patientCount) rows (cleared h planned gives zeros)
-        ∙ asked-outcome _ _ beds costs work (lastAsked r (areasLongEnough r beds costs work)) (no-refusal r (question h beds costs work asked r holds yes-twelve) allowed)
+        → RegionListed r beds costs work (Rows n) bedsAfter costsAfter after
+    unfolding said
+    listed-rows some-found rows zeros =
+        let allowed = list-some r planned (found-count h store planned gives) some-found in
+        written-out (h .v) n area (found h store planned gives) (h .v) beds costs work refl rows (cleared h store planned gives zeros)
+        ∙ asked-outcome _ _ beds costs work (lastAsked r (areasLongEnough r beds costs work)) (no-refusal r (question h store beds costs work asked yes-twelve) allowed)

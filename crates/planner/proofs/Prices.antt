@@ -1,5 +1,5 @@
 -- A plan is priced over the words of a held region as over the file that the region holds. Assumes nothing.
-use mathlib.Core.Path.{_≡_, sym, ap, ap₂, _∙_}
+use mathlib.Core.Path.{_≡_, refl, sym, ap, ap₂, _∙_}
 use Prim.Native.Nat.{_≤_}
 use native.Mathlib.Omega.{arith}
 use borrow.Author.Tests.{eqb-true}
@@ -10,52 +10,52 @@ use Rattle.definitions.specs.Questions.{firstNo, planFits}
 use Rattle.definitions.specs.Outcomes.{priced}
 use Rattle.theorems.specs.Tests.{both}
 use Rattle.held_region.specs.declared.Region.{Region}
-use Rattle.held_region.specs.Held.{Holds}
-use Rattle.held_region.specs.Faithful.{patient-lines}
-use Rattle.buckets.specs.Terms.{Answered, Planned, Prepared}
+use Rattle.held_region.specs.Outline.{said}
+use Rattle.held_region.specs.Asked.{outline-count}
+use Rattle.buckets.specs.Terms.{Planned, Prepared}
 use Rattle.pricing.specs.declared.Cost.{Cost}
 use Rattle.pricing.specs.Pricing.{costIn, AsksAll, GivesAll, PlanAsked}
 use Rattle.answers.specs.declared.Priced.{Priced}
 use Rattle.answers.specs.declared.Priced.the-variants.{Misfit}
 use Rattle.answers.specs.Answers.{pricedOutcome}
-use Rattle.planner.specs.Counts.{few-patients}
+use Rattle.planner.specs.Counts.{counts-few}
 use Rattle.planner.specs.Prices.{RegionPriced, fitting}
 
-module _ {h : Region} {words terms : List ℕ} (plan : List ℕ) (pre : Planned h)
-    (prepared : (r : Said.Region) → Holds h r → Answered r → Prepared r (h .entries) words terms) {answer : Bool} (asked : PlanAsked words (h .v) plan answer) where
-  fits-asked : (r : Said.Region) → Holds h r → Answered r → answer ≡ planFits r plan
-  fits-asked r holds a =
-      let lines = patient-lines h r holds (a .counted) in
-      asked r (λ s l. prepared r holds a .beds s (omega (arith, lines))) (holds .patientCount) (sym lines)
+module _ (h : Region) (store : List ℕ) {words terms : List ℕ} (plan : List ℕ) (pre : Planned h store)
+    (prepared : Prepared (said h store) store words terms) {answer : Bool} (asked : PlanAsked words (h .v) plan answer) where
+  abbrev r : Said.Region
+  r = said h store
 
-  pub misfit-priced : answer ≡ false → RegionPriced h plan Misfit
-  misfit-priced misfit r holds a = sym (ap (λ b. priced (firstNo ((14, b) ∷ [])) (total r plan)) (sym (fits-asked r holds a) ∙ misfit))
+  fits-asked : answer ≡ planFits r plan
+  unfolding said
+  fits-asked = asked r (λ s l. prepared .beds s (omega (arith, outline-count h store))) refl (sym (outline-count h store))
+
+  pub misfit-priced : answer ≡ false → RegionPriced r plan Misfit
+  misfit-priced misfit = sym (ap (λ b. priced (firstNo ((14, b) ∷ [])) (total r plan)) (sym fits-asked ∙ misfit))
 
   module _ (fit : answer ≡ true) where
-    fits : (r : Said.Region) → Holds h r → Answered r → planFits r plan ≡ true
-    fits r holds a = sym (fits-asked r holds a) ∙ fit
+    fits : planFits r plan ≡ true
+    fits = sym fits-asked ∙ fit
 
     as-many : length plan ≡ h .v
-    unfolding planFits
-    as-many =
-        let r = pre .region in
-        eqb-true (length plan) (r .patientCount) (both (eqb (length plan) (r .patientCount)) (fits r (pre .holds) (pre .answered)) .0) ∙ sym (pre .holds .patientCount)
+    unfolding planFits said
+    as-many = eqb-true (length plan) (h .v) (both (eqb (length plan) (h .v)) fits .0)
 
     pub plan-short : length plan ≤ 32
-    plan-short = omega (arith, as-many, few-patients h pre)
+    plan-short = omega (arith, as-many, counts-few h store pre .0)
 
     module _ (beds : List ℕ) (same : take (length plan) beds ≡ plan) where
-      pub asks-all : AsksAll (h .entries) words terms (h .v) beds
+      pub asks-all : AsksAll store words terms (h .v) beds
       asks-all = record {
-        region = pre .region;
-        prepared = prepared (pre .region) (pre .holds) (pre .answered);
-        fits = fitting (pre .region) plan beds (pre .answered .counted) (fits (pre .region) (pre .holds) (pre .answered)) same;
-        all = sym (patient-lines h (pre .region) (pre .holds) (pre .answered .counted));
-        few = few-patients h pre;
+        region = r;
+        prepared = prepared;
+        fits = fitting r plan beds (pre .counted) fits same;
+        all = sym (outline-count h store);
+        few = counts-few h store pre .0;
       }
 
-      pub fit-priced : (cost : Cost) → GivesAll (h .entries) words terms (h .v) beds cost → (p : Priced) → priced 0 (costIn cost) ≡ pricedOutcome p → RegionPriced h plan p
-      fit-priced cost gives p e r holds a =
-          let is = gives r (prepared r holds a) (fitting r plan beds (a .counted) (fits r holds a) same) (sym (patient-lines h r holds (a .counted))) in
+      pub fit-priced : (cost : Cost) → GivesAll store words terms (h .v) beds cost → (p : Priced) → priced 0 (costIn cost) ≡ pricedOutcome p → RegionPriced r plan p
+      fit-priced cost gives p e =
+          let is = gives r prepared (fitting r plan beds (pre .counted) fits same) (sym (outline-count h store)) in
           let whole = ap (λ n. take n beds) (sym as-many) ∙ same in
-          sym e ∙ sym (ap₂ (λ b t. priced (firstNo ((14, b) ∷ [])) t) (fits r holds a) (sym (is ∙ ap (total r) whole)))
+          sym e ∙ sym (ap₂ (λ b t. priced (firstNo ((14, b) ∷ [])) t) fits (sym (is ∙ ap (total r) whole)))

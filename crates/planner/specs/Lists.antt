@@ -5,9 +5,6 @@ use Rattle.definitions.specs.Plans.{listOf}
 use Rattle.definitions.specs.Questions.{regionOf, areasLongEnough, askedByList}
 use Rattle.definitions.specs.Outcomes.{foundBy, listFound, outcomeOf}
 use Rattle.theorems.specs.List.{list-first}
-use Rattle.held_region.specs.declared.Region.{Region}
-use Rattle.held_region.specs.Held.{Holds}
-use Rattle.buckets.specs.Terms.{Answered}
 use Rattle.answers.specs.declared.Listed.{Listed}
 use Rattle.answers.specs.Answers.{listedOutcome}
 use Rattle.planner.specs.Found.{lastAsked, AsksTwelve, asks-twelve}
@@ -16,11 +13,10 @@ use Rattle.planner.specs.Found.{lastAsked, AsksTwelve, asks-twelve}
 abbrev pub longEnough : ℕ → ℕ → ℕ → ℕ → ℕ → Bool
 longEnough v m beds costs work = leb (m * v) beds && (leb m costs && leb 16_384 work)
 
--- What list gives, of the file that a held region holds, once questions 1 to 10 are answered yes.
-abbrev pub RegionListed : Region → List ℕ → List ℕ → List ℕ → Listed → List ℕ → List ℕ → List ℕ → Type 0
-RegionListed h beds costs work answer bedsAfter costsAfter workAfter =
-    (r : Said.Region) → Holds h r → Answered r
-    → listedOutcome answer bedsAfter costsAfter workAfter
+-- What list gives, of what a held region and its store say, once questions 1 to 10 are answered yes.
+abbrev pub RegionListed : Said.Region → List ℕ → List ℕ → List ℕ → Listed → List ℕ → List ℕ → List ℕ → Type 0
+RegionListed r beds costs work answer bedsAfter costsAfter workAfter =
+    listedOutcome answer bedsAfter costsAfter workAfter
     ≡ outcomeOf (foundBy (lastAsked r (areasLongEnough r beds costs work)) (r .patientCount) (listOf r)) beds costs work
 
 -- What list finds, by the answer to 12.

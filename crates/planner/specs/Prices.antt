@@ -9,10 +9,8 @@ use Rattle.definitions.specs.Plans.{Plan, bedOf, total}
 use Rattle.definitions.specs.Questions.{firstNo, regionOf, checkOf, countsTrue, planFits, askedByPrice}
 use Rattle.definitions.specs.Outcomes.{PriceOutcome, priced, priceFound}
 use Rattle.theorems.specs.Tests.{both}
-use Rattle.held_region.specs.declared.Region.{Region}
-use Rattle.held_region.specs.Held.{Holds}
 use Rattle.held_region.specs.Places.{every-place}
-use Rattle.buckets.specs.Terms.{Answered, Fitting}
+use Rattle.buckets.specs.Terms.{Fitting}
 use Rattle.answers.specs.declared.Priced.{Priced}
 use Rattle.answers.specs.Answers.{notAllowed, pricedOutcome}
 use Rattle.planner.specs.Later.{after-check, refused-before}
@@ -22,8 +20,8 @@ abbrev pub regionPrice : Said.Region → Plan → PriceOutcome
 regionPrice r plan = priced (firstNo ((14, planFits r plan) ∷ [])) (total r plan)
 
 -- The same of the file that a held region holds.
-abbrev pub RegionPriced : Region → Plan → Priced → Type 0
-RegionPriced h plan answer = (r : Said.Region) → Holds h r → Answered r → pricedOutcome answer ≡ regionPrice r plan
+abbrev pub RegionPriced : Said.Region → Plan → Priced → Type 0
+RegionPriced r plan answer = pricedOutcome answer ≡ regionPrice r plan
 
 -- A plan that fits, as the first beds of a longer list.
 pub fitting : (r : Said.Region) (plan beds : List ℕ) → countsTrue r ≡ true → planFits r plan ≡ true → take (length plan) beds ≡ plan → Fitting r beds

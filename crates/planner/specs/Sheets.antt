@@ -8,10 +8,8 @@ use Rattle.definitions.specs.Sheets.{sheetOf}
 use Rattle.definitions.specs.Questions.{Asked, firstNo, regionOf, clinicPresent, areasLongEnough, askedBySheet}
 use Rattle.definitions.specs.Outcomes.{foundBy, sheetFound, outcomeOf}
 use Rattle.theorems.specs.SheetAreas.{rows-few}
-use Rattle.patient_set.specs.Sets.{members}
 use Rattle.held_region.specs.declared.Region.{Region}
-use Rattle.held_region.specs.Held.{Holds}
-use Rattle.buckets.specs.Terms.{Answered}
+use Rattle.held_region.specs.Outline.{said}
 use Rattle.sheets.specs.Sheets.{Given, Asks}
 use Rattle.answers.specs.declared.Sheeted.{Sheeted}
 use Rattle.answers.specs.declared.Sheeted.the-variants.{Rows}
@@ -22,28 +20,23 @@ use Rattle.planner.specs.Found.{lastAsked, outcomeWith, AsksTwelve, asks
 abbrev pub lateAsked : Said.Region → ℕ → Bool → Asked
 lateAsked r clinic long = (11, clinicPresent r clinic) ∷ lastAsked r long
 
--- A set holds the patients of a clinic, whatever file the held region holds.
-abbrev pub HoldsClinic : Region → ℕ → ℕ → Type 0
-HoldsClinic h clinic set = (r : Said.Region) → Holds h r → Answered r → members set ≡ patientsOf r clinic
-
 -- The list lies in the work area, a set holds a clinic's patients, and the areas have room for m rows of V beds.
-pub record AsksSheet (h : Region) (n set : ℕ) (beds costs work : List ℕ) : Type 0 where
-  pub asks : Asks h n set work
+pub record AsksSheet (h : Region) (store : List ℕ) (n set : ℕ) (beds costs work : List ℕ) : Type 0 where
+  pub asks : Asks h store n set work
   pub count : n ≤ h .m
   pub bedsLong : h .m * h .v ≤ length beds
   pub costsLong : h .m ≤ length costs
 
 -- The sheet of each such clinic is written out.
-abbrev pub SheetWritten : Region → ℕ → ℕ → List ℕ → List ℕ → List ℕ → ℕ → List ℕ → List ℕ → List ℕ → Type 0
-SheetWritten h n set beds costs work k bedsAfter costsAfter workAfter =
-    (r : Said.Region) (clinic : ℕ) → Given h r clinic n set work
-    → sheetedOutcome (Rows k) bedsAfter costsAfter workAfter ≡ outcomeWith (length (patientsOf r clinic)) (sheetOf r clinic) beds costs work 0
+abbrev pub SheetWritten : Region → List ℕ → ℕ → ℕ → List ℕ → List ℕ → List ℕ → ℕ → List ℕ → List ℕ → List ℕ → Type 0
+SheetWritten h store n set beds costs work k bedsAfter costsAfter workAfter =
+    (clinic : ℕ) → Given h store clinic n set work
+    → sheetedOutcome (Rows k) bedsAfter costsAfter workAfter ≡ outcomeWith (length (patientsOf (said h store) clinic)) (sheetOf (said h store) clinic) beds costs work 0
 
--- What sheet gives, of the file that a held region holds, once questions 1 to 10 are answered yes.
-abbrev pub RegionSheeted : Region → ℕ → List ℕ → List ℕ → List ℕ → Sheeted → List ℕ → List ℕ → List ℕ → Type 0
-RegionSheeted h clinic beds costs work answer bedsAfter costsAfter workAfter =
-    (r : Said.Region) → Holds h r → Answered r
-    → sheetedOutcome answer bedsAfter costsAfter workAfter
+-- What sheet gives, of what a held region and its store say, once questions 1 to 10 are answered yes.
+abbrev pub RegionSheeted : Said.Region → ℕ → List ℕ → List ℕ → List ℕ → Sheeted → List ℕ → List ℕ → List ℕ → Type 0
+RegionSheeted r clinic beds costs work answer bedsAfter costsAfter workAfter =
+    sheetedOutcome answer bedsAfter costsAfter workAfter
     ≡ outcomeOf (foundBy (lateAsked r clinic (areasLongEnough r beds costs work)) (length (patientsOf r clinic)) (sheetOf r clinic)) beds costs work
 
 -- The number, by the answer to 11.

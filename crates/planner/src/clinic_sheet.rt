@@ -1,6 +1,12 @@
 // The sheet of a clinic, over the region of an accepted file.
+ghost use mathlib.Core.Path.{_≡_};
+ghost use Rattle.definitions.specs.Basics.{true};
+ghost use Rattle.definitions.specs.Syntax.{patientsOf};
+ghost use Rattle.definitions.specs.Questions.{patientsWithin};
+ghost use Rattle.patient_set.specs.Sets.{members};
+ghost use Rattle.held_region.specs.Outline.{outline, Fits, said};
 ghost use Rattle.buckets.specs.Terms.{Planned};
-ghost use Rattle.planner.specs.Sheets.{HoldsClinic, AsksSheet, SheetWritten, RegionSheeted};
+ghost use Rattle.planner.specs.Sheets.{AsksSheet, SheetWritten, RegionSheeted};
 use crate::loaded::long_enough;
 use answers::Sheeted;
 use held_region::Region;
@@ -17,8 +23,8 @@ use sheets::sheet_rows;
 
 // The patients of a clinic. A number that no clinic can have is compared as it is, and has none.
 pub fn clinic_patients(region: Region, clinic: u64) -> PatientSet
-    requires { ⌜ Planned region ⌝ }
-    ensures { λ set. ⌜ HoldsClinic region clinic (set .0) ⌝ }
+    requires { ⌜ (Fits region) × (patientsWithin (outline region) ≡ true) ⌝ }
+    ensures { λ set. ⌜ members (set .0) ≡ patientsOf (outline region) clinic ⌝ }
 {
     if !within(Field::Clinic, clinic as usize) {
         return PatientSet::EMPTY;
@@ -29,16 +35,17 @@ pub fn clinic_patients(region: Region, clinic: u64) -> PatientSet
 // The sheet of the list that lies in the work area, written out. The work area is cleared behind it.
 fn write_sheet(
     region: Region,
+    store: &[u32; 4096],
     n: usize,
     clinic: PatientSet,
     beds: &mut [u8],
     costs: &mut [u32],
     work: &mut [u32],
 ) -> usize
-    requires { ⌜ AsksSheet region n (clinic .0) (now beds) (now costs) (now work) ⌝ }
-    ensures { λ k. ⌜ SheetWritten region n (clinic .0) (now (beds .entry)) (now (costs .entry)) (now (work .entry)) k (now (beds .exit)) (now (costs .exit)) (now (work .exit)) ⌝ }
+    requires { ⌜ AsksSheet region (now store) n (clinic .0) (now beds) (now costs) (now work) ⌝ }
+    ensures { λ k. ⌜ SheetWritten region (now (store .entry)) n (clinic .0) (now (beds .entry)) (now (costs .entry)) (now (work .entry)) k (now (beds .exit)) (now (costs .exit)) (now (work .exit)) ⌝ }
 {
-    let rows = sheet_rows(work, region, n, clinic);
+    let rows = sheet_rows(work, region, store, n, clinic);
     let k = clinic.size() as usize;
     write_rows(&work[SECOND..THIRD], k, rows, beds, costs);
     clear(work);
@@ -48,13 +55,14 @@ fn write_sheet(
 // Questions 11, 12 and 13, then the clinic's sheet, written out.
 pub fn sheet_loaded(
     region: Region,
+    store: &[u32; 4096],
     clinic: u64,
     beds: &mut [u8],
     costs: &mut [u32],
     work: &mut [u32],
 ) -> Sheeted
-    requires { ⌜ Planned region ⌝ }
-    ensures { λ r. ⌜ RegionSheeted region clinic (now (beds .entry)) (now (costs .entry)) (now (work .entry)) r (now (beds .exit)) (now (costs .exit)) (now (work .exit)) ⌝ }
+    requires { ⌜ Planned region (now store) ⌝ }
+    ensures { λ r. ⌜ RegionSheeted (said region (now (store .entry))) clinic (now (beds .entry)) (now (costs .entry)) (now (work .entry)) r (now (beds .exit)) (now (costs .exit)) (now (work .exit)) ⌝ }
 {
     let set = clinic_patients(region, clinic);
     if set.is_empty() {
@@ -63,8 +71,8 @@ pub fn sheet_loaded(
     if !long_enough(region.v, region.m, beds.len(), costs.len(), work.len()) {
         return Sheeted::Short;
     }
-    let n = list_region(work, region);
-    let rows = write_sheet(region, n, set, beds, costs, work);
+    let n = list_region(work, region, store);
+    let rows = write_sheet(region, store, n, set, beds, costs, work);
     if n == 0 {
         return Sheeted::Nothing;
     }

@@ -10,6 +10,7 @@ use answers::Listed;
 use answers::Priced;
 use answers::Sheeted;
 use clinic_sheet::sheet_loaded;
+use held_region::FORBIDDEN;
 use held_region::Judged;
 use loaded::list_loaded;
 use loaded::price_region;
@@ -19,7 +20,8 @@ use reader::load;
 pub fn check(file: &[u8]) -> Judged
     ensures { λ r. ⌜ checkedNumber r ≡ checkOf (now (file .entry)) ⌝ }
 {
-    let loaded = load(file);
+    let mut store = [FORBIDDEN; 4096];
+    let loaded = load(file, &mut store, true);
     loaded.answer
 }
 
@@ -27,11 +29,12 @@ pub fn check(file: &[u8]) -> Judged
 pub fn list(file: &[u8], beds: &mut [u8], costs: &mut [u32], work: &mut [u32]) -> Listed
     ensures { λ r. ⌜ listedOutcome r (now (beds .exit)) (now (costs .exit)) (now (work .exit)) ≡ listOutcome (now (file .entry)) (now (beds .entry)) (now (costs .entry)) (now (work .entry)) ⌝ }
 {
-    let read = load(file);
+    let mut store = [FORBIDDEN; 4096];
+    let read = load(file, &mut store, true);
     let answer = read.answer;
     match answer {
         Judged::Refused(refusal) => Listed::Refused(refusal),
-        Judged::Fine => list_loaded(read.region, beds, costs, work),
+        Judged::Fine => list_loaded(read.region, &store, beds, costs, work),
     }
 }
 
@@ -46,11 +49,12 @@ pub fn sheet(
 ) -> Sheeted
     ensures { λ r. ⌜ sheetedOutcome r (now (beds .exit)) (now (costs .exit)) (now (work .exit)) ≡ sheetOutcome (now (file .entry)) clinic (now (beds .entry)) (now (costs .entry)) (now (work .entry)) ⌝ }
 {
-    let read = load(file);
+    let mut store = [FORBIDDEN; 4096];
+    let read = load(file, &mut store, true);
     let answer = read.answer;
     match answer {
         Judged::Refused(refusal) => Sheeted::Refused(refusal),
-        Judged::Fine => sheet_loaded(read.region, clinic, beds, costs, work),
+        Judged::Fine => sheet_loaded(read.region, &store, clinic, beds, costs, work),
     }
 }
 
@@ -59,10 +63,11 @@ pub fn sheet(
 pub fn price(file: &[u8], plan: &[u8]) -> Priced
     ensures { λ r. ⌜ pricedOutcome r ≡ priceOutcome (now (file .entry)) (now (plan .entry)) ⌝ }
 {
-    let read = load(file);
+    let mut store = [FORBIDDEN; 4096];
+    let read = load(file, &mut store, true);
     let answer = read.answer;
     match answer {
         Judged::Refused(refusal) => Priced::Refused(refusal),
-        Judged::Fine => price_region(read.region, plan),
+        Judged::Fine => price_region(read.region, &store, plan),
     }
 }

@@ -1,6 +1,7 @@
 // The entries over the region of an accepted file.
 ghost use mathlib.Core.Path.{_≡_};
 ghost use Rattle.buckets.specs.Terms.{Planned};
+ghost use Rattle.held_region.specs.Outline.{said};
 ghost use Prim.Native.Nat.{_≤_};
 ghost use Rattle.planner.specs.Prices.{RegionPriced};
 ghost use Rattle.planner.specs.Lists.{longEnough, RegionListed};
@@ -17,18 +18,18 @@ use row_writer::write_rows;
 use search::list_region;
 
 // Question 14, then the plan's total.
-pub fn price_region(region: Region, plan: &[u8]) -> Priced
-    requires { ⌜ Planned region ⌝ }
-    ensures { λ r. ⌜ RegionPriced region (now (plan .entry)) r ⌝ }
+pub fn price_region(region: Region, store: &[u32; 4096], plan: &[u8]) -> Priced
+    requires { ⌜ Planned region (now store) ⌝ }
+    ensures { λ r. ⌜ RegionPriced (said region (now (store .entry))) (now (plan .entry)) r ⌝ }
 {
-    let buckets = prepare(region);
+    let buckets = prepare(region, store);
     let patients = buckets.patients;
     let terms = buckets.terms;
     if !plan_fits(&patients, region.v, plan) {
         return Priced::Misfit;
     }
     let placed = plan_of(plan);
-    let cost = total(&patients, &terms, &region.entries, region.v, placed);
+    let cost = total(&patients, &terms, store, region.v, placed);
     match cost {
         Cost::Forbidden => Priced::Forbidden,
         Cost::Of(n) => Priced::Allowed(n),
@@ -44,14 +45,20 @@ pub fn long_enough(v: usize, m: usize, beds: usize, costs: usize, work: usize) -
 }
 
 // Questions 12 and 13, then the list, written out. The work area is cleared behind it.
-pub fn list_loaded(region: Region, beds: &mut [u8], costs: &mut [u32], work: &mut [u32]) -> Listed
-    requires { ⌜ Planned region ⌝ }
-    ensures { λ r. ⌜ RegionListed region (now (beds .entry)) (now (costs .entry)) (now (work .entry)) r (now (beds .exit)) (now (costs .exit)) (now (work .exit)) ⌝ }
+pub fn list_loaded(
+    region: Region,
+    store: &[u32; 4096],
+    beds: &mut [u8],
+    costs: &mut [u32],
+    work: &mut [u32],
+) -> Listed
+    requires { ⌜ Planned region (now store) ⌝ }
+    ensures { λ r. ⌜ RegionListed (said region (now (store .entry))) (now (beds .entry)) (now (costs .entry)) (now (work .entry)) r (now (beds .exit)) (now (costs .exit)) (now (work .exit)) ⌝ }
 {
     if !long_enough(region.v, region.m, beds.len(), costs.len(), work.len()) {
         return Listed::Short;
     }
-    let n = list_region(work, region);
+    let n = list_region(work, region, store);
     write_rows(work, region.v, n, beds, costs);
     clear(work);
     if n == 0 {

@@ -10,14 +10,15 @@ use Rattle.definitions.specs.Output.{printedRows}
 use Rattle.patient_set.specs.Sets.{members}
 use Rattle.patient_set.specs.Laws.{size-most}
 use Rattle.held_region.specs.declared.Region as Code
-use Rattle.held_region.specs.Held.{Holds}
-use Rattle.buckets.specs.Terms.{Answered}
+use Rattle.held_region.specs.Outline.{outline, said}
+use Rattle.held_region.specs.Said.{clinic-said}
+use Rattle.definitions.specs.Syntax.{patientsOf}
+use Rattle.buckets.specs.Terms.{Planned}
 use Rattle.row_list.specs.Rows.{rowsIn}
 use Rattle.row_sums.specs.Sums.{part}
 use Rattle.row_sums.specs.Areas.{part-long}
 use Rattle.sheets.specs.Sheets.{Given, Asks, Gives}
 use Rattle.planner.specs.Asked.{present-asked}
-use Rattle.planner.specs.Sheets.{HoldsClinic}
 use Rattle.text_writer.specs.Wrote.{Wrote}
 use Rattle.row_printer.specs.Printing.{Printable}
 use Rattle.printer.specs.Steps.{clinicText, AsksClinic, GivesClinic}
@@ -26,46 +27,51 @@ use Rattle.printer.specs.Steps.{clinicText, AsksClinic, GivesClinic}
 abbrev sheetText : ℕ → List Row → List ℕ
 sheetText c rows = printedRows (text "sheet" ∷ decimal c ∷ []) rows
 
-module _ (h : Code.Region) {n clinic at : ℕ} (out work : List ℕ) (asks : AsksClinic h n clinic at out work) (set : ℕ) (held : HoldsClinic h clinic set)
+module _ (h : Code.Region) (store : List ℕ) {n clinic at : ℕ} (out work : List ℕ) (asks : AsksClinic h store n clinic at out work) (set : ℕ) (is : members set ≡ patientsOf (outline h) clinic)
     {empty : Bool} (told : empty ≡ isEmpty (members set)) where
-  -- What is printed, by whether the set is empty.
-  said : (r : Region) → Holds h r → Answered r → {answer : Bool} → empty ≡ answer → clinicText r clinic ≡ cond (not answer) (sheetText clinic (sheetOf r clinic)) []
-  unfolding clinicText
-  said r holds answered e =
-      ap (λ b. cond b (sheetText clinic (sheetOf r clinic)) [])
-      (present-asked r clinic ∙ ap (λ m. not (isEmpty m)) (sym (held r holds answered)) ∙ ap not (sym told ∙ e))
+  abbrev r : Region
+  r = said h store
 
-  pub clinic-absent : empty ≡ true → GivesClinic h n clinic at out work out work at
+  held : members set ≡ patientsOf r clinic
+  held = is ∙ sym (clinic-said h store clinic)
+
+  -- What is printed, by whether the set is empty.
+  text-said : {answer : Bool} → empty ≡ answer → clinicText r clinic ≡ cond (not answer) (sheetText clinic (sheetOf r clinic)) []
+  unfolding clinicText
+  text-said e =
+      ap (λ b. cond b (sheetText clinic (sheetOf r clinic)) [])
+      (present-asked r clinic ∙ ap (λ m. not (isEmpty m)) (sym (held)) ∙ ap not (sym told ∙ e))
+
+  pub clinic-absent : empty ≡ true → GivesClinic h store n clinic at out work out work at
   clinic-absent e = record {
     kept = record { long = refl; list = refl };
-    wrote = λ r holds answered. let none = said r holds answered e in rw none (record { bytes = refl; next = omega arith });
+    wrote = let none = text-said e in rw none (record { bytes = refl; next = omega arith });
   }
 
-  given : (r : Region) → Holds h r → Answered r → Given h r clinic n set work
-  given r holds answered = record { holds = holds; answered = answered; list = asks .listed .list r holds answered; patients = held r holds answered }
+  given : Given h store clinic n set work
+  given = record { list = asks .listed .list; patients = held }
 
-  pub asks-sheet : Asks h n set work
+  pub asks-sheet : Asks h store n set work
   asks-sheet =
       let planned = asks .listed .planned in
       record {
-        region = planned .region;
+        planned = planned;
         clinic = clinic;
-        given = given (planned .region) (planned .holds) (planned .answered);
+        given = given;
         few = asks .listed .few;
         long = asks .listed .long;
       }
 
   -- The rows of the sheet lie in the second part of the work area, with k beds a row.
-  module _ (present : empty ≡ false) {k count : ℕ} {area : List ℕ} (gives : Gives h n set work area count) (wide : k ≡ length (members set)) where
-    rows-said : (r : Region) → Holds h r → Answered r → sheetText clinic (rowsIn k count (part 1 area)) ≡ clinicText r clinic
-    rows-said r holds answered =
-        ap (sheetText clinic) (ap (λ w. rowsIn w count (part 1 area)) wide ∙ gives .sheet r clinic (given r holds answered)) ∙ sym (said r holds answered present)
+  module _ (present : empty ≡ false) {k count : ℕ} {area : List ℕ} (gives : Gives h store n set work area count) (wide : k ≡ length (members set)) where
+    rows-said : sheetText clinic (rowsIn k count (part 1 area)) ≡ clinicText r clinic
+    rows-said =
+        ap (sheetText clinic) (ap (λ w. rowsIn w count (part 1 area)) wide ∙ gives .sheet clinic given) ∙ sym (text-said present)
 
     pub printable : Printable (sheetText clinic (rowsIn k count (part 1 area))) k count (part 1 area) at out
     printable =
-        let planned = asks .listed .planned in
         let part-is = part-long 1 area (omega (arith, gives .long, asks .listed .long)) in
-        let same = rows-said (planned .region) (planned .holds) (planned .answered) in
+        let same = rows-said in
         record {
           patients = omega (arith, wide, size-most set);
           held = omega (arith, part-is, gives .count, asks .listed .few);
@@ -73,8 +79,8 @@ module _ (h : Code.Region) {n clinic at : ℕ} (out work : List ℕ) (asks : Ask
         }
 
     pub clinic-printed : {after : List ℕ} {end : ℕ} → Wrote (sheetText clinic (rowsIn k count (part 1 area))) at out after end
-        → GivesClinic h n clinic at out work after area end
+        → GivesClinic h store n clinic at out work after area end
     clinic-printed wrote = record {
       kept = record { long = gives .long; list = gives .list };
-      wrote = λ r holds answered. let same = rows-said r holds answered in rw (← same) wrote;
+      wrote = let same = rows-said in rw (← same) wrote;
     }

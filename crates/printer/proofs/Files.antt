@@ -12,9 +12,9 @@ use Rattle.held_region.specs.declared.Judged.{Judged}
 use Rattle.held_region.specs.declared.Judged.the-variants.{Fine, Refused}
 use Rattle.held_region.specs.Refusals.{numberOf}
 use Rattle.reader.specs.declared.Loaded.{Loaded}
-use Rattle.reader.specs.Loading.{LoadedFrom}
+use Rattle.reader.specs.Loading.{LoadedFrom, checks}
 use Rattle.planner.specs.Later.{after-check, refused-before, refusal-number}
-use Rattle.planner.specs.Loaded.{answered}
+use Rattle.planner.specs.Loaded.{planned-fine}
 use Rattle.planner.specs.Found.{lastAsked}
 use Rattle.text_writer.specs.Wrote.{Room, Wrote}
 use Rattle.row_printer.specs.Whole.{printed-size}
@@ -65,9 +65,9 @@ module _ (file out : List ℕ) where
       refused-written wrote = text-written (let same = refused-said in rw same wrote)
 
     -- An accepted file.
-    module _ (loaded : Loaded) (from : LoadedFrom file loaded) (q : ℕ) (number : q ≡ numberOf (loaded .answer)) (none-refused : q ≡ 0) where
+    module _ (loaded : Loaded) (store : List ℕ) (from : LoadedFrom true file loaded store) (q : ℕ) (number : q ≡ numberOf (loaded .answer)) (none-refused : q ≡ 0) where
       checked : checkOf file ≡ 0
-      checked = sym (from .number) ∙ sym number ∙ none-refused
+      checked = sym (checks from) ∙ sym number ∙ none-refused
 
       holds : loaded .answer ≡ Fine
       holds = fine (loaded .answer) (sym number ∙ none-refused)
@@ -76,12 +76,12 @@ module _ (file out : List ℕ) where
       unfolding printed listFound askedByList regionText
       region-said = ap (λ n. printedAnswer n (regionOf file)) (after-check file (lastAsked (regionOf file) true) checked)
 
-      pub asks-text : (work : List ℕ) → 1_152 ≤ length work → AsksText (loaded .region) out work
+      pub asks-text : (work : List ℕ) → 1_152 ≤ length work → AsksText (loaded .region) store out work
       asks-text work enough = record {
-        planned = record { region = regionOf file; holds = from .holds holds; answered = answered file checked };
+        planned = planned-fine file loaded from holds;
         long = enough;
-        room = omega (arith, ap length region-said, room);
+        room = omega (arith, ap length (region-said ∙ ap regionText (sym (from .says holds))), room);
       }
 
-      pub region-written : {after : List ℕ} {end : ℕ} → GivesText (loaded .region) out after end → record { length = end; out = after } ≡ printOutcome file out
-      region-written gives = text-written (let same = region-said in rw same (gives (regionOf file) (from .holds holds) (answered file checked)))
+      pub region-written : {after : List ℕ} {end : ℕ} → GivesText (loaded .region) store out after end → record { length = end; out = after } ≡ printOutcome file out
+      region-written gives = text-written (let same = region-said ∙ ap regionText (sym (from .says holds)) in rw same gives)

@@ -8,8 +8,8 @@ use Rattle.definitions.specs.Spelling.{decimal, line}
 use Rattle.definitions.specs.Plans.{Row, listOf}
 use Rattle.definitions.specs.Output.{printedRows}
 use Rattle.held_region.specs.declared.Region as Code
-use Rattle.held_region.specs.Held.{Holds}
-use Rattle.buckets.specs.Terms.{Answered}
+use Rattle.held_region.specs.Outline.{said}
+use Rattle.buckets.specs.Terms.{Planned}
 use Rattle.row_list.specs.Rows.{rowsIn}
 use Rattle.row_list.specs.Laws.{cut-long}
 use Rattle.row_sums.specs.Sums.{part}
@@ -26,53 +26,53 @@ use Rattle.printer.proofs.Texts.{nothing-text, text-parts}
 abbrev listText : List Row → List ℕ
 listText rows = printedRows (text "list" ∷ []) rows
 
-module _ (h : Code.Region) (out work : List ℕ) (asks : AsksText h out work) {n : ℕ} {area : List ℕ} (gives : GivesRegion h work area n) where
+module _ (h : Code.Region) (store : List ℕ) (out work : List ℕ) (asks : AsksText h store out work) {n : ℕ} {area : List ℕ} (gives : GivesRegion h store work area n) where
+  abbrev r : Region
+  r = said h store
+
   few : n ≤ 64
-  few = omega (arith, gives .count, counts-few h (asks .planned) .1)
+  few = omega (arith, gives .count, counts-few h store (asks .planned) .1)
 
   -- As many rows as the list has.
-  counted : (r : Region) → Holds h r → Answered r → n ≡ length (listOf r)
-  counted r holds answered = sym (cut-long (h .v) n (part 0 area)) ∙ ap length (gives .list r holds answered)
+  counted : n ≡ length (listOf r)
+  counted = sym (cut-long (h .v) n (part 0 area)) ∙ ap length (gives .list)
 
   -- Question 13 is answered no.
   module _ (none-found : n ≡ 0) where
-    nothing-said : (r : Region) → Holds h r → Answered r → regionText r ≡ line (text "refused" ∷ decimal 13 ∷ [])
-    nothing-said r holds answered = nothing-text r (list-none r answered (counted r holds answered) none-found)
+    nothing-said : regionText r ≡ line (text "refused" ∷ decimal 13 ∷ [])
+    nothing-said = nothing-text r (list-none r (asks .planned) counted none-found)
 
     pub refusal-room : Room (line (text "refused" ∷ decimal 13 ∷ [])) 0 out
     refusal-room =
-        let planned = asks .planned in
-        let same = nothing-said (planned .region) (planned .holds) (planned .answered) in
+        let same = nothing-said in
         omega (arith, ap length same, asks .room)
 
-    pub nothing-printed : {after : List ℕ} {end : ℕ} → Wrote (line (text "refused" ∷ decimal 13 ∷ [])) 0 out after end → GivesText h out after end
-    nothing-printed wrote r holds answered = let same = nothing-said r holds answered in rw same wrote
+    pub nothing-printed : {after : List ℕ} {end : ℕ} → Wrote (line (text "refused" ∷ decimal 13 ∷ [])) 0 out after end → GivesText h store out after end
+    nothing-printed wrote = let same = nothing-said in rw same wrote
 
   -- The list is left, then the sheets.
   module _ (some-found : n ≡ 0 → ⊥) where
-    all-left : (r : Region) → Holds h r → Answered r → Left (regionText r) 0 out (listText (rowsIn (h .v) n (part 0 area)) ∷ sheetsFrom r 0 ∷ []) out 0
-    all-left r holds answered =
-        let list = gives .list r holds answered in
-        rw list (none-yet _ (text-parts r (list-some r answered (counted r holds answered) some-found)))
+    all-left : Left (regionText r) 0 out (listText (rowsIn (h .v) n (part 0 area)) ∷ sheetsFrom r 0 ∷ []) out 0
+    all-left =
+        let list = gives .list in
+        rw list (none-yet _ (text-parts r (list-some r (asks .planned) counted some-found)))
 
     pub list-printable : Printable (listText (rowsIn (h .v) n (part 0 area))) (h .v) n (part 0 area) 0 out
     list-printable =
-        let planned = asks .planned in
         let part-is = part-long 0 area (omega (arith, gives .long, asks .long)) in
         record {
-          patients = counts-few h planned .0;
+          patients = counts-few h store (asks .planned) .0;
           held = omega (arith, part-is, few);
-          room = room-for (all-left (planned .region) (planned .holds) (planned .answered)) (asks .room);
+          room = room-for all-left (asks .room);
         }
 
     module _ {now : List ℕ} {at : ℕ} (wrote : Wrote (listText (rowsIn (h .v) n (part 0 area))) 0 out now at) where
-      pub asks-sheets : AsksSheets h n at now area
+      pub asks-sheets : AsksSheets h store n at now area
       asks-sheets =
-          let planned = asks .planned in
           record {
-            listed = record { planned = planned; few = few; long = omega (arith, gives .long, asks .long); list = gives .list };
-            room = room-for (then-left (all-left (planned .region) (planned .holds) (planned .answered)) wrote) (asks .room);
+            listed = record { planned = asks .planned; few = few; long = omega (arith, gives .long, asks .long); list = gives .list };
+            room = room-for (then-left all-left wrote) (asks .room);
           }
 
-      pub text-printed : {after : List ℕ} {end : ℕ} → GivesSheets h at now after end → GivesText h out after end
-      text-printed sheets r holds answered = none-left (then-left (then-left (all-left r holds answered) wrote) (sheets r holds answered))
+      pub text-printed : {after : List ℕ} {end : ℕ} → GivesSheets h store at now after end → GivesText h store out after end
+      text-printed sheets = none-left (then-left (then-left (all-left) wrote) (sheets))

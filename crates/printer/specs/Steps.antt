@@ -8,8 +8,8 @@ use Rattle.definitions.specs.Sheets.{sheetOf}
 use Rattle.definitions.specs.Questions.{firstNo, clinicPresent, planAllowed}
 use Rattle.definitions.specs.Output.{printedRows, printedAnswer}
 use Rattle.held_region.specs.declared.Region as Code
-use Rattle.held_region.specs.Held.{Holds}
-use Rattle.buckets.specs.Terms.{Answered, Planned}
+use Rattle.held_region.specs.Outline.{said}
+use Rattle.buckets.specs.Terms.{Planned}
 use Rattle.row_sums.specs.Sums.{listAt}
 use Rattle.text_writer.specs.Wrote.{Room, Wrote}
 
@@ -25,43 +25,39 @@ sheetsFrom r c = flatMap (clinicText r) (numbersFrom c (16 - c))
 unfoldable pub regionText : Region → List ℕ
 regionText r = printedAnswer (firstNo ((13, planAllowed r) ∷ [])) r
 
--- A text was written for whatever file the held region holds.
-abbrev pub WroteOf : Code.Region → (Region → List ℕ) → ℕ → List ℕ → List ℕ → ℕ → Type 0
-WroteOf h said at out after end = (r : Region) → Holds h r → Answered r → Wrote (said r) at out after end
-
 -- The list of a planned region lies in the first part of the work area; afterwards it still does.
-pub record Listed (h : Code.Region) (n : ℕ) (work : List ℕ) : Type 0 where
-  pub planned : Planned h
+pub record Listed (h : Code.Region) (store : List ℕ) (n : ℕ) (work : List ℕ) : Type 0 where
+  pub planned : Planned h store
   pub few : n ≤ 64
   pub long : 1_152 ≤ length work
-  pub list : (r : Region) → Holds h r → Answered r → listAt (h .v) n 0 work ≡ listOf r
+  pub list : listAt (h .v) n 0 work ≡ listOf (said h store)
 
 pub record Kept (h : Code.Region) (n : ℕ) (work after : List ℕ) : Type 0 where
   pub long : length after ≡ length work
   pub list : listAt (h .v) n 0 after ≡ listAt (h .v) n 0 work
 
 -- A clinic's sheet.
-pub record AsksClinic (h : Code.Region) (n clinic at : ℕ) (out work : List ℕ) : Type 0 where
-  pub listed : Listed h n work
-  pub room : Room (clinicText (listed .planned .region) clinic) at out
+pub record AsksClinic (h : Code.Region) (store : List ℕ) (n clinic at : ℕ) (out work : List ℕ) : Type 0 where
+  pub listed : Listed h store n work
+  pub room : Room (clinicText (said h store) clinic) at out
 
-pub record GivesClinic (h : Code.Region) (n clinic at : ℕ) (out work after workAfter : List ℕ) (end : ℕ) : Type 0 where
+pub record GivesClinic (h : Code.Region) (store : List ℕ) (n clinic at : ℕ) (out work after workAfter : List ℕ) (end : ℕ) : Type 0 where
   pub kept : Kept h n work workAfter
-  pub wrote : WroteOf h (λ r. clinicText r clinic) at out after end
+  pub wrote : Wrote (clinicText (said h store) clinic) at out after end
 
 -- The sheets of all clinics.
-pub record AsksSheets (h : Code.Region) (n at : ℕ) (out work : List ℕ) : Type 0 where
-  pub listed : Listed h n work
-  pub room : Room (sheetsFrom (listed .planned .region) 0) at out
+pub record AsksSheets (h : Code.Region) (store : List ℕ) (n at : ℕ) (out work : List ℕ) : Type 0 where
+  pub listed : Listed h store n work
+  pub room : Room (sheetsFrom (said h store) 0) at out
 
-abbrev pub GivesSheets : Code.Region → ℕ → List ℕ → List ℕ → ℕ → Type 0
-GivesSheets h at out after end = WroteOf h (λ r. sheetsFrom r 0) at out after end
+abbrev pub GivesSheets : Code.Region → List ℕ → ℕ → List ℕ → List ℕ → ℕ → Type 0
+GivesSheets h store at out after end = Wrote (sheetsFrom (said h store) 0) at out after end
 
 -- The whole text.
-pub record AsksText (h : Code.Region) (out work : List ℕ) : Type 0 where
-  pub planned : Planned h
+pub record AsksText (h : Code.Region) (store out work : List ℕ) : Type 0 where
+  pub planned : Planned h store
   pub long : 1_152 ≤ length work
-  pub room : Room (regionText (planned .region)) 0 out
+  pub room : Room (regionText (said h store)) 0 out
 
-abbrev pub GivesText : Code.Region → List ℕ → List ℕ → ℕ → Type 0
-GivesText h out after end = WroteOf h regionText 0 out after end
+abbrev pub GivesText : Code.Region → List ℕ → List ℕ → List ℕ → ℕ → Type 0
+GivesText h store out after end = Wrote (regionText (said h store)) 0 out after end

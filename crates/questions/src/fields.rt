@@ -7,7 +7,7 @@ use held_region::limits::Field;
 use held_region::limits::within;
 ghost use mathlib.Core.Path.{_≡_};
 ghost use Prim.Native.Nat.{_≤_};
-ghost use Rattle.definitions.specs.Basics.{_&&_};
+ghost use Rattle.definitions.specs.Basics.{not, _&&_, _||_};
 ghost use Rattle.definitions.specs.Questions.{countsWithin, patientsWithin, parentsSmaller, membersRight};
 ghost use Rattle.held_region.specs.Held.{parentOf, patientOf};
 ghost use Rattle.held_region.specs.Members.{membersFit, risesFrom};
@@ -69,12 +69,18 @@ pub fn parents_smaller(region: Region) -> bool
     true
 }
 
-// 6. Are the patients right, and their parents?
-pub fn patients_right(region: Region) -> bool
+// 6. Are the patients right, and if it is asked, their parents?
+pub fn patients_right(region: Region, parents: bool) -> bool
     requires { ⌜ Fits region ⌝ }
-    ensures { λ a. ⌜ a ≡ (patientsWithin (outline region) && parentsSmaller (outline region)) ⌝ }
+    ensures { λ a. ⌜ a ≡ (patientsWithin (outline region) && (not parents || parentsSmaller (outline region))) ⌝ }
 {
-    patients_fit(region) && parents_smaller(region)
+    if !patients_fit(region) {
+        return false;
+    }
+    if !parents {
+        return true;
+    }
+    parents_smaller(region)
 }
 
 // Are a table's members below v, each above the one before it?

@@ -13,23 +13,25 @@ use held_region::Region;
 use region_sets::members_related;
 ghost use mathlib.Core.Path.{_≡_};
 ghost use Rattle.definitions.specs.Basics.{true};
-ghost use Rattle.definitions.specs.Syntax as Said;
 ghost use Rattle.definitions.specs.Questions.{firstNo, parentsSmaller};
-ghost use Rattle.held_region.specs.Outline.{outline};
+ghost use Rattle.held_region.specs.Outline.{outline, said};
 ghost use Rattle.held_region.specs.Sound.{Sound};
-ghost use Rattle.held_region.specs.Refusals.{numberOf, askedOf, lastAskedOfHeld, ReadFrom};
+ghost use Rattle.held_region.specs.Refusals.{numberOf, asked, lastAsked};
 
 // Questions 8 to 10, which rely on the ones before them.
-fn judge_entries(region: Region) -> Judged
-    requires { ⌜ (Sound region) × (parentsSmaller (outline region) ≡ true) ⌝ }
-    ensures { λ a. ⌜ numberOf a ≡ firstNo (lastAskedOfHeld region) ⌝ }
+fn judge_entries(region: Region, store: &[u32; 4096], parents: bool) -> Judged
+    requires { ⌜ (Sound region) × (parents ≡ true → parentsSmaller (outline region) ≡ true) ⌝ }
+    ensures { λ a. ⌜ numberOf a ≡ firstNo (lastAsked parents (said region (now (store .entry)))) ⌝ }
 {
     if !entry_counts_right(region) {
         return Judged::Refused(Refusal::EntryCounts);
     }
     let total = entry_total(region);
-    if !entries_fit(&region.entries, total) {
+    if !entries_fit(store, total) {
         return Judged::Refused(Refusal::Entries);
+    }
+    if !parents {
+        return Judged::Fine;
     }
     if !members_related(region) {
         return Judged::Refused(Refusal::Ancestors);
@@ -37,18 +39,18 @@ fn judge_entries(region: Region) -> Judged
     Judged::Fine
 }
 
-// Questions 5 to 10 in their order: the first no is the answer.
-pub fn judge(region: Region) -> Judged
-    ensures { λ a. ⌜ ((r : Said.Region) → ReadFrom region r → numberOf a ≡ firstNo (askedOf r)) ⌝ }
+// Questions 5 to 10 in their order, with or without those of parents: the first no is the answer.
+pub fn judge(region: Region, store: &[u32; 4096], parents: bool) -> Judged
+    ensures { λ a. ⌜ numberOf a ≡ firstNo (asked parents (said region (now (store .entry)))) ⌝ }
 {
     if !counts_fit(region) {
         return Judged::Refused(Refusal::Limits);
     }
-    if !patients_right(region) {
+    if !patients_right(region, parents) {
         return Judged::Refused(Refusal::Patients);
     }
     if !members_right(region) {
         return Judged::Refused(Refusal::Members);
     }
-    judge_entries(region)
+    judge_entries(region, store, parents)
 }

@@ -5,67 +5,69 @@ use mathlib.Core.Option.{Option·some-injective}
 use native.Mathlib.Omega.{arith}
 use Prim.Native.Nat.{_≤_}
 use borrow.Author.Tests.{ltb-true, lt-ltb, le-leb, lt-leb, eqb-true, eq-eqb, ne-eqb}
-use Rattle.definitions.specs.Basics.{ℕ, _<_, Bool, true, false, not, _&&_, Option, none, some, List, [], _∷_, length, getD, take, eqb, ltb, leb, every, noneOr, isSome, isEmpty, flatten, dropLast}
+use Rattle.definitions.specs.Basics.{ℕ, _<_, Bool, true, false, not, _&&_, Option, none, some, List, [], _∷_, _++_, length, getD, take, eqb, ltb, leb, every, noneOr, isSome, isEmpty, flatten, dropLast}
 use Rattle.definitions.specs.Limits.{Field, fileLength, patientCount, tableCount, plansWanted, limits, within}
 use Rattle.definitions.specs.Syntax as Said
 use Rattle.definitions.specs.Layout.{lines, layout}
 use Rattle.definitions.specs.Spelling.{spellable, wellFormed}
-use Rattle.definitions.specs.Questions.{firstNo, shortEnough, laidOut, countsTrue, sumTrue, countsWithin, checksum, regionOf, askedByCheck, checkOf}
+use Rattle.definitions.specs.Questions.{firstNo, shortEnough, laidOut, countsTrue, sumTrue, countsWithin, checksum, regionOf, Asked}
 use Rattle.theorems.specs.Tests.{both, join}
-use Rattle.theorems.specs.Accepted.{at-most, region-said, accepted}
+use Rattle.theorems.specs.Accepted.{at-most, region-said}
 use Rattle.theorems.specs.Every.{every-weaken}
 use Rattle.theorems.specs.Items.{someAll}
 use Rattle.theorems.specs.Forms.{okTable}
 use Rattle.theorems.specs.Files.{well-formed-lines}
-use Rattle.theorems.specs.Spelling.{layout-spelling}
-use Rattle.held_region.specs.Held.{mark, blankStore, Holds}
+use Rattle.theorems.specs.Spelling.{layout-spelling, body-spelt}
+use Rattle.held_region.specs.Held.{mark, Holds}
 use Rattle.held_region.specs.declared.Region.{Region}
 use Rattle.held_region.specs.declared.Refusal.{Refusal}
-use Rattle.held_region.specs.declared.Refusal.the-variants.{TooLong, Layout, Counts, Sum}
+use Rattle.held_region.specs.declared.Refusal.the-variants.{TooLong, Layout, Counts, Sum, Limits, Patients, Members, EntryCounts, Entries, Ancestors}
 use Rattle.held_region.specs.declared.Judged.{Judged}
 use Rattle.held_region.specs.declared.Judged.the-variants.{Fine, Refused}
-use Rattle.held_region.specs.Refusals.{questionOf, numberOf, askedOf, unmarked, ReadFrom}
+use Rattle.held_region.specs.Refusals.{questionOf, numberOf, asked, unmarked, ReadFrom}
+use Rattle.held_region.specs.Outline.{said}
+use Rattle.held_region.specs.Answers.{asked-told, read-said}
 use Rattle.layout.specs.declared.Laid.{Laid}
 use Rattle.reader.specs.declared.Loaded.{Loaded}
 use Rattle.layout.specs.LaidOut.{LaidThere, LaidOut}
-use Rattle.reader.specs.Loading.{LoadedFrom, refusedWith, regionHeld}
+use Rattle.reader.specs.Loading.{readAsked, FileRead, LoadedFrom, refusedWith, regionHeld}
 
 -- ---- the first four questions
 
 module _ (s : List ℕ) where
-  pub check-too-long : 65_535 < length s → 1 ≡ checkOf s
-  unfolding checkOf askedByCheck shortEnough within limits
-  check-too-long h = rw (le-leb 0 (length s) (omega arith), lt-leb (length s) 65_535 h)
+  pub read-too-long : 65_535 < length s → 1 ≡ firstNo (readAsked s)
+  unfolding readAsked shortEnough within limits
+  read-too-long h = rw (le-leb 0 (length s) (omega arith), lt-leb (length s) 65_535 h)
 
   module _ (h : length s ≤ 65_535) where
     short : shortEnough s ≡ true
     unfolding shortEnough within limits
     short = rw (le-leb 0 (length s) (omega arith), le-leb (length s) 65_535 h)
 
-    pub check-no-layout : layout s ≡ none → 2 ≡ checkOf s
-    unfolding checkOf askedByCheck laidOut
-    check-no-layout e = rw (short, e)
+    pub read-no-layout : layout s ≡ none → 2 ≡ firstNo (readAsked s)
+    unfolding readAsked laidOut
+    read-no-layout e = rw (short, e)
 
     module _ {tree : Said.Region} (says : layout s ≡ some tree) where
       laid : laidOut s ≡ true
       unfolding laidOut
       laid = ap isSome says
 
-      pub said : regionOf s ≡ tree
-      said = Option·some-injective (regionOf s) tree (sym (region-said s laid) ∙ says)
+      pub file-says : regionOf s ≡ tree
+      file-says = Option·some-injective (regionOf s) tree (sym (region-said s laid) ∙ says)
 
-      pub check-counts : countsTrue tree ≡ false → 3 ≡ checkOf s
-      unfolding checkOf askedByCheck
-      check-counts e = rw (short, laid, said, e)
+      pub read-counts : countsTrue tree ≡ false → 3 ≡ firstNo (readAsked s)
+      unfolding readAsked
+      read-counts e = rw (short, laid, file-says, e)
 
       module _ (counted : countsTrue tree ≡ true) where
-        pub check-sum : sumTrue s tree ≡ false → 4 ≡ checkOf s
-        unfolding checkOf askedByCheck
-        check-sum e = rw (short, laid, said, counted, e)
+        pub read-sum : sumTrue s tree ≡ false → 4 ≡ firstNo (readAsked s)
+        unfolding readAsked
+        read-sum e = rw (short, laid, file-says, counted, e)
 
-        pub check-rest : sumTrue s tree ≡ true → firstNo (askedOf tree) ≡ checkOf s
-        unfolding checkOf askedByCheck askedOf
-        check-rest e = rw (short, laid, said, counted, e)
+        pub read-all : sumTrue s tree ≡ true → 0 ≡ firstNo (readAsked s)
+        unfolding readAsked
+        read-all e = rw (short, laid, file-says, counted, e)
 
 -- ---- what is held
 
@@ -91,8 +93,8 @@ few tree counted fit =
       omega (arith, eqb-true (length (tree .tables)) (tree .tableCount) tables, at-most tableCount (tree .tableCount) t),
     )
 
-module _ {s : List ℕ} {laid : Laid} {before after : List ℕ} (l : LaidThere s laid before after) (blank : before ≡ blankStore) (counted : countsTrue (l .tree) ≡ true) where
-  pub holds : countsWithin (l .tree) ≡ true → Holds (regionHeld laid after) (l .tree)
+module _ {s : List ℕ} {laid : Laid} {before after : List ℕ} (l : LaidThere s laid before after) (wide : length before ≡ 4096) (counted : countsTrue (l .tree) ≡ true) where
+  pub holds : countsWithin (l .tree) ≡ true → Holds (regionHeld laid) after (l .tree)
   unfolding Said.patientAt
   holds fit = let (v, t) = few (l .tree) counted fit in record {
     patientCount = l .patientCount;
@@ -100,40 +102,42 @@ module _ {s : List ℕ} {laid : Laid} {before after : List ℕ} (l : LaidThere s
     plansWanted = l .plansWanted;
     patients = λ i h. l .patientsHeld i (omega arith) h;
     tables = λ i h. l .tablesHeld i (omega arith) h;
-    entries = l .stored blank;
+    entries = l .stored wide;
   }
 
-  pub read-from : ReadFrom (regionHeld laid after) (l .tree)
-  read-from = record {
+  pub read-from : sumTrue s (l .tree) ≡ true → ReadFrom (regionHeld laid) after (l .tree)
+  unfolding sumTrue
+  read-from summed = record {
     patientCount = l .patientCount;
     tableCount = l .tableCount;
     plansWanted = l .plansWanted;
     counted = counted;
+    summed = eqb-true _ _ summed ∙ ap checksum (body-spelt s (l .tree) (l .says));
     holds = holds;
     unmarked = every-weaken okTable unmarked table-unmarked (l .tree .tables) (well-formed-lines (l .tree) (layout-spelling s (l .tree) .0 (l .says) .0) .tables);
   }
 
--- ---- what is loaded
+-- ---- what is read
 
-loaded-refused : {s : List ℕ} {r : Loaded} {q : Refusal} → r ≡ refusedWith q → questionOf q ≡ checkOf s → LoadedFrom s r
-loaded-refused {s} {r} {q} e n = record {
+not-fine : {q : Refusal} {P : Type 0} → Refused q ≡ Fine → P
+not-fine k = absurd (let z : _≡_ {A = ℕ} 0 1 = cc in omega arith)
+
+refused-with : {s store : List ℕ} {r : Loaded} {q : Refusal} → r ≡ refusedWith q → questionOf q ≡ firstNo (readAsked s) → FileRead s r store
+refused-with {s} {store} {r} {q} e n = record {
   number = ap (λ (x : Loaded). numberOf (x .answer)) e ∙ n;
-  holds = λ fine. absurd (refused-not-fine (sym (ap (λ (x : Loaded). x .answer) e) ∙ fine));
+  read = λ fine. not-fine (sym (ap (λ (x : Loaded). x .answer) e) ∙ fine);
 }
-  where
-    refused-not-fine : Refused q ≡ Fine → ⊥
-    refused-not-fine k = let z : _≡_ {A = ℕ} 0 1 = cc in omega arith
 
-pub load-too-long : {s : List ℕ} {r : Loaded} → 65_535 < length s → r ≡ refusedWith TooLong → LoadedFrom s r
-load-too-long {s} h e = loaded-refused e (check-too-long s h)
+pub too-long : {s store : List ℕ} {r : Loaded} → 65_535 < length s → r ≡ refusedWith TooLong → FileRead s r store
+too-long {s} h e = refused-with e (read-too-long s h)
 
 -- A conjunction fails where one side does.
 left-fails : (a b : ℕ) (c : Bool) → (a ≡ b → ⊥) → (eqb a b && c) ≡ false
 left-fails a b c n = ap (λ x. x && c) (ne-eqb a b n)
 
 module _ {s : List ℕ} (h : length s ≤ 65_535) {laid : Laid} {before after : List ℕ} (l : LaidOut s laid before after) where
-  pub load-no-layout : {r : Loaded} → laid .found ≡ false → r ≡ refusedWith Layout → LoadedFrom s r
-  load-no-layout missing e = loaded-refused e (check-no-layout s h (l .missing missing))
+  pub no-layout : {r : Loaded} → laid .found ≡ false → r ≡ refusedWith Layout → FileRead s r after
+  no-layout missing e = refused-with e (read-no-layout s h (l .missing missing))
 
   module _ (found : laid .found ≡ true) where
     this : LaidThere s laid before after
@@ -143,13 +147,13 @@ module _ {s : List ℕ} (h : length s ≤ 65_535) {laid : Laid} {before after : 
     unfolding countsTrue
     counts-said p t = join (eq-eqb _ _ (sym (this .patientsCounted) ∙ p ∙ this .patientCount)) (eq-eqb _ _ (sym (this .tablesCounted) ∙ t ∙ this .tableCount))
 
-    pub load-patients : {r : Loaded} → (laid .patients .count ≡ laid .v → ⊥) → r ≡ refusedWith Counts → LoadedFrom s r
+    pub wrong-patients : {r : Loaded} → (laid .patients .count ≡ laid .v → ⊥) → r ≡ refusedWith Counts → FileRead s r after
     unfolding countsTrue
-    load-patients n e = loaded-refused e (check-counts s h (this .says) (left-fails _ _ _ (λ k. n (this .patientsCounted ∙ k ∙ sym (this .patientCount)))))
+    wrong-patients n e = refused-with e (read-counts s h (this .says) (left-fails _ _ _ (λ k. n (this .patientsCounted ∙ k ∙ sym (this .patientCount)))))
 
-    pub load-tables : {r : Loaded} → (laid .tables .count ≡ laid .t → ⊥) → r ≡ refusedWith Counts → LoadedFrom s r
+    pub wrong-tables : {r : Loaded} → (laid .tables .count ≡ laid .t → ⊥) → r ≡ refusedWith Counts → FileRead s r after
     unfolding countsTrue
-    load-tables n e = loaded-refused e (check-counts s h (this .says)
+    wrong-tables n e = refused-with e (read-counts s h (this .says)
         (ap (λ b. eqb (length (this .tree .patients)) (this .tree .patientCount) && b) (ne-eqb _ _ (λ k. n (this .tablesCounted ∙ k ∙ sym (this .tableCount))))
         ∙ and-false (eqb (length (this .tree .patients)) (this .tree .patientCount))))
 
@@ -157,21 +161,58 @@ module _ {s : List ℕ} (h : length s ≤ 65_535) {laid : Laid} {before after : 
       true-sum : sum ≡ checksum (flatten (dropLast (lines s)))
       true-sum = is ∙ ap checksum (sym (this .body))
 
-      pub load-sum : {r : Loaded} → (sum ≡ laid .sum → ⊥) → r ≡ refusedWith Sum → LoadedFrom s r
+      pub wrong-sum : {r : Loaded} → (sum ≡ laid .sum → ⊥) → r ≡ refusedWith Sum → FileRead s r after
       unfolding sumTrue
-      load-sum n e = loaded-refused e (check-sum s h (this .says) (counts-said p t) (ne-eqb _ _ (λ k. n (true-sum ∙ sym k ∙ sym (this .statedSum)))))
+      wrong-sum n e = refused-with e (read-sum s h (this .says) (counts-said p t) (ne-eqb _ _ (λ k. n (true-sum ∙ sym k ∙ sym (this .statedSum)))))
 
-      pub load-judged : {region : Region} {answer : Judged} → before ≡ blankStore → sum ≡ laid .sum → region ≡ regionHeld laid after
-          → ((r : Said.Region) → ReadFrom region r → numberOf answer ≡ firstNo (askedOf r)) → LoadedFrom s (record { answer = answer; region = region })
+      pub read-fine : {region : Region} → length before ≡ 4096 → sum ≡ laid .sum → region ≡ regionHeld laid → FileRead s (record { answer = Fine; region = region }) after
       unfolding sumTrue
-      load-judged {region} {answer} blank same e judged =
+      read-fine {region} wide same e =
           let counted = counts-said p t in
-          let read : ReadFrom region (this .tree) = rw e (read-from this blank counted) in
-          let number = judged (this .tree) read ∙ check-rest s h (this .says) counted (eq-eqb _ _ (sym (this .statedSum) ∙ sym same ∙ true-sum)) in
+          let summed : sumTrue s (this .tree) ≡ true = eq-eqb _ _ (sym (this .statedSum) ∙ sym same ∙ true-sum) in
           record {
-            number = number;
-            holds = λ fine.
-                let zero : checkOf s ≡ 0 = sym number ∙ ap numberOf fine in
-                let fits : countsWithin (this .tree) ≡ true = ap countsWithin (sym (said s h (this .says))) ∙ accepted s zero .countsFit in
-                rw (e, said s h (this .says)) (holds this blank counted fits);
+            number = read-all s h (this .says) counted summed;
+            read = λ fine. rw (e, file-says s h (this .says)) (read-from this wide counted summed);
           }
+
+-- ---- what is loaded
+
+-- A refusal by the first four questions is one by all.
+first-refused : (q : Refusal) (these those : Asked) → questionOf q ≡ firstNo these → questionOf q ≡ firstNo (these ++ those)
+first-refused q [] those e = absurd (asks-one q e)
+  where
+    asks-one : (q : Refusal) → questionOf q ≡ 0 → ⊥
+    asks-one TooLong e = omega arith
+    asks-one Layout e = omega arith
+    asks-one Counts e = omega arith
+    asks-one Sum e = omega arith
+    asks-one Limits e = omega arith
+    asks-one Patients e = omega arith
+    asks-one Members e = omega arith
+    asks-one EntryCounts e = omega arith
+    asks-one Entries e = omega arith
+    asks-one Ancestors e = omega arith
+first-refused q ((n, true) ∷ these) those e = first-refused q these those e
+first-refused q ((n, false) ∷ these) those e = e
+
+none-refused : (these those : Asked) → every (λ a. ltb 0 (a .0)) these ≡ true → 0 ≡ firstNo these → firstNo those ≡ firstNo (these ++ those)
+none-refused [] those all e = refl
+none-refused ((n, true) ∷ these) those all e = none-refused these those (both (ltb 0 n) all .1) e
+none-refused ((n, false) ∷ these) those all e = absurd (omega (arith, ltb-true 0 n (both (ltb 0 n) all .0)))
+
+module _ (parents : Bool) {s store : List ℕ} {r : Loaded} (from : FileRead s r store) where
+  pub load-refused : {q : Refusal} {x : Loaded} → r .answer ≡ Refused q → x ≡ refusedWith q → LoadedFrom parents s x store
+  load-refused {q} {x} is e = record {
+    number = ap (λ (x : Loaded). numberOf (x .answer)) e ∙ first-refused q (readAsked s) (asked parents (regionOf s)) (sym (ap numberOf is) ∙ from .number);
+    says = λ fine. not-fine (sym (ap (λ (x : Loaded). x .answer) e) ∙ fine);
+  }
+
+  pub load-judged : {answer : Judged} → r .answer ≡ Fine → numberOf answer ≡ firstNo (asked parents (said (r .region) store))
+      → LoadedFrom parents s (record { answer = answer; region = r .region }) store
+  unfolding readAsked
+  load-judged {answer} is judged =
+      let told = asked-told (r .region) store (regionOf s) (from .read is) parents in
+      record {
+        number = judged ∙ told ∙ none-refused (readAsked s) (asked parents (regionOf s)) refl (sym (ap numberOf is) ∙ from .number);
+        says = λ fine. read-said (r .region) store (regionOf s) (from .read is) parents (sym (judged ∙ told) ∙ ap numberOf fine);
+      }

@@ -1,24 +1,41 @@
--- What is loaded of a file.
-use Rattle.definitions.specs.Basics.{ℕ, _≡_, List}
-use Rattle.definitions.specs.Questions.{regionOf, checkOf}
+-- What is read and loaded of a file.
+use Rattle.definitions.specs.Basics.{ℕ, Bool, true, _≡_, List, [], _∷_, _++_}
+use Rattle.definitions.specs.Questions.{Asked, shortEnough, laidOut, countsTrue, sumTrue, firstNo, regionOf, askedByCheck, checkOf}
 use Rattle.held_region.specs.declared.Region.{Region}
 use Rattle.held_region.specs.declared.Refusal.{Refusal}
 use Rattle.held_region.specs.declared.Judged.{Judged}
 use Rattle.held_region.specs.declared.Judged.the-variants.{Fine, Refused}
-use Rattle.held_region.specs.Held.{Holds, blankRegion}
-use Rattle.held_region.specs.Refusals.{numberOf}
+use Rattle.held_region.specs.Held.{blankRegion}
+use Rattle.held_region.specs.Outline.{said}
+use Rattle.held_region.specs.Refusals.{numberOf, asked, lastAsked, ReadFrom}
 use Rattle.reader.specs.declared.Loaded.{Loaded}
 use Rattle.layout.specs.declared.Laid.{Laid}
 
--- Check's number for the file; and where that is 0, a region that holds what the file says.
-pub record LoadedFrom (s : List ℕ) (r : Loaded) : Type 0 where
-  pub number : numberOf (r .answer) ≡ checkOf s
-  pub holds : r .answer ≡ Fine → Holds (r .region) (regionOf s)
+-- Questions 1 to 4 of a file; and all up to 10, with or without those of parents.
+unfoldable pub readAsked : List ℕ → Asked
+readAsked s = (1, shortEnough s) ∷ (2, laidOut s) ∷ (3, countsTrue (regionOf s)) ∷ (4, sumTrue s (regionOf s)) ∷ []
+
+abbrev pub loadAsked : Bool → List ℕ → Asked
+loadAsked parents s = readAsked s ++ asked parents (regionOf s)
+
+-- The first no of questions 1 to 4; and where there is none, what is held was read from the file.
+pub record FileRead (s : List ℕ) (r : Loaded) (store : List ℕ) : Type 0 where
+  pub number : numberOf (r .answer) ≡ firstNo (readAsked s)
+  pub read : r .answer ≡ Fine → ReadFrom (r .region) store (regionOf s)
+
+-- The first no of all; and where there is none, the region and the store say what the file says.
+pub record LoadedFrom (parents : Bool) (s : List ℕ) (r : Loaded) (store : List ℕ) : Type 0 where
+  pub number : numberOf (r .answer) ≡ firstNo (loadAsked parents s)
+  pub says : r .answer ≡ Fine → said (r .region) store ≡ regionOf s
 
 abbrev pub refusedWith : Refusal → Loaded
 refusedWith q = record { answer = Refused q; region = blankRegion }
 
--- The region of what was laid out and stored.
-abbrev pub regionHeld : Laid → List ℕ → Region
-regionHeld laid entries =
-    record { v = laid .v; t = laid .t; m = laid .m; patients = laid .patients .first; tables = laid .tables .first; entries = entries }
+-- The region of what was laid out.
+abbrev pub regionHeld : Laid → Region
+regionHeld laid = record { v = laid .v; t = laid .t; m = laid .m; patients = laid .patients .first; tables = laid .tables .first }
+
+-- With those of parents they are the questions of check.
+pub checks : {s : List ℕ} {r : Loaded} {store : List ℕ} → LoadedFrom true s r store → numberOf (r .answer) ≡ checkOf s
+unfolding checkOf askedByCheck readAsked asked lastAsked
+checks from = from .number

@@ -1,7 +1,7 @@
-// From the bytes of a file to the held region: questions 1 to 4, then those that the held region answers.
+// From the bytes of a file to the held region and its store: questions 1 to 4, then those that what is held answers.
+ghost use lib.ListN.{length};
 ghost use mathlib.Core.Path.{_≡_};
-ghost use Rattle.reader.specs.Loading.{LoadedFrom, refusedWith, regionHeld};
-use held_region::FORBIDDEN;
+ghost use Rattle.reader.specs.Loading.{FileRead, LoadedFrom, refusedWith, regionHeld};
 use held_region::Judged;
 use held_region::Refusal;
 use held_region::Region;
@@ -11,7 +11,7 @@ use layout::lay_out;
 use line_reader::checksum_before;
 use questions::judge;
 
-// Check's answer; where the file is accepted, what it says.
+// The answer to the questions that were asked; where it is fine, what is held of the file.
 pub struct Loaded {
     pub answer: Judged,
     pub region: Region,
@@ -31,8 +31,8 @@ fn refused(refusal: Refusal) -> Loaded
 }
 
 // What was laid out, put together.
-fn region_of(laid: Laid, entries: [u32; 4096]) -> Region
-    ensures { λ r. ⌜ r ≡ regionHeld laid entries ⌝ }
+fn region_of(laid: Laid) -> Region
+    ensures { λ r. ⌜ r ≡ regionHeld laid ⌝ }
 {
     let patients = laid.patients;
     let tables = laid.tables;
@@ -44,19 +44,18 @@ fn region_of(laid: Laid, entries: [u32; 4096]) -> Region
         m: laid.m as usize,
         patients: first_patients,
         tables: first_tables,
-        entries: entries,
     }
 }
 
-// Each question is put to the whole file before the next.
-pub fn load(file: &[u8]) -> Loaded
-    ensures { λ r. ⌜ LoadedFrom (now (file .entry)) r ⌝ }
+// Questions 1 to 4, each put to the whole file before the next. The entries go to the store, whatever it held, as far as they are read.
+pub fn read(file: &[u8], store: &mut [u32; 4096]) -> Loaded
+    requires { ⌜ length (now store) ≡ 4096 ⌝ }
+    ensures { λ r. ⌜ FileRead (now (file .entry)) r (now (store .exit)) ⌝ }
 {
     if LONGEST < file.len() {
         return refused(Refusal::TooLong);
     }
-    let mut entries = [FORBIDDEN; 4096];
-    let laid = lay_out(file, &mut entries);
+    let laid = lay_out(file, store);
     if !laid.found {
         return refused(Refusal::Layout);
     }
@@ -69,9 +68,28 @@ pub fn load(file: &[u8]) -> Loaded
     if checksum_before(file, laid.end) != laid.sum {
         return refused(Refusal::Sum);
     }
-    let region = region_of(laid, entries);
+    let region = region_of(laid);
     Loaded {
-        answer: judge(region),
+        answer: Judged::Fine,
         region: region,
+    }
+}
+
+// Questions 1 to 10, with or without those of parents.
+pub fn load(file: &[u8], store: &mut [u32; 4096], parents: bool) -> Loaded
+    requires { ⌜ length (now store) ≡ 4096 ⌝ }
+    ensures { λ r. ⌜ LoadedFrom parents (now (file .entry)) r (now (store .exit)) ⌝ }
+{
+    let loaded = read(file, store);
+    let answer = loaded.answer;
+    match answer {
+        Judged::Refused(refusal) => refused(refusal),
+        Judged::Fine => {
+            let region = loaded.region;
+            Loaded {
+                answer: judge(region, store, parents),
+                region: region,
+            }
+        }
     }
 }

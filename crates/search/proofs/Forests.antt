@@ -17,12 +17,15 @@ use Rattle.patient_set.specs.Lists.{contains-keep, contains-numbers}
 use Rattle.partial_rows.specs.Sets.{Patients, Part, first, second, neither, Splits}
 use Rattle.partial_rows.specs.Rows.{noBeds, emptyRow, RowOf}
 use Rattle.partial_rows.specs.Parts.{Apart}
-use Rattle.partial_rows.specs.Trees.{rootsBelow, roots-none, roots-all}
+use Rattle.partial_rows.specs.Trees.{rootOf, rootsBelow, roots-none, roots-all}
 use Rattle.partial_rows.specs.Whole.{tables-held, whole-list, none-left}
 use Rattle.held_region.specs.declared.Region as Code
-use Rattle.held_region.specs.Held.{Holds}
-use Rattle.held_region.specs.Faithful.{patient-lines}
-use Rattle.buckets.specs.Terms.{Answered, Prepared}
+use Rattle.held_region.specs.Outline.{said, outline, Fits}
+use Rattle.held_region.specs.Asked.{outline-count}
+use Rattle.held_region.specs.Said.{parents-said, ancestors-said}
+use Rattle.held_region.specs.Sound.{room}
+use Rattle.definitions.specs.Questions.{parentsSmaller}
+use Rattle.buckets.specs.Terms.{Answered, Planned, Prepared}
 use Rattle.buckets.specs.Right.{patients-few, plans-wanted}
 use Rattle.forest.specs.Trees.{Rooted, tree-beyond, tree-upward, tree-apart, trees-next}
 use Rattle.row_sums.specs.Sums.{part, listAt}
@@ -192,8 +195,20 @@ module _ {store patients terms roots : List ℕ} {v m : ℕ} {work : List ℕ} (
           gone neither e = refl
 
 -- A held region's words and roots.
-pub planted : (h : Code.Region) (r : Region) {patients terms roots : List ℕ} → Holds h r → Answered r
-    → ((r : Region) → Holds h r → Answered r → Prepared r (h .entries) patients terms) → ((r : Region) → Holds h r → Answered r → Rooted r roots)
-    → Planted r (h .entries) patients terms roots (h .v) (h .m)
-planted h r holds answered prepared rooted =
-    record { prepared = prepared r holds answered; rooted = rooted r holds answered; counted = sym (patient-lines h r holds (answered .counted)); wanted = holds .plansWanted }
+root-said : (h : Code.Region) (store : List ℕ) (s : ℕ) → rootOf (said h store) s ≡ rootOf (outline h) s
+unfolding rootOf
+root-said h store s = rw (ancestors-said h store s) refl
+
+rooted-said : (h : Code.Region) (store : List ℕ) {roots : List ℕ} → Rooted (outline h) roots → Rooted (said h store) roots
+rooted-said h store rooted = record {
+  roots = λ s l. rooted .roots s (omega (arith, outline-count h store, outline-count h [])) ∙ sym (root-said h store s);
+}
+
+pub planted : (h : Code.Region) (store : List ℕ) {patients terms roots : List ℕ}
+    → Prepared (said h store) store patients terms → Rooted (outline h) roots → Planted (said h store) store patients terms roots (h .v) (h .m)
+unfolding said
+planted h store prepared rooted =
+    record { prepared = prepared; rooted = rooted-said h store rooted; counted = sym (outline-count h store); wanted = refl }
+
+pub parents-planned : (h : Code.Region) (store : List ℕ) → Planned h store → (Fits h) × (parentsSmaller (outline h) ≡ true)
+parents-planned h store a = (room h store (a .countsFit), sym (parents-said h store) ∙ a .parentsFit)

@@ -10,7 +10,7 @@ use Rattle.partial_rows.specs.Sets.{Patients, Splits}
 use Rattle.partial_rows.specs.Rows.{noBeds, RowOf}
 use Rattle.partial_rows.specs.Parts.{Apart}
 use Rattle.held_region.specs.declared.Region as Code
-use Rattle.held_region.specs.Held.{Holds}
+use Rattle.held_region.specs.Outline.{said}
 use Rattle.buckets.specs.Terms.{leastAt, Answered, Planned, Prepared}
 use Rattle.forest.specs.Trees.{Rooted}
 use Rattle.row_sums.specs.Sums.{part, listAt}
@@ -84,11 +84,11 @@ pub record GivesForest (store patients terms roots : List ℕ) (v m : ℕ) (work
 
 -- ---- the whole region
 
-pub record AsksRegion (h : Code.Region) (work : List ℕ) : Type 0 where
-  pub planned : Planned h
+pub record AsksRegion (h : Code.Region) (store work : List ℕ) : Type 0 where
+  pub planned : Planned h store
   pub long : 1_152 ≤ length work
 
-pub record GivesRegion (h : Code.Region) (work after : List ℕ) (n : ℕ) : Type 0 where
+pub record GivesRegion (h : Code.Region) (store work after : List ℕ) (n : ℕ) : Type 0 where
   pub count : n ≤ h .m
   pub long : length after ≡ length work
-  pub list : (r : Region) → Holds h r → Answered r → listAt (h .v) n 0 after ≡ listOf r
+  pub list : listAt (h .v) n 0 after ≡ listOf (said h store)

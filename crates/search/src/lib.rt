@@ -104,11 +104,11 @@ fn list_trees(
 }
 
 // The list of a region, left as the list so far of the work area.
-pub fn list_region(work: &mut [u32], region: Region) -> usize
-    requires { ⌜ AsksRegion region (now work) ⌝ }
-    ensures { λ n. ⌜ GivesRegion region (now (work .entry)) (now (work .exit)) n ⌝ }
+pub fn list_region(work: &mut [u32], region: Region, store: &[u32; 4096]) -> usize
+    requires { ⌜ AsksRegion region (now store) (now work) ⌝ }
+    ensures { λ n. ⌜ GivesRegion region (now (store .entry)) (now (work .entry)) (now (work .exit)) n ⌝ }
 {
-    let buckets = prepare(region);
+    let buckets = prepare(region, store);
     let roots = root_numbers(region);
     let patients = buckets.patients;
     let terms = buckets.terms;
@@ -116,7 +116,7 @@ pub fn list_region(work: &mut [u32], region: Region) -> usize
         work,
         &patients,
         &terms,
-        &region.entries,
+        store,
         &roots,
         region.v,
         region.m,

@@ -2,43 +2,42 @@
 use mathlib.Core.Path.{sym, ap}
 use native.Mathlib.Omega.{arith}
 use Rattle.definitions.specs.Basics.{ℕ, List, contains}
-use Rattle.definitions.specs.Syntax as Said
 use Rattle.patient_set.specs.Sets.{members}
 use Rattle.held_region.specs.declared.Region.{Region}
-use Rattle.held_region.specs.Held.{Holds}
-use Rattle.held_region.specs.Faithful.{patient-lines}
-use Rattle.buckets.specs.Terms.{Answered, Prepared}
+use Rattle.held_region.specs.Outline.{said}
+use Rattle.held_region.specs.Asked.{outline-count}
+use Rattle.buckets.specs.Terms.{Prepared}
 use Rattle.buckets.specs.Among.{among}
 use Rattle.buckets.specs.Right.{patients-few}
 use Rattle.row_list.specs.Rows.{rowsIn}
 use Rattle.sheets.specs.Steps.{Listed, AsksList, GivesList}
 use Rattle.sheets.specs.Sheets.{Given, Asks, Gives}
 
-module _ (h : Region) (n set : ℕ) (work patients terms : List ℕ)
-    (prepared : (r : Said.Region) → Holds h r → Answered r → Prepared (among r (contains (members set))) (h .entries) patients terms) where
-  given-listed : (r : Said.Region) (clinic : ℕ) → Given h r clinic n set work → Listed r clinic (h .entries) patients terms (h .v) n set work
-  given-listed r clinic g =
+module _ (h : Region) (store : List ℕ) (n set : ℕ) (work patients terms : List ℕ)
+    (prepared : Prepared (among (said h store) (contains (members set))) store patients terms) where
+  given-listed : (clinic : ℕ) → Given h store clinic n set work → Listed (said h store) clinic store patients terms (h .v) n set work
+  given-listed clinic g =
       record {
-        own = record { prepared = prepared r (g .holds) (g .answered); ofClinic = g .patients; all = sym (patient-lines h r (g .holds) (g .answered .counted)) };
+        own = record { prepared = prepared; ofClinic = g .patients; all = sym (outline-count h store) };
         list = g .list;
       }
 
-  pub list-asked : Asks h n set work → AsksList (h .entries) patients terms (h .v) n set work
+  pub list-asked : Asks h store n set work → AsksList store patients terms (h .v) n set work
   list-asked a =
       record {
-        region = a .region;
+        region = said h store;
         clinic = a .clinic;
-        listed = given-listed (a .region) (a .clinic) (a .given);
-        fewPatients = omega (arith, patient-lines h (a .region) (a .given .holds) (a .given .answered .counted), patients-few (a .region) (a .given .answered));
+        listed = given-listed (a .clinic) (a .given);
+        fewPatients = omega (arith, outline-count h store, patients-few (said h store) (a .planned));
         few = a .few;
         long = a .long;
       }
 
-  pub sheet-given : (after : List ℕ) (k : ℕ) → GivesList (h .entries) patients terms (h .v) n set work after k → Gives h n set work after k
+  pub sheet-given : (after : List ℕ) (k : ℕ) → GivesList store patients terms (h .v) n set work after k → Gives h store n set work after k
   sheet-given after k g =
       record {
         count = g .count;
         long = g .long;
         list = ap (rowsIn (h .v) n) (g .list);
-        sheet = λ r clinic given. g .sheet r clinic (given-listed r clinic given);
+        sheet = λ clinic given. g .sheet (said h store) clinic (given-listed clinic given);
       }

@@ -133,18 +133,24 @@ fn keep_rows(
 }
 
 // The rows of a clinic's sheet, from the n rows of the region's list.
-pub fn sheet_rows(work: &mut [u32], region: Region, n: usize, clinic: PatientSet) -> usize
-    requires { ⌜ Asks region n (clinic .0) (now work) ⌝ }
-    ensures { λ k. ⌜ Gives region n (clinic .0) (now (work .entry)) (now (work .exit)) k ⌝ }
+pub fn sheet_rows(
+    work: &mut [u32],
+    region: Region,
+    store: &[u32; 4096],
+    n: usize,
+    clinic: PatientSet,
+) -> usize
+    requires { ⌜ Asks region (now store) n (clinic .0) (now work) ⌝ }
+    ensures { λ k. ⌜ Gives region (now (store .entry)) n (clinic .0) (now (work .entry)) (now (work .exit)) k ⌝ }
 {
-    let buckets = prepare_within(region, clinic);
+    let buckets = prepare_within(region, store, clinic);
     let patients = buckets.patients;
     let terms = buckets.terms;
     keep_rows(
         work,
         &patients,
         &terms,
-        &region.entries,
+        store,
         region.v,
         n,
         clinic,

@@ -8,7 +8,7 @@ use lib.ListN.{set, drop, length-append, length-map, length-set, length-take}
 use lib.Seq.{ext-getD, getD-take}
 use Rattle.definitions.specs.Basics.{ℕ, _+_, _<_, Option, none, some, List, bind, [], _∷_, _++_, map, length, take, replicate, isEmpty}
 use Rattle.definitions.specs.Layout.{Reader, whole, word, number, hyphenOrNumber, items, tableLine}
-use Rattle.held_region.specs.Held.{mark, codeOf, noTable}
+use Rattle.held_region.specs.Held.{codeOf, noTable}
 use Rattle.scanner.specs.declared.Passed.{Passed}
 use Rattle.scanner.specs.declared.Passed.the-variants.{At, Nothing as NotPassed}
 use Rattle.scanner.specs.Answers.{ReadAt, passed}
@@ -106,12 +106,12 @@ module _ {used : ℕ} {store : List ℕ} where
   adds-one x room = record {
     behind = λ others e h. record {
       wide = length-set store used x ∙ h .wide;
-      stored = rw (← e) (stored-set mark others x (omega (arith, h .wide)) (h .stored));
+      stored = rw (← e) (stored-set others x (omega (arith, h .wide)) (h .stored));
     };
   }
 
   pub adds-full : (x : ℕ) → 4096 ≤ used → Adds used store store (x ∷ [])
-  adds-full x full = record { behind = λ others e h. record { wide = h .wide; stored = stored-full mark others x (omega (arith, h .wide)) (h .stored) } }
+  adds-full x full = record { behind = λ others e h. record { wide = h .wide; stored = stored-full others x (omega (arith, h .wide)) (h .stored) } }
 
 pub adds-then : {used then : ℕ} {before between after : List ℕ} (numbers more : List ℕ) → then ≡ used + length numbers
     → Adds used before between numbers → Adds then between after more → Adds used before after (numbers ++ more)

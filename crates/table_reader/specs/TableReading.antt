@@ -5,7 +5,7 @@ use Rattle.definitions.specs.Basics.{ℕ, _≡_, Bool, true, false, Option, non
 use Rattle.definitions.specs.Syntax as Said
 use Rattle.definitions.specs.Layout.{Reader, whole, word, number, hyphenOrNumber, items, tableLine}
 use Rattle.held_region.specs.declared.Table.{Table}
-use Rattle.held_region.specs.Held.{mark, codeOf, HoldsTable}
+use Rattle.held_region.specs.Held.{codeOf, HoldsTable}
 use Rattle.table_reader.specs.declared.Members.{Members}
 use Rattle.table_reader.specs.declared.Entries.{Entries}
 use Rattle.table_reader.specs.declared.Entries.the-variants.{Are, Nothing}
@@ -46,7 +46,7 @@ MembersRead s at r = Found (r .found) (ItemsThere number (MembersHeld (r .first)
 -- The store, 4,096 wide, holds these numbers as far as it goes.
 pub record Holding (store numbers : List ℕ) : Type 0 where
   pub wide : length store ≡ 4096
-  pub stored : Stored mark store numbers
+  pub stored : Stored store numbers
 
 -- A store that held so many numbers as are used holds more behind them.
 pub record Adds (used : ℕ) (before after numbers : List ℕ) : Type 0 where

@@ -7,7 +7,7 @@ prepare-within-requires : tie.Need-prepare-within-requires
 prepare-within-requires c κs = search needs
 
 returns : tie.Need-returns
-returns c = λ r held a. prepared-all r a (c .prepare-within .ensures r held a)
+returns c = prepared-all _ (c .before .pre) (c .prepare-within .ensures)
 
 pub prepare-spec : {M : Type 1} → statement M
 prepare-spec = tie.close (tie.spec prepare-within-requires returns)

@@ -7,19 +7,19 @@ use Rattle.buckets.proofs.prepare_within.Statement.{statement}
 use Rattle.buckets.proofs.prepare_within.Tie as tie
 
 abbrev Inv-loop : tie.InvT-loop
-Inv-loop of region patients₀ terms₀ start₀ i₀ patients terms start i = Filling region (contains (members (of .0))) i start patients terms
+Inv-loop store of region patients₀ terms₀ start₀ i₀ patients terms start i = Filling region store (contains (members (of .0))) i start patients terms
 
 abbrev μ-loop : tie.MeasureT-loop
-μ-loop of region patients₀ terms₀ start₀ i₀ patients terms start i = i
+μ-loop store of region patients₀ terms₀ start₀ i₀ patients terms start i = i
 
 patient-words-requires : tie.Need-patient-words-requires Inv-loop μ-loop
-patient-words-requires c κs = sound-held _ (c .before .pre) .fits .patients
+patient-words-requires c κs = sound-held _ _ (c .before .pre) .fits .patients
 
 entry-total-requires : tie.Need-entry-total-requires Inv-loop μ-loop
-entry-total-requires c κs = (sound-held _ (c .before .before .pre), counts-held _ (c .before .before .pre))
+entry-total-requires c κs = (sound-held _ _ (c .before .before .pre), counts-held _ _ (c .before .before .pre))
 
 loop-holds : tie.Need-loop-holds Inv-loop μ-loop
-loop-holds c = filling-none _ _ _ _ (sound-held _ (c .before .before .before .pre) .fits .tables) (c .before .patient-words .ensures) (c .entry-total .ensures)
+loop-holds c = filling-none _ _ (c .before .before .before .pre) _ _ _ (sound-held _ _ (c .before .before .before .pre) .fits .tables) (c .before .patient-words .ensures) (c .entry-total .ensures)
 
 sub-i : tie.Need-sub-i Inv-loop μ-loop
 sub-i c = search needs
@@ -33,27 +33,27 @@ element-copy-out-table c = search needs
 sub-start : tie.Need-sub-start Inv-loop μ-loop
 sub-start c =
     let turn = c .before .before in
-    filling-start _ _ _ _ _ _ (turn .loop-test .taken) (turn .before .loop .inv) (turn .before .before .before .before .before .pre)
+    filling-start _ _ (turn .before .before .before .before .before .pre) _ _ _ _ _ (turn .loop-test .taken) (turn .before .loop .inv)
 
 is-among-requires : tie.Need-is-among-requires Inv-loop μ-loop
 is-among-requires c κs =
     let turn = c .before .before in
     let start = turn .before .before .before .before .before in
-    members-known _ (sound-held _ (start .pre)) _ (filling-place _ _ _ _ _ _ (turn .loop-test .taken) (turn .before .loop .inv))
+    members-known _ (sound-held _ _ (start .pre)) _ (filling-place _ _ (start .pre) _ _ _ _ _ (turn .loop-test .taken) (turn .before .loop .inv))
 
 add-term-requires : tie.Need-add-term-requires Inv-loop μ-loop
 add-term-requires c κs =
-    let turn = c .before .before .before .before .before .before .before .before in
-    filling-known _ _ _ _ _ _ (turn .loop-test .taken) (turn .before .loop .inv) (turn .before .before .before .before .before .pre)
+    let turn = c .before .before .before .before .before .before in
+    filling-known _ _ (turn .before .before .before .before .before .pre) _ _ _ _ _ (turn .loop-test .taken) (turn .before .loop .inv)
 
 loop-less : tie.Need-loop-less Inv-loop μ-loop
 loop-less c = search needs
 
 loop-again : tie.Need-loop-again Inv-loop μ-loop
 loop-again c =
-    let asked = c .before .before .before .before .before .before in
+    let asked = c .before .before .before .before in
     let turn = asked .before .before .before in
-    filling-more _ _ _ _ _ _ (turn .loop-test .taken) (turn .before .loop .inv) (asked .is-among .ensures) (c .before .before .before .before .before .if1 .taken) (c .add-term .ensures)
+    filling-more _ _ (turn .before .before .before .before .before .pre) _ _ _ _ _ (turn .loop-test .taken) (turn .before .loop .inv) (asked .is-among .ensures) (c .before .before .before .if1 .taken) (c .add-term .ensures)
 
 loop-less-2 : tie.Need-loop-less-2 Inv-loop μ-loop
 loop-less-2 c = search needs
@@ -61,10 +61,10 @@ loop-less-2 c = search needs
 loop-again-2 : tie.Need-loop-again-2 Inv-loop μ-loop
 loop-again-2 c =
     let turn = c .before .before .before .before in
-    filling-over _ _ _ _ _ _ (turn .loop-test .taken) (turn .before .loop .inv) (c .before .is-among .ensures) (c .if1 .left)
+    filling-over _ _ (turn .before .before .before .before .before .pre) _ _ _ _ _ (turn .loop-test .taken) (turn .before .loop .inv) (c .before .is-among .ensures) (c .if1 .left)
 
 returns : tie.Need-returns Inv-loop μ-loop
-returns c = filling-all _ _ _ _ _ _ (c .loop-test .left) (c .before .loop .inv)
+returns c = filling-all _ _ (c .before .before .before .before .before .pre) _ _ _ _ _ (c .loop-test .left) (c .before .loop .inv)
 
 pub prepare-within-spec : {M : Type 1} → statement M
 prepare-within-spec =

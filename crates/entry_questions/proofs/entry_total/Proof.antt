@@ -4,7 +4,7 @@ use mathlib.Core.List.{map}
 use Prim.Native.Nat.{_+_, _-_, _*_, _≤_}
 use native.Mathlib.Nat.{zero-add, add-zero, add-assoc}
 use native.Mathlib.Omega.{arith}
-use Rattle.definitions.specs.Basics.{sum}
+use Rattle.definitions.specs.Basics.{[], sum}
 use Rattle.held_region.specs.Entries.{entryTotal, total-asked, entries-most}
 use Rattle.held_region.specs.Outline.{outline, tableIn}
 use Rattle.held_region.specs.Places.{placesFrom, places-all, places-next, places-done}
@@ -18,7 +18,7 @@ abbrev μ-loop : tie.MeasureT-loop
 μ-loop region n₀ i₀ n i = region .t - i
 
 loop-holds : tie.Need-loop-holds Inv-loop μ-loop
-loop-holds c = (search needs, zero-add _ ∙ ap (λ l. sum (map (λ j. tableIn (c .args .t1) j .entries) l)) (places-all (c .args .t1 .t)) ∙ sym (total-asked (c .args .t1)))
+loop-holds c = (search needs, zero-add _ ∙ ap (λ l. sum (map (λ j. tableIn (c .args .t1) j .entries) l)) (places-all (c .args .t1 .t)) ∙ sym (total-asked (c .args .t1) []))
 
 mul-table : tie.Need-mul-table Inv-loop μ-loop
 mul-table c = search needs

@@ -1,10 +1,8 @@
 use mathlib.Core.Path.{refl}
-use Rattle.held_region.specs.Held.{blankStore}
 use Rattle.held_region.proofs.blank.Statement.{statement}
 use Rattle.held_region.proofs.blank.Tie as tie
 
 returns : tie.Need-returns
-unfolding blankStore
 returns c = refl
 
 pub blank-spec : {M : Type 1} → statement M

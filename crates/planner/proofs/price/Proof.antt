@@ -1,3 +1,4 @@
+use Rattle.reader.specs.Loading.{checks}
 use borrow.Author.Needs.{needs}
 use mathlib.Core.Path.{ap, sym, _∙_}
 use denote.Ref.{now}
@@ -7,7 +8,7 @@ use Rattle.definitions.specs.Outcomes.{priceOutcome}
 use Rattle.answers.specs.Answers.{checkedNumber, notAllowed}
 use Rattle.planner.specs.Later.{refusal-number}
 use Rattle.planner.specs.Loaded.{answered, accepted-fine, planned-fine}
-use Rattle.planner.specs.Prices.{price-accepted, price-not-accepted}
+use Rattle.planner.specs.Prices.{regionPrice, price-accepted, price-not-accepted}
 use Rattle.planner.proofs.price.Statement.{statement}
 use Rattle.planner.proofs.price.Tie as tie
 
@@ -22,25 +23,25 @@ enum-told c = search needs
 
 price-region-requires : tie.Need-price-region-requires
 price-region-requires c κs =
-    let read = c .before .before in
-    planned-fine (now (read .before .before .before .args .file)) (read .load .result) (read .load .ensures) (c .enum-told .given .1)
+    let read = c .before .before .before in
+    planned-fine (now (read .before .before .before .before .args .file)) (read .load .result) (read .load .ensures) (c .before .enum-told .given .1)
 
 returns : tie.Need-returns
 unfolding priceOutcome
 returns c =
     let read = c .before .before .before in
-    let a = read .before .before .before .args in
-    let number = ap checkedNumber (sym (c .before .answer .given .1)) ∙ read .load .ensures .number in
+    let a = read .before .before .before .before .args in
+    let number = ap checkedNumber (sym (c .before .answer .given .1)) ∙ checks (read .load .ensures) in
     ap notAllowed number ∙ sym (price-not-accepted (now (a .file)) (now (a .plan)) true _ (sym number ∙ refusal-number (c .before .answer .given .0 .0)))
 
 returns-2 : tie.Need-returns-2
 unfolding priceOutcome
 returns-2 c =
-    let fine = c .before .enum-told .given .1 in
-    let read = c .before .before .before in
-    let a = read .before .before .before .args in
+    let fine = c .before .before .enum-told .given .1 in
+    let read = c .before .before .before .before in
+    let a = read .before .before .before .before .args in
     let checked = accepted-fine (now (a .file)) (read .load .result) (read .load .ensures) fine in
-    c .price-region .ensures (regionOf (now (a .file))) (read .load .ensures .holds fine) (answered (now (a .file)) checked)
+    c .price-region .ensures ∙ ap (λ r. regionPrice r (now (a .plan))) (read .load .ensures .says fine)
     ∙ sym (price-accepted (now (a .file)) (now (a .plan)) true checked)
 
 pub price-spec : {M : Type 1} → statement M

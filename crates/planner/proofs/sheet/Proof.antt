@@ -1,3 +1,12 @@
+use Rattle.reader.specs.Loading.{checks}
+use Rattle.definitions.specs.Plans.{listOf}
+use Rattle.definitions.specs.Sheets.{sheetOf}
+use Rattle.definitions.specs.Syntax.{patientsOf}
+use Rattle.definitions.specs.Basics.{length}
+use Rattle.definitions.specs.Questions.{areasLongEnough}
+use Rattle.definitions.specs.Outcomes.{foundBy, outcomeOf}
+use Rattle.planner.specs.Found.{lastAsked}
+use Rattle.planner.specs.Sheets.{lateAsked}
 use borrow.Author.Needs.{needs}
 use mathlib.Core.Path.{ap, sym, _∙_}
 use denote.Ref.{now}
@@ -19,14 +28,16 @@ enum-told : tie.Need-enum-told
 enum-told c = search needs
 
 sheet-loaded-requires : tie.Need-sheet-loaded-requires
-sheet-loaded-requires c κs = planned-fine (now (c .before .before .before .before .before .before .before .before .before .before .args .file)) (c .before .before .before .before .before .load .result) (c .before .before .before .before .before .load .ensures) (c .before .before .before .enum-told .given .1)
+sheet-loaded-requires c κs =
+    let read = c .before .before .before .before .before .before in
+    planned-fine (now (read .before .before .before .before .before .before .args .file)) (read .load .result) (read .load .ensures) (c .before .before .before .before .enum-told .given .1)
 
 returns : tie.Need-returns
 unfolding sheetOutcome sheetFound askedBySheet
 returns c =
-    let a = c .before .before .before .before .before .before .before .before .args in
+    let a = c .before .before .before .before .before .before .before .before .before .args in
     let refusal = c .before .answer .given in
-    let number = ap checkedNumber (sym (refusal .1)) ∙ c .before .before .before .load .ensures .number in
+    let number = ap checkedNumber (sym (refusal .1)) ∙ checks (c .before .before .before .load .ensures) in
     refused-entry _ _ (now (a .beds)) (now (a .costs)) (now (a .work)) (now (a .file)) _ (refusal .0 .0) number
 
 same-length : tie.Need-same-length
@@ -41,11 +52,12 @@ same-length-3 c = search needs
 returns-2 : tie.Need-returns-2
 unfolding sheetOutcome sheetFound askedBySheet
 returns-2 c =
-    let a = c .before .before .before .before .before .before .before .before .before .before .before .before .before .before .before .before .before .args in
-    let read = c .before .before .before .before .before .before .before .before .before .before .before .before in
-    let fine = c .before .before .before .before .before .before .before .before .before .before .enum-told .given .1 in
+    let read = c .before .before .before .before .before .before .before .before .before .before .before .before .before in
+    let a = read .before .before .before .before .before .before .args in
+    let fine = c .before .before .before .before .before .before .before .before .before .before .before .enum-told .given .1 in
     let checked = accepted-fine (now (a .file)) (read .load .result) (read .load .ensures) fine in
-    c .before .before .before .before .before .before .sheet-loaded .ensures (regionOf (now (a .file))) (read .load .ensures .holds fine) (answered (now (a .file)) checked)
+    c .before .before .before .before .before .before .sheet-loaded .ensures
+    ∙ ap (λ r. outcomeOf (foundBy (lateAsked r (a .clinic) (areasLongEnough r (now (a .beds)) (now (a .costs)) (now (a .work)))) (length (patientsOf r (a .clinic))) (sheetOf r (a .clinic))) (now (a .beds)) (now (a .costs)) (now (a .work))) (read .load .ensures .says fine)
     ∙ accepted-entry _ _ (now (a .beds)) (now (a .costs)) (now (a .work)) (now (a .file)) _ checked
 
 pub sheet-spec : {M : Type 1} → statement M

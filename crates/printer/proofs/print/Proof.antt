@@ -1,3 +1,4 @@
+use Rattle.reader.specs.Loading.{checks}
 use borrow.Author.Needs.{needs}
 use native.Mathlib.Omega.{arith}
 use mathlib.Core.Path.{_∙_}
@@ -21,9 +22,9 @@ print-refusal-requires : tie.Need-print-refusal-requires
 print-refusal-requires c κs =
     let numbered = c .before .before in
     let read = numbered .before in
-    let long = read .before in
+    let long = read .before .before in
     let a = long .before .before .before .args in
-    refused-room (now (a .file)) (now (a .out)) (long .if1 .left) (numbered .checked-number .result) (numbered .checked-number .ensures ∙ read .load .ensures .number) (c .before .if2 .taken)
+    refused-room (now (a .file)) (now (a .out)) (long .if1 .left) (numbered .checked-number .result) (numbered .checked-number .ensures ∙ checks (read .load .ensures)) (c .before .if2 .taken)
 
 same-length : tie.Need-same-length
 same-length c = search needs
@@ -32,31 +33,31 @@ returns-2 : tie.Need-returns-2
 returns-2 c =
     let numbered = c .before .before .before .before .before in
     let read = numbered .before in
-    let long = read .before in
+    let long = read .before .before in
     let a = long .before .before .before .args in
-    refused-written (now (a .file)) (now (a .out)) (long .if1 .left) (numbered .checked-number .result) (numbered .checked-number .ensures ∙ read .load .ensures .number) (c .before .before .before .before .if2 .taken) (c .before .before .print-refusal .ensures)
+    refused-written (now (a .file)) (now (a .out)) (long .if1 .left) (numbered .checked-number .result) (numbered .checked-number .ensures ∙ checks (read .load .ensures)) (c .before .before .before .before .if2 .taken) (c .before .before .print-refusal .ensures)
 
 slice-aggregate-print-region : tie.Need-slice-aggregate-print-region
 slice-aggregate-print-region c = search needs
 
 print-region-requires : tie.Need-print-region-requires
 print-region-requires c κs =
-    let numbered = c .before .before .before in
+    let numbered = c .before .before .before .before in
     let read = numbered .before in
-    let long = read .before in
+    let long = read .before .before in
     let a = long .before .before .before .args in
-    asks-text (now (a .file)) (now (a .out)) (long .if1 .left) (read .load .result) (read .load .ensures) (numbered .checked-number .result) (numbered .checked-number .ensures) (c .before .before .if2 .left) _ (omega arith)
+    asks-text (now (a .file)) (now (a .out)) (long .if1 .left) (read .load .result) _ (read .load .ensures) (numbered .checked-number .result) (numbered .checked-number .ensures) (c .before .before .before .if2 .left) _ (omega arith)
 
 same-length-2 : tie.Need-same-length-2
 same-length-2 c = search needs
 
 returns-3 : tie.Need-returns-3
 returns-3 c =
-    let numbered = c .before .before .before .before .before .before .before in
+    let numbered = c .before .before .before .before .before .before .before .before in
     let read = numbered .before in
-    let long = read .before in
+    let long = read .before .before in
     let a = long .before .before .before .args in
-    region-written (now (a .file)) (now (a .out)) (long .if1 .left) (read .load .result) (read .load .ensures) (numbered .checked-number .result) (numbered .checked-number .ensures) (c .before .before .before .before .before .before .if2 .left) (c .before .before .before .print-region .ensures)
+    region-written (now (a .file)) (now (a .out)) (long .if1 .left) (read .load .result) _ (read .load .ensures) (numbered .checked-number .result) (numbered .checked-number .ensures) (c .before .before .before .before .before .before .before .if2 .left) (c .before .before .before .print-region .ensures)
 
 pub print-spec : {M : Type 1} → statement M
 print-spec =

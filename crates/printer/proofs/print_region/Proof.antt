@@ -13,7 +13,7 @@ print-refusal-requires c κs =
     let tested = c .before in
     let listed = tested .before .before .before in
     let start = listed .before .before .before .before in
-    refusal-room _ (now (start .args .out)) (now (start .args .work)) (start .pre) (listed .list-region .ensures) (tested .if1 .taken)
+    refusal-room _ _ (now (start .args .out)) (now (start .args .work)) (start .pre) (listed .list-region .ensures) (tested .if1 .taken)
 
 same-length : tie.Need-same-length
 same-length c = search needs
@@ -26,7 +26,7 @@ returns c =
     let tested = c .before .before .before .before in
     let listed = tested .before .before .before in
     let start = listed .before .before .before .before in
-    nothing-printed _ (now (start .args .out)) (now (start .args .work)) (start .pre) (listed .list-region .ensures) (tested .if1 .taken) (c .before .before .print-refusal .ensures)
+    nothing-printed _ _ (now (start .args .out)) (now (start .args .work)) (start .pre) (listed .list-region .ensures) (tested .if1 .taken) (c .before .before .print-refusal .ensures)
 
 sub-print-list : tie.Need-sub-print-list
 sub-print-list c = search needs
@@ -43,7 +43,7 @@ print-list-requires c κs =
     let tested = c .before .before .before in
     let listed = tested .before .before .before in
     let start = listed .before .before .before .before in
-    list-printable _ (now (start .args .out)) (now (start .args .work)) (start .pre) (listed .list-region .ensures) (tested .if1 .left)
+    list-printable _ _ (now (start .args .out)) (now (start .args .work)) (start .pre) (listed .list-region .ensures) (tested .if1 .left)
 
 print-sheets-requires : tie.Need-print-sheets-requires
 unfolding part
@@ -52,7 +52,7 @@ print-sheets-requires c κs =
     let tested = printed .before .before .before .before in
     let listed = tested .before .before .before in
     let start = listed .before .before .before .before in
-    asks-sheets _ (now (start .args .out)) (now (start .args .work)) (start .pre) (listed .list-region .ensures) (tested .if1 .left) (printed .print-list .ensures)
+    asks-sheets _ _ (now (start .args .out)) (now (start .args .work)) (start .pre) (listed .list-region .ensures) (tested .if1 .left) (printed .print-list .ensures)
 
 same-length-3 : tie.Need-same-length-3
 same-length-3 c = search needs
@@ -67,7 +67,7 @@ returns-2 c =
     let tested = printed .before .before .before .before in
     let listed = tested .before .before .before in
     let start = listed .before .before .before .before in
-    text-printed _ (now (start .args .out)) (now (start .args .work)) (start .pre) (listed .list-region .ensures) (tested .if1 .left) (printed .print-list .ensures) (c .before .before .before .before .print-sheets .ensures)
+    text-printed _ _ (now (start .args .out)) (now (start .args .work)) (start .pre) (listed .list-region .ensures) (tested .if1 .left) (printed .print-list .ensures) (c .before .before .before .before .print-sheets .ensures)
 
 pub print-region-spec : {M : Type 1} → statement M
 print-region-spec =

@@ -6,20 +6,20 @@ use Rattle.printer.proofs.print_sheets.Statement.{statement}
 use Rattle.printer.proofs.print_sheets.Tie as tie
 
 abbrev Inv-loop : tie.InvT-loop
-Inv-loop out₀ at work₀ region n next₀ clinic₀ out work next clinic = Printed region n clinic at out₀ work₀ out work next
+Inv-loop out₀ at work₀ region store n next₀ clinic₀ out work next clinic = Printed region store n clinic at out₀ work₀ out work next
 
 abbrev μ-loop : tie.MeasureT-loop
-μ-loop out₀ at work₀ region n next₀ clinic₀ out work next clinic = 16 - clinic
+μ-loop out₀ at work₀ region store n next₀ clinic₀ out work next clinic = 16 - clinic
 
 loop-holds : tie.Need-loop-holds Inv-loop μ-loop
-loop-holds c = none-printed _ _ _
+loop-holds c = none-printed _ _ _ _
 
 print-clinic-requires : tie.Need-print-clinic-requires Inv-loop μ-loop
 print-clinic-requires c κs =
     let turn = c .before .before in
     let l = turn .before .loop in
     let start = turn .before .before .before .before in
-    asks-clinic _ (now (start .args .out)) (now (start .args .work)) (l .clinic) (l .inv) (start .pre) (turn .loop-test .taken)
+    asks-clinic _ _ (now (start .args .out)) (now (start .args .work)) (l .clinic) (l .inv) (start .pre) (turn .loop-test .taken)
 
 add-clinic : tie.Need-add-clinic Inv-loop μ-loop
 add-clinic c = search needs
@@ -32,18 +32,17 @@ loop-again c =
     let printed = c .before .before .before .before in
     let turn = printed .before .before .before in
     let l = turn .before .loop in
-    clinic-more _ _ _ (l .clinic) (l .inv) (turn .loop-test .taken) (printed .print-clinic .ensures)
+    clinic-more _ _ _ _ (l .clinic) (l .inv) (turn .loop-test .taken) (printed .print-clinic .ensures)
 
 same-length : tie.Need-same-length Inv-loop μ-loop
 same-length c =
-    let planned = c .before .before .before .before .pre .listed .planned in
-    c .before .loop .inv .left (planned .region) (planned .holds) (planned .answered) .long
+    c .before .loop .inv .left .long
 
 same-length-2 : tie.Need-same-length-2 Inv-loop μ-loop
 same-length-2 c = search needs
 
 returns : tie.Need-returns Inv-loop μ-loop
-returns c = let l = c .before .loop in all-printed _ _ _ (l .clinic) (l .inv) (c .loop-test .left)
+returns c = let l = c .before .loop in all-printed _ _ _ _ (l .clinic) (l .inv) (c .loop-test .left)
 
 pub print-sheets-spec : {M : Type 1} → statement M
 print-sheets-spec =

@@ -1,102 +1,37 @@
 use borrow.Author.Needs.{needs}
-use Rattle.held_region.specs.Held.{blankStore}
-use native.Mathlib.Omega.{arith}
-use borrow.Author.Tests.{not-true, not-false}
-use mathlib.Core.Path.{_≡_, refl, sym, ap, _∙_}
-use Rattle.reader.proofs.Loads.{load-too-long, load-no-layout, load-patients, load-tables, load-sum, load-judged}
+use Rattle.reader.proofs.Loads.{load-refused, load-judged}
 use Rattle.reader.proofs.load.Statement.{statement}
 use Rattle.reader.proofs.load.Tie as tie
+
+read-requires : tie.Need-read-requires
+read-requires c κs = search needs
+
+enum-known-answer : tie.Need-enum-known-answer
+enum-known-answer c = search needs
 
 refused-requires : tie.Need-refused-requires
 refused-requires c κs = search needs
 
-returns : tie.Need-returns
-returns c = load-too-long (search needs) (c .refused .ensures)
-
-lay-out-requires : tie.Need-lay-out-requires
-lay-out-requires c κs = search needs
-
-refused-requires-2 : tie.Need-refused-requires-2
-refused-requires-2 c κs = search needs
-
-returns-2 : tie.Need-returns-2
-returns-2 c = load-no-layout (search needs) (c .before .before .before .lay-out .ensures) (not-true _ (c .before .if2 .taken)) (c .refused2 .ensures)
-
-cast-if3 : tie.Need-cast-if3
-cast-if3 c = search needs
-
-refused-requires-3 : tie.Need-refused-requires-3
-refused-requires-3 c κs = search needs
-
-returns-3 : tie.Need-returns-3
-returns-3 c =
-    let found = c .before .before .before .before in
-    load-patients (search needs) (found .before .before .lay-out .ensures) (not-false _ (found .if2 .left)) (c .before .if3 .taken) (c .refused3 .ensures)
-
-cast-if4 : tie.Need-cast-if4
-cast-if4 c = search needs
-
-refused-requires-4 : tie.Need-refused-requires-4
-refused-requires-4 c κs = search needs
-
-returns-4 : tie.Need-returns-4
-returns-4 c =
-    let found = c .before .before .before .before .before .before .before in
-    load-tables (search needs) (found .before .before .lay-out .ensures) (not-false _ (found .if2 .left)) (c .before .if4 .taken) (c .refused4 .ensures)
-
-checksum-before-requires : tie.Need-checksum-before-requires
-checksum-before-requires c κs = search needs
-
-refused-requires-5 : tie.Need-refused-requires-5
-refused-requires-5 c κs = search needs
-
-returns-5 : tie.Need-returns-5
-returns-5 c =
-    let sum = c .before .before .before in
-    let tables = sum .before in
-    let patients = tables .before .before .before in
-    let found = patients .before .before .before in
-    let laid = found .before .before in
-    let short = laid .before .before in
-    load-sum (omega (arith, short .if1 .left)) (laid .lay-out .ensures) (not-false _ (found .if2 .left)) (patients .if3 .left) (tables .if4 .left)
-    (sum .checksum-before .ensures) (c .before .if5 .taken) (c .refused5 .ensures)
-
-region-of-requires : tie.Need-region-of-requires
-region-of-requires c κs = search needs
+enum-told : tie.Need-enum-told
+enum-told c = search needs
 
 judge-requires : tie.Need-judge-requires
 judge-requires c κs = search needs
 
-returns-6 : tie.Need-returns-6
-unfolding blankStore
-returns-6 c =
-    let sum = c .before .before .before .before in
-    let tables = sum .before in
-    let patients = tables .before .before .before in
-    let found = patients .before .before .before in
-    let laid = found .before .before in
-    let short = laid .before .before in
-    load-judged (omega (arith, short .if1 .left)) (laid .lay-out .ensures) (not-false _ (found .if2 .left)) (patients .if3 .left) (tables .if4 .left)
-    (sum .checksum-before .ensures) refl (c .before .before .if5 .left) (c .before .region-of .ensures) (c .judge .ensures)
+returns : tie.Need-returns
+returns c = load-refused _ (c .before .before .before .before .read .ensures) (c .before .before .answer .given .1) (c .refused .ensures)
+
+returns-2 : tie.Need-returns-2
+returns-2 c = load-judged _ (c .before .before .before .before .before .read .ensures) (c .before .before .before .enum-told .given .1) (c .judge .ensures)
 
 pub load-spec : {M : Type 1} → statement M
 load-spec =
     tie.close
     (tie.spec
+    read-requires
+    enum-known-answer
     refused-requires
-    returns
-    lay-out-requires
-    refused-requires-2
-    returns-2
-    cast-if3
-    refused-requires-3
-    returns-3
-    cast-if4
-    refused-requires-4
-    returns-4
-    checksum-before-requires
-    refused-requires-5
-    returns-5
-    region-of-requires
+    enum-told
     judge-requires
-    returns-6)
+    returns
+    returns-2)

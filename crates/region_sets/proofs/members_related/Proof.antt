@@ -19,7 +19,7 @@ ancestor-sets-requires : tie.Need-ancestor-sets-requires Inv-loop μ-loop
 ancestor-sets-requires c κs = (c .pre .0 .fits, c .pre .1)
 
 loop-holds : tie.Need-loop-holds Inv-loop μ-loop
-loop-holds c = ask-all _ _ (related-asked _)
+loop-holds c = ask-all _ _ (related-asked _ _)
 
 mul-table : tie.Need-mul-table Inv-loop μ-loop
 mul-table c = search needs

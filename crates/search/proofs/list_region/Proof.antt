@@ -1,5 +1,5 @@
 use borrow.Author.Needs.{needs}
-use Rattle.search.proofs.Forests.{planted}
+use Rattle.search.proofs.Forests.{planted, parents-planned}
 use Rattle.search.proofs.list_region.Statement.{statement}
 use Rattle.search.proofs.list_region.Tie as tie
 
@@ -7,15 +7,15 @@ prepare-requires : tie.Need-prepare-requires
 prepare-requires c κs = search needs
 
 root-numbers-requires : tie.Need-root-numbers-requires
-root-numbers-requires c κs = search needs
+root-numbers-requires c κs = parents-planned _ _ (c .before .before .pre .planned)
 
 list-trees-requires : tie.Need-list-trees-requires
 list-trees-requires c κs =
-    let pre = c .before .before .before .before .before .before .before .before .before .before .before .pre in
+    let roots = c .before .before .before .before .before .before in
     record {
-      region = pre .planned .region;
-      planted = planted _ (pre .planned .region) (pre .planned .holds) (pre .planned .answered) (c .before .before .before .before .before .before .before .before .before .prepare .ensures) (c .before .before .before .before .before .before .before .before .root-numbers .ensures);
-      long = pre .long;
+      region = _;
+      planted = planted _ _ (roots .before .prepare .ensures) (roots .root-numbers .ensures);
+      long = roots .before .before .before .pre .long;
     }
 
 same-length : tie.Need-same-length
@@ -24,10 +24,11 @@ same-length c = search needs
 returns : tie.Need-returns
 returns c =
     let gives = c .before .before .list-trees .ensures in
+    let roots = c .before .before .before .before .before .before .before .before .before in
     record {
       count = gives .count;
       long = gives .long;
-      list = λ r holds answered. gives .list r (planted _ r holds answered (c .before .before .before .before .before .before .before .before .before .before .before .before .prepare .ensures) (c .before .before .before .before .before .before .before .before .before .before .before .root-numbers .ensures));
+      list = gives .list _ (planted _ _ (roots .before .prepare .ensures) (roots .root-numbers .ensures));
     }
 
 pub list-region-spec : {M : Type 1} → statement M

@@ -5,13 +5,12 @@ use Rattle.sheets.proofs.sheet_rows.Tie as tie
 
 prepare-within-requires : tie.Need-prepare-within-requires
 prepare-within-requires c κs =
-    let asks = c .before .pre in
-    record { region = asks .region; holds = asks .given .holds; answered = asks .given .answered }
+    c .before .pre .planned
 
 keep-rows-requires : tie.Need-keep-rows-requires
 keep-rows-requires c κs =
-    let made = c .before .before .before .before .before .before .before in
-    list-asked _ _ _ _ _ _ (made .prepare-within .ensures) (made .before .before .pre)
+    let made = c .before .before .before .before .before in
+    list-asked _ _ _ _ _ _ _ (made .prepare-within .ensures) (made .before .before .pre)
 
 same-length : tie.Need-same-length
 same-length c = search needs
@@ -19,7 +18,7 @@ same-length c = search needs
 returns : tie.Need-returns
 returns c =
     let walked = c .before .before in
-    sheet-given _ _ _ _ _ _ (walked .before .before .before .before .before .before .before .before .prepare-within .ensures) _ _ (walked .keep-rows .ensures)
+    sheet-given _ _ _ _ _ _ _ (walked .before .before .before .before .before .before .prepare-within .ensures) _ _ (walked .keep-rows .ensures)
 
 pub sheet-rows-spec : {M : Type 1} → statement M
 sheet-rows-spec =

@@ -2,8 +2,7 @@ use borrow.Author.Needs.{needs}
 use native.Mathlib.Omega.{arith}
 use borrow.Author.Tests.{not-true, not-false}
 use mathlib.Core.Path.{sym, _∙_}
-use Rattle.held_region.specs.Faithful.{fits-told}
-use Rattle.planner.proofs.Clinics.{nobody-held, outline-held, clinic-narrow}
+use Rattle.planner.proofs.Clinics.{nobody-held, clinic-narrow}
 use Rattle.planner.proofs.clinic_sheet.clinic_patients.Statement.{statement}
 use Rattle.planner.proofs.clinic_sheet.clinic_patients.Tie as tie
 
@@ -11,18 +10,16 @@ within-requires : tie.Need-within-requires
 within-requires c κs = search needs
 
 returns : tie.Need-returns
-returns c = nobody-held _ _ (sym (c .before .within .ensures) ∙ not-true _ (c .if1 .taken))
+returns c = nobody-held _ _ (c .before .before .pre .1) (sym (c .before .within .ensures) ∙ not-true _ (c .if1 .taken))
 
 cast-clinic-set : tie.Need-cast-clinic-set
 cast-clinic-set c = omega (arith, clinic-narrow _ (sym (c .before .within .ensures) ∙ not-false _ (c .if1 .left)))
 
 clinic-set-requires : tie.Need-clinic-set-requires
-clinic-set-requires c κs =
-    let planned = c .before .before .pre in
-    fits-told _ (planned .region) (planned .holds) (planned .answered .counted) (planned .answered .countsFit)
+clinic-set-requires c κs = c .before .before .pre .0
 
 returns-2 : tie.Need-returns-2
-returns-2 c = outline-held _ _ _ (c .clinic-set .ensures)
+returns-2 c = c .clinic-set .ensures
 
 pub clinic-patients-spec : {M : Type 1} → statement M
 clinic-patients-spec =

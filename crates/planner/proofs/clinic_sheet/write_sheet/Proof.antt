@@ -29,7 +29,7 @@ write-rows-requires c κs =
     let sized = c .before .before .before .before in
     let collected = sized .before .before .before in
     let start = collected .before .before .before .before .before in
-    writable-sheet _ (now (start .args .beds)) (now (start .args .costs)) (now (start .args .work)) (start .pre) (sized .size .ensures) (collected .sheet-rows .ensures)
+    writable-sheet _ _ (now (start .args .beds)) (now (start .args .costs)) (now (start .args .work)) (start .pre) (sized .size .ensures) (collected .sheet-rows .ensures)
 
 clear-requires : tie.Need-clear-requires
 clear-requires c κs = search needs
@@ -49,7 +49,7 @@ returns c =
     let sized = c .before .before .before .before .before .before .before .before .before .before .before .before .before in
     let collected = sized .before .before .before in
     let start = collected .before .before .before .before .before in
-    sheet-written _ (now (start .args .beds)) (now (start .args .costs)) (now (start .args .work)) (start .pre) (sized .size .ensures) (collected .sheet-rows .ensures)
+    sheet-written _ _ (now (start .args .beds)) (now (start .args .costs)) (now (start .args .work)) (start .pre) (sized .size .ensures) (collected .sheet-rows .ensures)
     (c .before .before .before .before .before .before .before .before .write-rows .ensures) (c .before .before .clear .ensures)
 
 pub write-sheet-spec : {M : Type 1} → statement M

@@ -8,25 +8,25 @@ use Rattle.planner.proofs.loaded.list_loaded.Statement.{statement}
 use Rattle.planner.proofs.loaded.list_loaded.Tie as tie
 
 long-enough-requires : tie.Need-long-enough-requires
-long-enough-requires c κs = counts-few _ (c .before .before .before .pre)
+long-enough-requires c κs = counts-few _ _ (c .before .before .before .pre)
 
 returns : tie.Need-returns
 returns c =
     let s = c .before .before .before .before .before in
     let a = s .args in
-    listed-short _ (s .pre) (now (a .beds)) (now (a .costs)) (now (a .work)) (c .before .long-enough .ensures) (not-true _ (c .if1 .taken))
+    listed-short _ _ (s .pre) (now (a .beds)) (now (a .costs)) (now (a .work)) (c .before .long-enough .ensures) (not-true _ (c .if1 .taken))
 
 list-region-requires : tie.Need-list-region-requires
 list-region-requires c κs =
     let s = c .before .before .before .before .before .before in
     let a = s .args in
-    asks-list _ (now (a .beds)) (now (a .costs)) (now (a .work)) (c .before .before .long-enough .ensures) (not-false _ (c .before .if1 .left)) (s .pre)
+    asks-list _ _ (now (a .beds)) (now (a .costs)) (now (a .work)) (c .before .before .long-enough .ensures) (not-false _ (c .before .if1 .left)) (s .pre)
 
 write-rows-requires : tie.Need-write-rows-requires
 write-rows-requires c κs =
     let s = c .before .before .before .before .before .before .before .before .before .before .before .before in
     let a = s .args in
-    writable _ (s .pre) (now (a .beds)) (now (a .costs)) (now (a .work)) (c .before .before .before .before .before .before .before .before .long-enough .ensures) (not-false _ (c .before .before .before .before .before .before .before .if1 .left)) (c .before .before .before .before .before .list-region .ensures)
+    writable _ _ (s .pre) (now (a .beds)) (now (a .costs)) (now (a .work)) (c .before .before .before .before .before .before .before .before .long-enough .ensures) (not-false _ (c .before .before .before .before .before .before .before .if1 .left)) (c .before .before .before .before .before .list-region .ensures)
 
 clear-requires : tie.Need-clear-requires
 clear-requires c κs = search needs
@@ -44,7 +44,7 @@ returns-2 : tie.Need-returns-2
 returns-2 c =
     let s = c .before .before .before .before .before .before .before .before .before .before .before .before .before .before .before .before .before .before .before .before .before .before in
     let a = s .args in
-    listed-nothing _ (s .pre) (now (a .beds)) (now (a .costs)) (now (a .work)) (c .before .before .before .before .before .before .before .before .before .before .before .before .before .before .before .before .before .before .long-enough .ensures) (not-false _ (c .before .before .before .before .before .before .before .before .before .before .before .before .before .before .before .before .before .if1 .left)) (c .before .before .before .before .before .before .before .before .before .before .before .before .before .before .before .list-region .ensures) (c .if2 .taken)
+    listed-nothing _ _ (s .pre) (now (a .beds)) (now (a .costs)) (now (a .work)) (c .before .before .before .before .before .before .before .before .before .before .before .before .before .before .before .before .before .before .long-enough .ensures) (not-false _ (c .before .before .before .before .before .before .before .before .before .before .before .before .before .before .before .before .before .if1 .left)) (c .before .before .before .before .before .before .before .before .before .before .before .before .before .before .before .list-region .ensures) (c .if2 .taken)
     (c .before .before .before .before .before .before .before .before .before .write-rows .ensures) (c .before .before .before .clear .ensures)
 
 same-length-4 : tie.Need-same-length-4
@@ -60,7 +60,7 @@ returns-3 : tie.Need-returns-3
 returns-3 c =
     let s = c .before .before .before .before .before .before .before .before .before .before .before .before .before .before .before .before .before .before .before .before .before .before in
     let a = s .args in
-    listed-rows _ (s .pre) (now (a .beds)) (now (a .costs)) (now (a .work)) (c .before .before .before .before .before .before .before .before .before .before .before .before .before .before .before .before .before .before .long-enough .ensures) (not-false _ (c .before .before .before .before .before .before .before .before .before .before .before .before .before .before .before .before .before .if1 .left)) (c .before .before .before .before .before .before .before .before .before .before .before .before .before .before .before .list-region .ensures) (c .if2 .left)
+    listed-rows _ _ (s .pre) (now (a .beds)) (now (a .costs)) (now (a .work)) (c .before .before .before .before .before .before .before .before .before .before .before .before .before .before .before .before .before .before .long-enough .ensures) (not-false _ (c .before .before .before .before .before .before .before .before .before .before .before .before .before .before .before .before .before .if1 .left)) (c .before .before .before .before .before .before .before .before .before .before .before .before .before .before .before .list-region .ensures) (c .if2 .left)
     (c .before .before .before .before .before .before .before .before .before .write-rows .ensures) (c .before .before .before .clear .ensures)
 
 pub list-loaded-spec : {M : Type 1} → statement M

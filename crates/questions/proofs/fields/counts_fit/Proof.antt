@@ -1,7 +1,7 @@
 use borrow.Author.Needs.{needs}
 use mathlib.Core.Path.{sym, _∙_}
 use Rattle.definitions.specs.Questions.{countsWithin}
-use Rattle.held_region.specs.Outline.{outline}
+use Rattle.held_region.specs.Outline.{said}
 use Rattle.questions.proofs.fields.counts_fit.Statement.{statement}
 use Rattle.questions.proofs.fields.counts_fit.Tie as tie
 
@@ -15,15 +15,15 @@ within-requires-3 : tie.Need-within-requires-3
 within-requires-3 c κs = search needs
 
 returns : tie.Need-returns
-unfolding countsWithin outline
+unfolding countsWithin said
 returns c = simp (c .within3 .ensures, sym (c .before .before .within2 .ensures) ∙ c .before .if2 .taken, sym (c .before .before .before .before .within .ensures) ∙ c .before .before .before .if1 .taken)
 
 returns-2 : tie.Need-returns-2
-unfolding countsWithin outline
+unfolding countsWithin said
 returns-2 c = simp (sym (c .before .before .before .within .ensures) ∙ c .before .before .if1 .taken, ← c .before .within2 .ensures, c .if2 .left)
 
 returns-3 : tie.Need-returns-3
-unfolding countsWithin outline
+unfolding countsWithin said
 returns-3 c = simp (← c .before .within .ensures, c .if1 .left)
 
 pub counts-fit-spec : {M : Type 1} → statement M

@@ -16,7 +16,7 @@ abbrev μ-loop : tie.MeasureT-loop
 μ-loop region i₀ i = region .t - i
 
 loop-holds : tie.Need-loop-holds Inv-loop μ-loop
-loop-holds c = ask-all _ _ (members-asked _)
+loop-holds c = ask-all _ _ (members-asked _ _)
 
 mul-table : tie.Need-mul-table Inv-loop μ-loop
 mul-table c = search needs
