@@ -68,12 +68,7 @@ fn print_sheets(
 }
 
 // The text of a region whose file is accepted: its list and its sheets, or question 13.
-fn print_region(
-    out: &mut [u8],
-    work: &mut [u32],
-    region: Region,
-    store: &[u32; 4096],
-) -> usize
+fn print_region(out: &mut [u8], work: &mut [u32], region: Region, store: &[u32; 4096]) -> usize
     requires { ⌜ AsksText region (now store) (now out) (now work) ⌝ }
     ensures { λ end. ⌜ GivesText region (now (store .entry)) (now (out .entry)) (now (out .exit)) end ⌝ }
 {

@@ -112,13 +112,5 @@ pub fn list_region(work: &mut [u32], region: Region, store: &[u32; 4096]) -> usi
     let roots = root_numbers(region);
     let patients = buckets.patients;
     let terms = buckets.terms;
-    list_trees(
-        work,
-        &patients,
-        &terms,
-        store,
-        &roots,
-        region.v,
-        region.m,
-    )
+    list_trees(work, &patients, &terms, store, &roots, region.v, region.m)
 }

@@ -146,13 +146,5 @@ pub fn sheet_rows(
     let buckets = prepare_within(region, store, clinic);
     let patients = buckets.patients;
     let terms = buckets.terms;
-    keep_rows(
-        work,
-        &patients,
-        &terms,
-        store,
-        region.v,
-        n,
-        clinic,
-    )
+    keep_rows(work, &patients, &terms, store, region.v, n, clinic)
 }

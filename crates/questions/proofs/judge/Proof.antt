@@ -39,8 +39,7 @@ judge-entries-requires c κs =
     let patients = c .before .before .before in
     let counts = patients .before .before in
     let six = and-eq-true-iff _ _ .0 (answered-yes (patients .patients-right .ensures) (c .before .before .if2 .left)) in
-    let five = room _ _ (answered-yes (counts .counts-fit .ensures) (patients .before .if1 .left)) in
-    (
+    let five = room _ _ (answered-yes (counts .counts-fit .ensures) (patients .before .if1 .left)) in (
       record { fits = five; patients = six .0; members = answered-yes (c .before .members-right .ensures) (c .if3 .left) },
       λ asked. rw asked at (six .1),
     )
