@@ -7,11 +7,11 @@ use held_region::limits::Field;
 use held_region::limits::within;
 ghost use mathlib.Core.Path.{_≡_};
 ghost use Prim.Native.Nat.{_≤_};
-ghost use Rattle.definitions.specs.Basics.{true, product, map};
+ghost use Rattle.definitions.specs.Basics.{ℕ, List, product, map};
 ghost use Rattle.definitions.specs.Questions.{entryCountsRight};
-ghost use Rattle.held_region.specs.Entries.{codeFits, storeFits, BedsRead, countsMatch, entryTotal};
+ghost use Rattle.held_region.specs.Entries.{codeFits, storeFits, BedsRead, CountsSmall, countsMatch};
 ghost use Rattle.held_region.specs.Sound.{Sound, bedsIn};
-ghost use Rattle.held_region.specs.Outline.{outline, membersOf};
+ghost use Rattle.held_region.specs.Meaning.{membersOf, startIn, said};
 
 // How many beds the members of a table have together: the product.
 fn bed_product(patients: [Patient; 32], table: Table) -> usize
@@ -32,7 +32,7 @@ fn bed_product(patients: [Patient; 32], table: Table) -> usize
 // Has each table as many entries as the product of its members' bed counts?
 fn counts_match(region: Region) -> bool
     requires { ⌜ Sound region ⌝ }
-    ensures { λ a. ⌜ a ≡ countsMatch (outline region) ⌝ }
+    ensures { λ a. ⌜ ((store : List ℕ) → a ≡ countsMatch (said region store)) ⌝ }
 {
     let patients = region.patients;
     let mut i = 0;
@@ -46,10 +46,10 @@ fn counts_match(region: Region) -> bool
     true
 }
 
-// How many entries all tables have together.
+// How many entries all tables have together: where those of a table behind the last would begin.
 pub fn entry_total(region: Region) -> usize
-    requires { ⌜ (Sound region) × (countsMatch (outline region) ≡ true) ⌝ }
-    ensures { λ n. ⌜ n ≡ entryTotal (outline region) ⌝ }
+    requires { ⌜ CountsSmall region ⌝ }
+    ensures { λ n. ⌜ n ≡ startIn region (region .t) ⌝ }
 {
     let mut n: usize = 0;
     let mut i = 0;
@@ -64,7 +64,7 @@ pub fn entry_total(region: Region) -> usize
 // 8. Has each table its entries, and have all together their place?
 pub fn entry_counts_right(region: Region) -> bool
     requires { ⌜ Sound region ⌝ }
-    ensures { λ a. ⌜ a ≡ entryCountsRight (outline region) ⌝ }
+    ensures { λ a. ⌜ ((store : List ℕ) → a ≡ entryCountsRight (said region store)) ⌝ }
 {
     counts_match(region) && within(Field::EntryCount, entry_total(region))
 }

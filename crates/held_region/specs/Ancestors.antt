@@ -10,7 +10,7 @@ use Rattle.patient_set.specs.Lists.{every-weaker, every-at}
 use Rattle.definitions.specs.Basics.{ℕ, zero, suc, _<_, Bool, true, false, Option, none, some, isSome, [], _∷_, length, ltb, every, contains}
 use Rattle.definitions.specs.Syntax.{Region, patientAt}
 use Rattle.definitions.specs.Questions.{parentsSmaller, following, ancestors}
-use Rattle.held_region.specs.Outline.{parentFits}
+use Rattle.held_region.specs.Asked.{parentFits}
 use Rattle.held_region.specs.Places.{every-place}
 
 module _ (r : Region) (smaller : parentsSmaller r ≡ true) where

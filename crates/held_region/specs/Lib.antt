@@ -1,7 +1,7 @@
-pub mod Held
+pub mod Meaning
 pub mod Limits
-pub mod Outline
 pub mod Places
+pub mod Stores
 pub mod Asked
 pub mod Members
 pub mod Sound
@@ -10,8 +10,4 @@ pub mod Ancestors
 pub mod Chains
 pub mod Sets
 pub mod Related
-pub mod Stores
-pub mod Said
 pub mod Refusals
-pub mod Faithful
-pub mod Answers

@@ -12,7 +12,7 @@ use Rattle.definitions.specs.Syntax as Said
 use Rattle.definitions.specs.Questions.{membersRight}
 use Rattle.held_region.specs.declared.Table.{Table}
 use Rattle.held_region.specs.declared.Region.{Region}
-use Rattle.held_region.specs.Outline.{said, tableIn, tableSaid, membersOf}
+use Rattle.held_region.specs.Meaning.{tableIn, membersOf, tableSaid, said}
 use Rattle.held_region.specs.Chains.{from-zero}
 use Rattle.held_region.specs.Places.{length-by-places, every-map, every-place, placesFrom, places-all, places-next, places-done}
 

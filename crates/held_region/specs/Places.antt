@@ -4,8 +4,9 @@ use mathlib.Core.Bool.{and-eq-true-iff}
 use Prim.Native.Nat.{_≤_}
 use native.Mathlib.Numerals.{add-one}
 use native.Mathlib.Omega.{arith}
+use borrow.Author.Tests.{not-true, not-false}
 use Rattle.patient_set.specs.Lists.{every-at, contains-numbers}
-use Rattle.definitions.specs.Basics.{ℕ, zero, suc, _+_, _-_, _<_, Bool, true, false, _&&_, List, [], _∷_, map, length, getD, numbersFrom, below, every}
+use Rattle.definitions.specs.Basics.{ℕ, zero, suc, _+_, _-_, _<_, Bool, true, false, not, _&&_, List, [], _∷_, map, length, getD, numbersFrom, below, every}
 
 module _ {A : Type 0} where
   -- As many elements as there are places.
@@ -99,3 +100,10 @@ same-maps p f g same [] all = refl
 same-maps p f g same (x ∷ l) all =
     let parts = and-eq-true-iff (p x) (every p l) .0 all in
     ap₂ (λ y ys. y ∷ ys) (same x (parts .0)) (same-maps p f g same l (parts .1))
+
+-- What a test tells of the question that was asked.
+pub answered-no : {answer question : Bool} → answer ≡ question → not answer ≡ true → question ≡ false
+answered-no {answer} e t = sym e ∙ not-true answer t
+
+pub answered-yes : {answer question : Bool} → answer ≡ question → not answer ≡ false → question ≡ true
+answered-yes {answer} e t = sym e ∙ not-false answer t

@@ -2,7 +2,7 @@
 pub mod limits;
 
 ghost use mathlib.Core.Path.{_≡_};
-ghost use Rattle.held_region.specs.Held.{blankRegion};
+ghost use Rattle.held_region.specs.Meaning.{blankRegion};
 
 // The parent field of a patient. It is held as the file has it, however large.
 pub enum Parent {

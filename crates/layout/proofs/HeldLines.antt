@@ -1,26 +1,24 @@
 -- The patients that are held, one line after the other.
 use mathlib.Core.Path.{_≡_, refl, sym, ap, _∙_}
 use native.Mathlib.Omega.{arith}
-use native.Mathlib.Decide.{ℕ-discrete}
-use lib.ListN.{set, length-append, length-set, List·getD-append}
-use lib.Seq.{getD-set-same, getD-set-other, getD-append-seam, set-out}
+use lib.ListN.{set, length-append, length-set}
 use Prim.Native.Nat.{_≤_}
-use Rattle.definitions.specs.Basics.{ℕ, suc, _+_, _-_, _<_, Option, some, List, [], _∷_, _++_, length, getD, take, replicate}
+use Rattle.definitions.specs.Basics.{ℕ, _+_, _-_, _<_, Option, some, List, [], _∷_, _++_, length, take, replicate}
 use lib.ListN.{drop}
 use Rattle.definitions.specs.Syntax as Said
 use Rattle.definitions.specs.Layout.{many, whole, lines, patientLine}
 use Rattle.held_region.specs.declared.Patient.{Patient}
 use Rattle.held_region.specs.declared.Parent.{Parent}
-use Rattle.held_region.specs.Held.{parentOf, patientOf, noPatient}
+use Rattle.held_region.specs.Meaning.{parentOf, patientOf, noPatient}
 use Rattle.scanner.specs.declared.Optional.{Optional}
 use Rattle.scanner.specs.declared.Optional.the-variants.{Hyphen, Number}
 use Rattle.line_reader.specs.declared.PatientLine.{PatientLine}
 use Rattle.line_reader.specs.declared.PatientLine.the-variants.{Is as IsPatient, Other as NoPatient}
 use Rattle.scanner.specs.Answers.{optional}
 use Rattle.line_reader.specs.Answers.{LineEnd, patientRead}
-use Rattle.layout.specs.Taken.{Taken, taken-none, taken-more, taken-other, taken-all}
+use Rattle.layout.specs.Taken.{taken-none, taken-more, taken-other, taken-all}
 use Rattle.table_reader.specs.FirstHeld.{held-none, held-more}
-use Rattle.layout.specs.Reading.{held, noneSaid, HoldsPatient, HeldPatients, PatientsSoFar, PatientLines}
+use Rattle.layout.specs.Reading.{held, noneSaid, HoldsPatient, PatientsSoFar, PatientLines}
 
 pub patients-none : (s : List ℕ) (at : ℕ) → PatientsSoFar s at (replicate 32 noPatient) 0 at
 patients-none s at = record { said = []; taken = taken-none; counted = refl; holds = held-none 32 HoldsPatient noPatient noneSaid (replicate 32 noPatient); wide = refl }

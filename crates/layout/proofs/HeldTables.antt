@@ -11,16 +11,16 @@ use Rattle.definitions.specs.Basics.{ℕ, _+_, _-_, _<_, none, some, List, isSo
 use Rattle.definitions.specs.Syntax as Said
 use Rattle.definitions.specs.Layout.{whole, word, exactly, lines, many, tableLine, endLine}
 use Rattle.held_region.specs.declared.Table.{Table}
-use Rattle.held_region.specs.Held.{codeOf, codesOf, StoreHolds, noTable, HoldsTable}
+use Rattle.held_region.specs.Meaning.{codeOf, noTable}
 use Rattle.scanner.specs.Words.{exactly-short, exactly-same, exactly-other}
 use Rattle.line_reader.specs.Answers.{LineEnd}
 use Rattle.table_reader.specs.declared.TableLine.{TableLine}
 use Rattle.table_reader.specs.FirstHeld.{held-none, held-more}
 use Rattle.table_reader.specs.Stores.{stored-none}
-use Rattle.table_reader.specs.TableReading.{Adds, TableThere, TableRead}
+use Rattle.table_reader.specs.TableReading.{HoldsTable, Holding, Adds, TableThere, TableRead}
 use Rattle.table_reader.proofs.HeldTables.{one-more, adds-none, adds-then}
 use Rattle.layout.specs.Taken.{taken-none, taken-more, taken-other, taken-all}
-use Rattle.layout.specs.TableLines.{noTableSaid, TablesSoFar, TableLines}
+use Rattle.layout.specs.TableLines.{noTableSaid, codesOf, TablesSoFar, TableLines}
 
 -- A list does not begin with two words that differ behind what they have in common.
 differ : (common : List ℕ) (u v : ℕ) (us vs xs : List ℕ) → (u ≡ v → ⊥) → (exactly (common ++ v ∷ vs) xs ≡ none → ⊥) → exactly (common ++ u ∷ us) xs ≡ none
@@ -44,10 +44,8 @@ flatMap-snoc f [] x = append-nil (f x)
 flatMap-snoc {B = B} f (y ∷ xs) x = ap {B = List B} (λ l. f y ++ l) (flatMap-snoc f xs x) ∙ sym (append-assoc (f y) (flatMap f xs) (f x))
 
 -- The store, whatever it was, holds the tables whose entries were added.
-store-said : {before after : List ℕ} (said : List Said.Table) → Adds 0 before after (codesOf said) → length before ≡ 4096 → StoreHolds after (codesOf said)
-store-said {before} {after} said added wide =
-    let g = added .behind [] refl (record { wide = wide; stored = stored-none before }) in
-    λ i h l. g .stored .held i (omega (arith, g .wide)) l
+store-said : {before after : List ℕ} (said : List Said.Table) → Adds 0 before after (codesOf said) → length before ≡ 4096 → Holding after (codesOf said)
+store-said {before} said added wide = added .behind [] refl (record { wide = wide; stored = stored-none before })
 
 -- No line yet.
 pub tables-none : (s : List ℕ) (at : ℕ) (store : List ℕ) → TablesSoFar s at store (replicate 64 noTable) 0 0 at store

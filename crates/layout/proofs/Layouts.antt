@@ -6,13 +6,12 @@ use native.Mathlib.Omega.{arith}
 use native.Mathlib.Decide.{decLt}
 use Prim.Native.Nat.{_≤_}
 use lib.ListN.{take, drop, drop-of-length-le, length-drop}
-use Rattle.definitions.specs.Basics.{ℕ, zero, suc, _-_, _<_, true, false, Option, none, some, bind, List, [], _∷_, _++_, length, isSome}
-use Rattle.definitions.specs.Layout.{many, whole, lines, regionLine, patientLine, tableLine, endLine, layout}
+use Rattle.definitions.specs.Basics.{ℕ, zero, suc, _-_, _<_, true, Option, none, some, bind, List, [], _∷_, _++_, length, isSome}
+use Rattle.definitions.specs.Layout.{whole, lines, regionLine, patientLine, tableLine, endLine, layout}
 use Rattle.line_reader.specs.Answers.{LineEnd}
-use Rattle.line_reader.specs.Lines.{lineLength, lines-cut}
+use Rattle.line_reader.specs.Lines.{lines-cut}
 use Rattle.layout.specs.declared.patients.Patients.{Patients}
 use Rattle.layout.specs.declared.tables.Tables.{Tables}
-use Rattle.layout.specs.declared.Laid.{Laid}
 use Rattle.layout.specs.Reading.{PatientLines}
 use Rattle.layout.specs.TableLines.{TableLines}
 use Rattle.layout.specs.LaidOut.{LaidThere, treeOf, no-lines, no-head, no-last, no-end, more-lines, laid-out, EndsWith, many-end, body-before}

@@ -5,15 +5,13 @@ use mathlib.Core.Option.{Option·none-ne-some, Option·some-injective}
 use lib.ListN.{take, drop, take-append-drop}
 use Rattle.definitions.specs.Basics.{ℕ, Option, none, some, bind, List, [], _∷_, _++_, length, flatten, dropLast}
 use Rattle.definitions.specs.Syntax as Said
-use Rattle.definitions.specs.Layout.{many, one, whole, lines, regionLine, patientLine, tableLine, endLine, regionLines, layout}
+use Rattle.definitions.specs.Layout.{many, whole, lines, regionLine, patientLine, tableLine, endLine, regionLines, layout}
 use Rattle.theorems.specs.Lines.{flatten-lines}
 use Rattle.theorems.specs.Spelling.{drop-last}
-use Rattle.held_region.specs.Held.{HoldsTable, noTable, codesOf, StoreHolds}
-use Rattle.table_reader.specs.TableReading.{Found}
+use Rattle.table_reader.specs.TableReading.{Found, Holding}
 use Rattle.layout.specs.declared.Laid.{Laid}
-use Rattle.table_reader.specs.FirstHeld.{FirstHeld}
 use Rattle.layout.specs.Reading.{HeldPatients}
-use Rattle.layout.specs.TableLines.{noTableSaid}
+use Rattle.layout.specs.TableLines.{codesOf, TablesHeld}
 
 -- What is held of a laid-out file: everything it says but for what has no place, and what the sum is taken over.
 pub record LaidThere (s : List ℕ) (r : Laid) (before after : List ℕ) : Type 0 where
@@ -26,8 +24,8 @@ pub record LaidThere (s : List ℕ) (r : Laid) (before after : List ℕ) : Type 
   pub patientsCounted : r .patients .count ≡ length (tree .patients)
   pub patientsHeld : HeldPatients (r .patients .first) (tree .patients)
   pub tablesCounted : r .tables .count ≡ length (tree .tables)
-  pub tablesHeld : FirstHeld 64 HoldsTable noTable noTableSaid (r .tables .first) (tree .tables)
-  pub stored : length before ≡ 4096 → StoreHolds after (codesOf (tree .tables))
+  pub tablesHeld : TablesHeld (r .tables .first) (tree .tables)
+  pub stored : length before ≡ 4096 → Holding after (codesOf (tree .tables))
   pub body : flatten (dropLast (lines s)) ≡ take (r .end) s
 
 abbrev pub LaidOut : List ℕ → Laid → List ℕ → List ℕ → Type 0

@@ -1,7 +1,7 @@
 -- What is read of a file, and what is held of it.
 use Prim.Native.Nat.{_≤_, max}
 use lib.ListN.{drop}
-use Rattle.definitions.specs.Basics.{ℕ, _<_, _≡_, Option, none, some, List, length}
+use Rattle.definitions.specs.Basics.{ℕ, _≡_, none, some, List, length}
 use Rattle.definitions.specs.Syntax as Said
 use Rattle.definitions.specs.Layout.{many, whole, lines, patientLine}
 use Rattle.scanner.specs.declared.Optional.{Optional}
@@ -9,7 +9,7 @@ use Rattle.scanner.specs.declared.Optional.the-variants.{Hyphen, Number}
 use Rattle.held_region.specs.declared.Parent.{Parent}
 use Rattle.held_region.specs.declared.Parent.the-variants.{Root, Of}
 use Rattle.held_region.specs.declared.Patient.{Patient}
-use Rattle.held_region.specs.Held.{patientOf, noPatient}
+use Rattle.held_region.specs.Meaning.{patientOf, noPatient}
 use Rattle.layout.specs.declared.patients.Patients.{Patients}
 use Rattle.layout.specs.Taken.{Taken}
 use Rattle.table_reader.specs.FirstHeld.{FirstHeld}

@@ -1,19 +1,23 @@
 -- What is read of the table lines, and what is held of them.
 use Prim.Native.Nat.{_≤_, max}
 use lib.ListN.{drop}
-use Rattle.definitions.specs.Basics.{ℕ, _≡_, true, some, isSome, List, [], _∷_, length}
+use Rattle.definitions.specs.Basics.{ℕ, _≡_, true, some, isSome, List, [], _∷_, map, flatMap, length}
 use Rattle.definitions.specs.Syntax as Said
 use Rattle.definitions.specs.Layout.{many, whole, lines, tableLine, endLine}
 use Rattle.held_region.specs.declared.Table.{Table}
-use Rattle.held_region.specs.Held.{noTable, codesOf, StoreHolds, HoldsTable}
+use Rattle.held_region.specs.Meaning.{noTable, codeOf}
 use Rattle.table_reader.specs.FirstHeld.{FirstHeld}
-use Rattle.table_reader.specs.TableReading.{Adds}
+use Rattle.table_reader.specs.TableReading.{HoldsTable, Holding, Adds}
 use Rattle.layout.specs.declared.tables.Tables.{Tables}
 use Rattle.layout.specs.Taken.{Taken}
 
 -- What stands at a place where no table is said.
 abbrev pub noTableSaid : Said.Table
 noTableSaid = record { members = []; entries = [] }
+
+-- The numbers of some tables: their entries one after the other.
+abbrev pub codesOf : List Said.Table → List ℕ
+codesOf tables = flatMap (λ t. map codeOf (t .entries)) tables
 
 -- The first 64 of the tables that are said are held.
 abbrev pub TablesHeld : List Table → List Said.Table → Type 0
@@ -38,4 +42,4 @@ pub record TableLines (s : List ℕ) (at : ℕ) (r : Tables) (before after : Lis
   pub holds : TablesHeld (r .first) said
   pub ahead : at ≤ r .next
   pub within : r .next ≤ max at (length s)
-  pub stored : length before ≡ 4096 → (l : List ℕ) (ls : List (List ℕ)) → lines (drop (r .next) s) ≡ l ∷ ls → isSome (whole endLine l) ≡ true → StoreHolds after (codesOf said)
+  pub stored : length before ≡ 4096 → (l : List ℕ) (ls : List (List ℕ)) → lines (drop (r .next) s) ≡ l ∷ ls → isSome (whole endLine l) ≡ true → Holding after (codesOf said)

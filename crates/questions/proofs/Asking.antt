@@ -1,53 +1,47 @@
--- The first no of what a held region and a store say, question by question. Assumes nothing.
-use mathlib.Core.Path.{_≡_, ap, ap₂, _∙_}
-use Rattle.definitions.specs.Basics.{ℕ, Bool, true, false, not, _&&_, _||_, List}
-use Rattle.definitions.specs.Questions.{firstNo, countsWithin, patientsWithin, parentsSmaller, membersRight, entryCountsRight, membersRelated}
-use Rattle.held_region.specs.declared.Region.{Region}
-use Rattle.held_region.specs.Outline.{outline, said}
-use Rattle.held_region.specs.Entries.{storeFits, entryTotal}
+-- The first no of a region's questions from the fifth on, question by question.
+use mathlib.Core.Path.{_≡_}
+use Rattle.definitions.specs.Basics.{ℕ, Bool, true, false, not, _&&_, _||_}
+use Rattle.definitions.specs.Syntax.{Region}
+use Rattle.definitions.specs.Questions.{firstNo, countsWithin, patientsWithin, parentsSmaller, membersRight, entryCountsRight, entriesWithin, membersRelated}
 use Rattle.held_region.specs.Refusals.{asked, lastAsked}
-use Rattle.held_region.specs.Said.{counts-said, patients-said, parents-said, members-said, entry-counts-said, entries-said, related-said}
 
-module _ (h : Region) (store : List ℕ) (parents : Bool) where
-  six : (patientsWithin (said h store) && (not parents || parentsSmaller (said h store))) ≡ (patientsWithin (outline h) && (not parents || parentsSmaller (outline h)))
-  six = ap₂ (λ a b. a && (not parents || b)) (patients-said h store) (parents-said h store)
-
-  pub no-five : countsWithin (outline h) ≡ false → 5 ≡ firstNo (asked parents (said h store))
+module _ (r : Region) (parents : Bool) where
+  pub no-five : countsWithin r ≡ false → 5 ≡ firstNo (asked parents r)
   unfolding asked
-  no-five e = simp (counts-said h store ∙ e)
+  no-five e = simp e
 
-  module _ (five : countsWithin (outline h) ≡ true) where
-    pub no-six : (patientsWithin (outline h) && (not parents || parentsSmaller (outline h))) ≡ false → 6 ≡ firstNo (asked parents (said h store))
+  module _ (five : countsWithin r ≡ true) where
+    pub no-six : (patientsWithin r && (not parents || parentsSmaller r)) ≡ false → 6 ≡ firstNo (asked parents r)
     unfolding asked
-    no-six e = simp (counts-said h store ∙ five, six ∙ e)
+    no-six e = simp (five, e)
 
-    module _ (yes-six : (patientsWithin (outline h) && (not parents || parentsSmaller (outline h))) ≡ true) where
-      pub no-seven : membersRight (outline h) ≡ false → 7 ≡ firstNo (asked parents (said h store))
+    module _ (six : (patientsWithin r && (not parents || parentsSmaller r)) ≡ true) where
+      pub no-seven : membersRight r ≡ false → 7 ≡ firstNo (asked parents r)
       unfolding asked
-      no-seven e = simp (counts-said h store ∙ five, six ∙ yes-six, members-said h store ∙ e)
+      no-seven e = simp (five, six, e)
 
-      pub first-yes : {n : ℕ} → membersRight (outline h) ≡ true → n ≡ firstNo (lastAsked parents (said h store)) → n ≡ firstNo (asked parents (said h store))
+      pub first-yes : {n : ℕ} → membersRight r ≡ true → n ≡ firstNo (lastAsked parents r) → n ≡ firstNo (asked parents r)
       unfolding asked
-      first-yes e last = simp (counts-said h store ∙ five, six ∙ yes-six, members-said h store ∙ e) last
+      first-yes e last = simp (five, six, e) last
 
-  pub no-eight : entryCountsRight (outline h) ≡ false → 8 ≡ firstNo (lastAsked parents (said h store))
+  pub no-eight : entryCountsRight r ≡ false → 8 ≡ firstNo (lastAsked parents r)
   unfolding lastAsked
-  no-eight e = simp (entry-counts-said h store ∙ e)
+  no-eight e = simp e
 
-  module _ (eight : entryCountsRight (outline h) ≡ true) where
-    pub no-nine : storeFits (entryTotal (outline h)) store ≡ false → 9 ≡ firstNo (lastAsked parents (said h store))
+  module _ (eight : entryCountsRight r ≡ true) where
+    pub no-nine : entriesWithin r ≡ false → 9 ≡ firstNo (lastAsked parents r)
     unfolding lastAsked
-    no-nine e = simp (entry-counts-said h store ∙ eight, entries-said h store ∙ e)
+    no-nine e = simp (eight, e)
 
-    module _ (nine : storeFits (entryTotal (outline h)) store ≡ true) where
-      pub no-parents : parents ≡ false → 0 ≡ firstNo (lastAsked parents (said h store))
+    module _ (nine : entriesWithin r ≡ true) where
+      pub no-parents : parents ≡ false → 0 ≡ firstNo (lastAsked parents r)
       unfolding lastAsked
-      no-parents e = simp (entry-counts-said h store ∙ eight, entries-said h store ∙ nine, e)
+      no-parents e = simp (eight, nine, e)
 
-      pub no-ten : parents ≡ true → membersRelated (outline h) ≡ false → 10 ≡ firstNo (lastAsked parents (said h store))
+      pub no-ten : parents ≡ true → membersRelated r ≡ false → 10 ≡ firstNo (lastAsked parents r)
       unfolding lastAsked
-      no-ten p e = simp (entry-counts-said h store ∙ eight, entries-said h store ∙ nine, p, related-said h store ∙ e)
+      no-ten p e = simp (eight, nine, p, e)
 
-      pub all-yes : parents ≡ true → membersRelated (outline h) ≡ true → 0 ≡ firstNo (lastAsked parents (said h store))
+      pub all-yes : parents ≡ true → membersRelated r ≡ true → 0 ≡ firstNo (lastAsked parents r)
       unfolding lastAsked
-      all-yes p e = simp (entry-counts-said h store ∙ eight, entries-said h store ∙ nine, p, related-said h store ∙ e)
+      all-yes p e = simp (eight, nine, p, e)

@@ -1,4 +1,4 @@
-// Questions 5 to 7, asked of a held region.
+// Questions 5 to 7, asked of a held region: whatever its store says, the answers are the same.
 use held_region::Parent;
 use held_region::Patient;
 use held_region::Region;
@@ -7,15 +7,16 @@ use held_region::limits::Field;
 use held_region::limits::within;
 ghost use mathlib.Core.Path.{_≡_};
 ghost use Prim.Native.Nat.{_≤_};
-ghost use Rattle.definitions.specs.Basics.{not, _&&_, _||_};
+ghost use Rattle.definitions.specs.Basics.{ℕ, List, not, _&&_, _||_};
 ghost use Rattle.definitions.specs.Questions.{countsWithin, patientsWithin, parentsSmaller, membersRight};
-ghost use Rattle.held_region.specs.Held.{parentOf, patientOf};
+ghost use Rattle.held_region.specs.Meaning.{parentOf, patientOf, membersOf, said};
 ghost use Rattle.held_region.specs.Members.{membersFit, risesFrom};
-ghost use Rattle.held_region.specs.Outline.{outline, membersOf, Fits, patientFits, parentFits};
+ghost use Rattle.held_region.specs.Sound.{HasPlaces};
+ghost use Rattle.held_region.specs.Asked.{patientFits, parentFits};
 
 // 5. Are V, T and m within their limits?
 pub fn counts_fit(region: Region) -> bool
-    ensures { λ a. ⌜ a ≡ countsWithin (outline region) ⌝ }
+    ensures { λ a. ⌜ ((store : List ℕ) → a ≡ countsWithin (said region store)) ⌝ }
 {
     within(Field::PatientCount, region.v)
         && (within(Field::TableCount, region.t) && within(Field::PlansWanted, region.m))
@@ -29,8 +30,8 @@ fn patient_fits(patient: Patient) -> bool
 
 // 6, of clinics and bed counts: is each within its limits?
 pub fn patients_fit(region: Region) -> bool
-    requires { ⌜ Fits region ⌝ }
-    ensures { λ a. ⌜ a ≡ patientsWithin (outline region) ⌝ }
+    requires { ⌜ HasPlaces region ⌝ }
+    ensures { λ a. ⌜ ((store : List ℕ) → a ≡ patientsWithin (said region store)) ⌝ }
 {
     let mut s = 0;
     while s < region.v {
@@ -54,8 +55,8 @@ fn parent_smaller(parent: Parent, s: usize) -> bool
 
 // 6, of parents: has each a smaller number than the patient's own?
 pub fn parents_smaller(region: Region) -> bool
-    requires { ⌜ Fits region ⌝ }
-    ensures { λ a. ⌜ a ≡ parentsSmaller (outline region) ⌝ }
+    requires { ⌜ HasPlaces region ⌝ }
+    ensures { λ a. ⌜ ((store : List ℕ) → a ≡ parentsSmaller (said region store)) ⌝ }
 {
     let mut s = 0;
     while s < region.v {
@@ -71,8 +72,8 @@ pub fn parents_smaller(region: Region) -> bool
 
 // 6. Are the patients right, and if it is asked, their parents?
 pub fn patients_right(region: Region, parents: bool) -> bool
-    requires { ⌜ Fits region ⌝ }
-    ensures { λ a. ⌜ a ≡ (patientsWithin (outline region) && (not parents || parentsSmaller (outline region))) ⌝ }
+    requires { ⌜ HasPlaces region ⌝ }
+    ensures { λ a. ⌜ ((store : List ℕ) → a ≡ (patientsWithin (said region store) && (not parents || parentsSmaller (said region store)))) ⌝ }
 {
     if !patients_fit(region) {
         return false;
@@ -112,8 +113,8 @@ fn members_fit(table: Table, v: usize) -> bool
 
 // 7. Has each table a right number of members, all below V, in strictly rising order?
 pub fn members_right(region: Region) -> bool
-    requires { ⌜ Fits region ⌝ }
-    ensures { λ a. ⌜ a ≡ membersRight (outline region) ⌝ }
+    requires { ⌜ HasPlaces region ⌝ }
+    ensures { λ a. ⌜ ((store : List ℕ) → a ≡ membersRight (said region store)) ⌝ }
 {
     let mut i = 0;
     while i < region.t {

@@ -13,14 +13,14 @@ use held_region::Region;
 use region_sets::members_related;
 ghost use mathlib.Core.Path.{_≡_};
 ghost use Rattle.definitions.specs.Basics.{true};
-ghost use Rattle.definitions.specs.Questions.{firstNo, parentsSmaller};
-ghost use Rattle.held_region.specs.Outline.{outline, said};
-ghost use Rattle.held_region.specs.Sound.{Sound};
+ghost use Rattle.definitions.specs.Questions.{firstNo};
+ghost use Rattle.held_region.specs.Meaning.{said};
+ghost use Rattle.held_region.specs.Sound.{Sound, ParentsFirst};
 ghost use Rattle.held_region.specs.Refusals.{numberOf, asked, lastAsked};
 
 // Questions 8 to 10, which rely on the ones before them.
 fn judge_entries(region: Region, store: &[u32; 4096], parents: bool) -> Judged
-    requires { ⌜ (Sound region) × (parents ≡ true → parentsSmaller (outline region) ≡ true) ⌝ }
+    requires { ⌜ (Sound region) × (parents ≡ true → ParentsFirst region) ⌝ }
     ensures { λ a. ⌜ numberOf a ≡ firstNo (lastAsked parents (said region (now (store .entry)))) ⌝ }
 {
     if !entry_counts_right(region) {

@@ -5,31 +5,30 @@ use mathlib.Core.Option.{Option·some-injective}
 use native.Mathlib.Omega.{arith}
 use Prim.Native.Nat.{_≤_}
 use borrow.Author.Tests.{ltb-true, lt-ltb, le-leb, lt-leb, eqb-true, eq-eqb, ne-eqb}
-use Rattle.definitions.specs.Basics.{ℕ, _<_, Bool, true, false, not, _&&_, Option, none, some, List, [], _∷_, _++_, length, getD, take, eqb, ltb, leb, every, noneOr, isSome, isEmpty, flatten, dropLast}
-use Rattle.definitions.specs.Limits.{Field, fileLength, patientCount, tableCount, plansWanted, limits, within}
+use Rattle.definitions.specs.Basics.{ℕ, _<_, Bool, true, false, not, _&&_, Option, none, some, List, [], _∷_, _++_, length, take, eqb, ltb, every, noneOr, isSome, isEmpty, flatten, dropLast}
+use Rattle.definitions.specs.Limits.{patientCount, tableCount, plansWanted, limits, within}
 use Rattle.definitions.specs.Syntax as Said
 use Rattle.definitions.specs.Layout.{lines, layout}
-use Rattle.definitions.specs.Spelling.{spellable, wellFormed}
-use Rattle.definitions.specs.Questions.{firstNo, shortEnough, laidOut, countsTrue, sumTrue, countsWithin, checksum, regionOf, Asked}
+use Rattle.definitions.specs.Spelling.{spellable}
+use Rattle.definitions.specs.Questions.{firstNo, shortEnough, laidOut, countsTrue, sumTrue, checksum, regionOf, Asked}
 use Rattle.theorems.specs.Tests.{both, join}
-use Rattle.theorems.specs.Accepted.{at-most, region-said}
+use Rattle.theorems.specs.Accepted.{region-said}
 use Rattle.theorems.specs.Every.{every-weaken}
 use Rattle.theorems.specs.Items.{someAll}
 use Rattle.theorems.specs.Forms.{okTable}
 use Rattle.theorems.specs.Files.{well-formed-lines}
 use Rattle.theorems.specs.Spelling.{layout-spelling, body-spelt}
-use Rattle.held_region.specs.Held.{mark, Holds}
+use Rattle.held_region.specs.Meaning.{mark, said}
 use Rattle.held_region.specs.declared.Region.{Region}
 use Rattle.held_region.specs.declared.Refusal.{Refusal}
 use Rattle.held_region.specs.declared.Refusal.the-variants.{TooLong, Layout, Counts, Sum, Limits, Patients, Members, EntryCounts, Entries, Ancestors}
 use Rattle.held_region.specs.declared.Judged.{Judged}
 use Rattle.held_region.specs.declared.Judged.the-variants.{Fine, Refused}
-use Rattle.held_region.specs.Refusals.{questionOf, numberOf, asked, unmarked, ReadFrom}
-use Rattle.held_region.specs.Outline.{said}
-use Rattle.held_region.specs.Answers.{asked-told, read-said}
+use Rattle.held_region.specs.Refusals.{questionOf, numberOf, asked}
 use Rattle.layout.specs.declared.Laid.{Laid}
 use Rattle.reader.specs.declared.Loaded.{Loaded}
 use Rattle.layout.specs.LaidOut.{LaidThere, LaidOut}
+use Rattle.reader.proofs.Faithful.{unmarked, ReadFrom, stands-for}
 use Rattle.reader.specs.Loading.{readAsked, FileRead, LoadedFrom, refusedWith, regionHeld}
 
 -- ---- the first four questions
@@ -82,30 +81,8 @@ table-unmarked t h =
     let entries = both (not (isEmpty (t .entries))) (both (someAll spellable (t .members)) h .1) .1 in
     every-weaken (noneOr spellable) (noneOr (λ e. ltb e mark)) entry-unmarked (t .entries) entries
 
--- A file of at most 32 patients and 64 tables is held whole.
-few : (tree : Said.Region) → countsTrue tree ≡ true → countsWithin tree ≡ true → (length (tree .patients) ≤ 32) × (length (tree .tables) ≤ 64)
-unfolding countsTrue countsWithin limits
-few tree counted fit =
-    let (patients, tables) = both (eqb (length (tree .patients)) (tree .patientCount)) counted in
-    let both-fit = both (within patientCount (tree .patientCount) && within tableCount (tree .tableCount)) fit .0 in
-    let (v, t) = both (within patientCount (tree .patientCount)) both-fit in (
-      omega (arith, eqb-true (length (tree .patients)) (tree .patientCount) patients, at-most patientCount (tree .patientCount) v),
-      omega (arith, eqb-true (length (tree .tables)) (tree .tableCount) tables, at-most tableCount (tree .tableCount) t),
-    )
-
 module _ {s : List ℕ} {laid : Laid} {before after : List ℕ} (l : LaidThere s laid before after) (wide : length before ≡ 4096) (counted : countsTrue (l .tree) ≡ true) where
-  pub holds : countsWithin (l .tree) ≡ true → Holds (regionHeld laid) after (l .tree)
-  unfolding Said.patientAt
-  holds fit = let (v, t) = few (l .tree) counted fit in record {
-    patientCount = l .patientCount;
-    tableCount = l .tableCount;
-    plansWanted = l .plansWanted;
-    patients = λ i h. l .patientsHeld i (omega arith) h;
-    tables = λ i h. l .tablesHeld i (omega arith) h;
-    entries = l .stored wide;
-  }
-
-  pub read-from : sumTrue s (l .tree) ≡ true → ReadFrom (regionHeld laid) after (l .tree)
+  read-from : sumTrue s (l .tree) ≡ true → ReadFrom (regionHeld laid) after (l .tree)
   unfolding sumTrue
   read-from summed = record {
     patientCount = l .patientCount;
@@ -113,7 +90,9 @@ module _ {s : List ℕ} {laid : Laid} {before after : List ℕ} (l : LaidThere s
     plansWanted = l .plansWanted;
     counted = counted;
     summed = eqb-true _ _ summed ∙ ap checksum (body-spelt s (l .tree) (l .says));
-    holds = holds;
+    patients = l .patientsHeld;
+    tables = l .tablesHeld;
+    entries = l .stored wide;
     unmarked = every-weaken okTable unmarked table-unmarked (l .tree .tables) (well-formed-lines (l .tree) (layout-spelling s (l .tree) .0 (l .says) .0) .tables);
   }
 
@@ -125,7 +104,7 @@ not-fine k = absurd (let z : _≡_ {A = ℕ} 0 1 = cc in omega arith)
 refused-with : {s store : List ℕ} {r : Loaded} {q : Refusal} → r ≡ refusedWith q → questionOf q ≡ firstNo (readAsked s) → FileRead s r store
 refused-with {s} {store} {r} {q} e n = record {
   number = ap (λ (x : Loaded). numberOf (x .answer)) e ∙ n;
-  read = λ fine. not-fine (sym (ap (λ (x : Loaded). x .answer) e) ∙ fine);
+  held = λ fine. not-fine (sym (ap (λ (x : Loaded). x .answer) e) ∙ fine);
 }
 
 pub too-long : {s store : List ℕ} {r : Loaded} → 65_535 < length s → r ≡ refusedWith TooLong → FileRead s r store
@@ -172,7 +151,7 @@ module _ {s : List ℕ} (h : length s ≤ 65_535) {laid : Laid} {before after : 
           let summed : sumTrue s (this .tree) ≡ true = eq-eqb _ _ (sym (this .statedSum) ∙ sym same ∙ true-sum) in
           record {
             number = read-all s h (this .says) counted summed;
-            read = λ fine. rw (e, file-says s h (this .says)) (read-from this wide counted summed);
+            held = λ fine. rw (e, file-says s h (this .says)) (stands-for (read-from this wide counted summed));
           }
 
 -- ---- what is loaded
@@ -211,8 +190,8 @@ module _ (parents : Bool) {s store : List ℕ} {r : Loaded} (from : FileRead s r
       → LoadedFrom parents s (record { answer = answer; region = r .region }) store
   unfolding readAsked
   load-judged {answer} is judged =
-      let told = asked-told (r .region) store (regionOf s) (from .read is) parents in
+      let file = from .held is in
       record {
-        number = judged ∙ told ∙ none-refused (readAsked s) (asked parents (regionOf s)) refl (sym (ap numberOf is) ∙ from .number);
-        says = λ fine. read-said (r .region) store (regionOf s) (from .read is) parents (sym (judged ∙ told) ∙ ap numberOf fine);
+        number = judged ∙ file .asks parents ∙ none-refused (readAsked s) (asked parents (regionOf s)) refl (sym (ap numberOf is) ∙ from .number);
+        says = λ fine. file .says parents (sym (judged ∙ file .asks parents) ∙ ap numberOf fine);
       }

@@ -5,19 +5,18 @@ use held_region::Table;
 use patient_set::PatientSet;
 ghost use mathlib.Core.Path.{_≡_};
 ghost use Prim.Native.Nat.{ℕ, _<_};
-ghost use Rattle.definitions.specs.Basics.{some, true, ltb, every, keep};
+ghost use Rattle.definitions.specs.Basics.{some, List, ltb, every, keep};
 ghost use Rattle.definitions.specs.Syntax.{patientsOf};
-ghost use Rattle.definitions.specs.Questions.{parentsSmaller, membersRelated};
+ghost use Rattle.definitions.specs.Questions.{membersRelated};
 ghost use Rattle.patient_set.specs.Sets.{inSet, members};
-ghost use Rattle.held_region.specs.Held.{parentOf};
-ghost use Rattle.held_region.specs.Sound.{Sound};
-ghost use Rattle.held_region.specs.Outline.{outline, membersOf, Fits};
+ghost use Rattle.held_region.specs.Meaning.{parentOf, membersOf, said};
+ghost use Rattle.held_region.specs.Sound.{HasPlaces, ParentsFirst, Sound};
 ghost use Rattle.held_region.specs.Related.{MembersKnown, aboveOf, AncestorsHeld, setIn, chained};
 
-// The patients of a clinic.
+// The patients of a clinic, whatever the store says.
 pub fn clinic_set(region: Region, clinic: u32) -> PatientSet
-    requires { ⌜ Fits region ⌝ }
-    ensures { λ set. ⌜ members (set .0) ≡ patientsOf (outline region) clinic ⌝ }
+    requires { ⌜ HasPlaces region ⌝ }
+    ensures { λ set. ⌜ ((store : List ℕ) → members (set .0) ≡ patientsOf (said region store) clinic) ⌝ }
 {
     let mut set = PatientSet::EMPTY;
     let mut s = 0;
@@ -63,7 +62,7 @@ fn above(sets: [PatientSet; 32], parent: Parent) -> PatientSet
 
 // The ancestors of each patient. A parent's number is smaller, so its ancestors are known first.
 pub fn ancestor_sets(region: Region) -> [PatientSet; 32]
-    requires { ⌜ (Fits region) × (parentsSmaller (outline region) ≡ true) ⌝ }
+    requires { ⌜ ParentsFirst region ⌝ }
     ensures { λ sets. ⌜ AncestorsHeld region (region .v) sets ⌝ }
 {
     let nobody = PatientSet::EMPTY;
@@ -106,8 +105,8 @@ fn all_chained(set: PatientSet, ancestors: [PatientSet; 32]) -> bool
 
 // 10. Of any two members of a table, is one an ancestor of the other?
 pub fn members_related(region: Region) -> bool
-    requires { ⌜ (Sound region) × (parentsSmaller (outline region) ≡ true) ⌝ }
-    ensures { λ a. ⌜ a ≡ membersRelated (outline region) ⌝ }
+    requires { ⌜ (Sound region) × (ParentsFirst region) ⌝ }
+    ensures { λ a. ⌜ ((store : List ℕ) → a ≡ membersRelated (said region store)) ⌝ }
 {
     let ancestors = ancestor_sets(region);
     let mut i = 0;

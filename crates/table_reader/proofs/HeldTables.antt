@@ -8,7 +8,7 @@ use lib.ListN.{set, drop, length-append, length-map, length-set, length-take}
 use lib.Seq.{ext-getD, getD-take}
 use Rattle.definitions.specs.Basics.{ℕ, _+_, _<_, Option, none, some, List, bind, [], _∷_, _++_, map, length, take, replicate, isEmpty}
 use Rattle.definitions.specs.Layout.{Reader, whole, word, number, hyphenOrNumber, items, tableLine}
-use Rattle.held_region.specs.Held.{codeOf, noTable}
+use Rattle.held_region.specs.Meaning.{codeOf, noTable}
 use Rattle.scanner.specs.declared.Passed.{Passed}
 use Rattle.scanner.specs.declared.Passed.the-variants.{At, Nothing as NotPassed}
 use Rattle.scanner.specs.Answers.{ReadAt, passed}

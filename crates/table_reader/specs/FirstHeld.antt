@@ -1,5 +1,5 @@
 -- Of a list that is said one element after the other, the first n are held in an array.
-use mathlib.Core.Path.{_≡_, refl, sym, ap, _∙_}
+use mathlib.Core.Path.{_≡_, sym}
 use native.Mathlib.Omega.{arith}
 use native.Mathlib.Decide.{ℕ-discrete}
 use Prim.Native.Nat.{_≤_}

@@ -1,11 +1,11 @@
 -- What is read of a table line, and what is held of it.
 use Prim.Native.Nat.{_≤_}
 use lib.ListN.{drop}
-use Rattle.definitions.specs.Basics.{ℕ, _≡_, Bool, true, false, Option, none, some, List, _++_, map, length}
+use Rattle.definitions.specs.Basics.{ℕ, _≡_, Bool, true, false, Option, none, some, List, _++_, map, length, take}
 use Rattle.definitions.specs.Syntax as Said
 use Rattle.definitions.specs.Layout.{Reader, whole, word, number, hyphenOrNumber, items, tableLine}
 use Rattle.held_region.specs.declared.Table.{Table}
-use Rattle.held_region.specs.Held.{codeOf, HoldsTable}
+use Rattle.held_region.specs.Meaning.{codeOf}
 use Rattle.table_reader.specs.declared.Members.{Members}
 use Rattle.table_reader.specs.declared.Entries.{Entries}
 use Rattle.table_reader.specs.declared.Entries.the-variants.{Are, Nothing}
@@ -33,6 +33,12 @@ module _ {A : Type 0} (item : Reader ℕ A) (Kept : List A → Type 0) (s : List
     pub list : ListRead item s at said next
     pub counted : count ≡ length said
     pub kept : Kept said
+
+-- A table is held as it is said: its first four members, and how many members and entries it has.
+pub record HoldsTable (h : Table) (t : Said.Table) : Type 0 where
+  pub memberCount : h .members ≡ length (t .members)
+  pub members : take (length (t .members)) (h .first) ≡ take 4 (t .members)
+  pub entryCount : h .entries ≡ length (t .entries)
 
 -- The first four of the members that are said are held.
 pub record MembersHeld (first said : List ℕ) : Type 0 where

@@ -1,11 +1,10 @@
 -- A loop that takes one item of a list after the other: what was taken and what is left to read is the whole list.
 use mathlib.Core.Path.{_≡_, refl, sym, ap, _∙_}
-use mathlib.Core.List.{append-nil}
 use native.Mathlib.Omega.{arith}
-use Prim.Native.Nat.{_≤_, max}
+use Prim.Native.Nat.{_≤_}
 use lib.ListN.{drop, length-append}
 use lib.Seq.{append-snoc}
-use Rattle.definitions.specs.Basics.{ℕ, suc, _+_, _<_, Bool, true, false, Option, none, some, Option·map, bind, List, [], _∷_, _++_, length}
+use Rattle.definitions.specs.Basics.{ℕ, _+_, _<_, true, false, Option, none, some, Option·map, bind, List, [], _∷_, _++_, length}
 use Rattle.definitions.specs.Layout.{Reader, word, items}
 use Rattle.scanner.specs.Answers.{ReadAt}
 use Rattle.scanner.specs.Separators.{separator, separator-ahead}

@@ -2,7 +2,7 @@
 ghost use Prim.Native.Nat.{_+_};
 ghost use mathlib.Core.List.{[], _∷_};
 ghost use mathlib.Core.Path.{_≡_};
-ghost use Rattle.held_region.specs.Held.{codeOf};
+ghost use Rattle.held_region.specs.Meaning.{codeOf};
 ghost use Rattle.scanner.specs.Answers.{optional};
 ghost use Rattle.table_reader.specs.TableReading.{MembersRead, Adds, EntriesRead, TableRead};
 use held_region::FORBIDDEN;

@@ -7,7 +7,7 @@ use native.Mathlib.Omega.{arith}
 use Rattle.definitions.specs.Basics.{product}
 use Rattle.held_region.specs.Sound.{bedsIn}
 use Rattle.held_region.specs.Members.{membersFrom, members-all, members-done}
-use Rattle.held_region.specs.Outline.{membersOf}
+use Rattle.held_region.specs.Meaning.{membersOf}
 use Rattle.entry_questions.proofs.Products.{more-most, more-fits, more-product}
 use Rattle.entry_questions.proofs.bed_product.Statement.{statement}
 use Rattle.entry_questions.proofs.bed_product.Tie as tie

@@ -1,6 +1,6 @@
 use borrow.Author.Needs.{needs}
 use mathlib.Core.Path.{sym, ap, _∙_}
-use Rattle.held_region.specs.Held.{parentOf}
+use Rattle.held_region.specs.Meaning.{parentOf}
 use Rattle.held_region.specs.Related.{aboveOf}
 use Rattle.held_region.specs.Sets.{in-none}
 use Rattle.region_sets.proofs.above.Statement.{statement}

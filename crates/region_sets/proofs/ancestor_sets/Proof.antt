@@ -14,7 +14,7 @@ abbrev μ-loop : tie.MeasureT-loop
 μ-loop region sets₀ child₀ sets child = region .v - child
 
 loop-holds : tie.Need-loop-holds Inv-loop μ-loop
-loop-holds c = (refl, λ s l q. absurd (omega arith))
+loop-holds c = (refl, λ store s l q. absurd (omega arith))
 
 mul-patient : tie.Need-mul-patient Inv-loop μ-loop
 mul-patient c = search needs
@@ -23,7 +23,7 @@ element-copy-out-patient : tie.Need-element-copy-out-patient Inv-loop μ-loop
 element-copy-out-patient c = search needs
 
 above-requires : tie.Need-above-requires Inv-loop μ-loop
-above-requires c κs = λ p e. omega (arith, parent-smaller (c .before .before .before .args .t1) (c .before .before .before .pre .1) _ (c .before .loop-test .taken) p e)
+above-requires c κs = λ p e. omega (arith, parent-smaller (c .before .before .before .args .t1) (c .before .before .before .pre) _ (c .before .loop-test .taken) p e)
 
 mul-sets : tie.Need-mul-sets Inv-loop μ-loop
 mul-sets c = search needs
@@ -40,10 +40,10 @@ loop-less c = search needs
 loop-again : tie.Need-loop-again Inv-loop μ-loop
 loop-again c =
     let inv = c .before .before .before .loop .inv in
-    (simp length-set (inv .0), ancestors-more (c .before .before .before .before .args .t1) (c .before .before .before .before .pre .1) _ (c .before .before .loop-test .taken) _ _ (omega arith) (inv .1) (c .above .ensures))
+    (simp length-set (inv .0), ancestors-more (c .before .before .before .before .args .t1) (c .before .before .before .before .pre) _ (c .before .before .loop-test .taken) _ _ (omega arith) (inv .1) (c .above .ensures))
 
 returns : tie.Need-returns Inv-loop μ-loop
-returns c = λ j l. c .before .loop .inv .1 j (omega arith)
+returns c = λ store j l. c .before .loop .inv .1 store j (omega arith)
 
 pub ancestor-sets-spec : {M : Type 1} → statement M
 ancestor-sets-spec =

@@ -8,7 +8,7 @@ use native.Mathlib.Omega.{arith}
 use Rattle.definitions.specs.Basics.{_&&_, _||_, eqb, ltb}
 use Rattle.patient_set.specs.declared.PatientSet.{PatientSet}
 use Rattle.patient_set.specs.Sets.{inSet}
-use Rattle.held_region.specs.Outline.{patientIn}
+use Rattle.held_region.specs.Meaning.{patientIn}
 use Rattle.held_region.specs.Related.{clinic-members}
 use Rattle.held_region.specs.Sets.{in-none, one-place}
 use Rattle.region_sets.proofs.clinic_set.Statement.{statement}
@@ -57,7 +57,7 @@ returns c =
     let region = c .before .before .args .t1 in
     let clinic = c .before .before .args .clinic in
     let last : c .before .loop .s ≡ region .v = omega arith in
-    clinic-members region clinic _ (c .before .before .pre .patients)
+    λ store. clinic-members region store clinic _ (c .before .before .pre .patients)
     (λ q. c .before .loop .inv .1 q ∙ ap (λ s. ltb q s && eqb (patientIn region q .clinic) clinic) last)
 
 pub clinic-set-spec : {M : Type 1} → statement M

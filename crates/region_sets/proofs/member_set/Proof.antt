@@ -8,7 +8,7 @@ use native.Mathlib.Omega.{arith}
 use Rattle.definitions.specs.Basics.{_||_, ltb, contains}
 use Rattle.patient_set.specs.Sets.{inSet}
 use Rattle.held_region.specs.Members.{membersFrom, members-all, members-next, members-done, every-member}
-use Rattle.held_region.specs.Outline.{membersOf}
+use Rattle.held_region.specs.Meaning.{membersOf}
 use Rattle.held_region.specs.Sets.{in-none, set-members}
 use Rattle.region_sets.proofs.member_set.Statement.{statement}
 use Rattle.region_sets.proofs.member_set.Tie as tie

@@ -2,7 +2,7 @@ use borrow.Author.Needs.{needs}
 use mathlib.Core.Path.{_≡_, sym, ap, _∙_}
 use Prim.Native.Nat.{_-_}
 use Rattle.held_region.specs.Members.{risesFrom, membersFrom, members-all, members-done, member-out, member-low, member-right}
-use Rattle.held_region.specs.Outline.{membersOf}
+use Rattle.held_region.specs.Meaning.{membersOf}
 use Rattle.questions.proofs.fields.members_rise.Statement.{statement}
 use Rattle.questions.proofs.fields.members_rise.Tie as tie
 

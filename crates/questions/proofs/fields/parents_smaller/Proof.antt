@@ -1,23 +1,22 @@
 use borrow.Author.Needs.{needs}
 use mathlib.Core.Path.{_≡_}
 use Prim.Native.Nat.{_-_}
+use Rattle.definitions.specs.Basics.{ℕ, List}
 use Rattle.definitions.specs.Questions.{parentsSmaller}
-use Rattle.held_region.specs.Held.{parentOf}
-use Rattle.held_region.specs.Outline.{outline, patientIn, parentFits}
-use Rattle.held_region.specs.Asked.{parents-asked}
-use Rattle.held_region.specs.Places.{askedFrom, ask-all, ask-yes, ask-no, ask-done}
-use Rattle.held_region.specs.Answers.{answered-no, answered-yes}
+use Rattle.held_region.specs.Meaning.{parentOf, patientIn, said}
+use Rattle.held_region.specs.Asked.{parentFits, parents-asked}
+use Rattle.held_region.specs.Places.{askedFrom, ask-all, ask-yes, ask-no, ask-done, answered-no, answered-yes}
 use Rattle.questions.proofs.fields.parents_smaller.Statement.{statement}
 use Rattle.questions.proofs.fields.parents_smaller.Tie as tie
 
 abbrev Inv-loop : tie.InvT-loop
-Inv-loop region s₀ s = askedFrom (λ i. parentFits (parentOf (patientIn region i .parent)) i) (region .v) s ≡ parentsSmaller (outline region)
+Inv-loop region s₀ s = (store : List ℕ) → askedFrom (λ i. parentFits (parentOf (patientIn region i .parent)) i) (region .v) s ≡ parentsSmaller (said region store)
 
 abbrev μ-loop : tie.MeasureT-loop
 μ-loop region s₀ s = region .v - s
 
 loop-holds : tie.Need-loop-holds Inv-loop μ-loop
-loop-holds c = ask-all _ _ (parents-asked _ _)
+loop-holds c = λ store. ask-all _ _ (parents-asked _ store)
 
 mul-patient : tie.Need-mul-patient Inv-loop μ-loop
 mul-patient c = search needs
@@ -29,7 +28,7 @@ parent-smaller-requires : tie.Need-parent-smaller-requires Inv-loop μ-loop
 parent-smaller-requires c κs = search needs
 
 returns : tie.Need-returns Inv-loop μ-loop
-returns c = ask-no _ _ _ (c .before .before .before .loop-test .taken) (answered-no (c .before .parent-smaller .ensures) (c .if1 .taken)) (c .before .before .before .before .loop .inv)
+returns c = λ store. ask-no _ _ _ (c .before .before .before .loop-test .taken) (answered-no (c .before .parent-smaller .ensures) (c .if1 .taken)) (c .before .before .before .before .loop .inv store)
 
 add-s : tie.Need-add-s Inv-loop μ-loop
 add-s c = search needs
@@ -38,10 +37,10 @@ loop-less : tie.Need-loop-less Inv-loop μ-loop
 loop-less c = search needs
 
 loop-again : tie.Need-loop-again Inv-loop μ-loop
-loop-again c = ask-yes _ _ _ (c .before .before .before .loop-test .taken) (answered-yes (c .before .parent-smaller .ensures) (c .if1 .left)) (c .before .before .before .before .loop .inv)
+loop-again c = λ store. ask-yes _ _ _ (c .before .before .before .loop-test .taken) (answered-yes (c .before .parent-smaller .ensures) (c .if1 .left)) (c .before .before .before .before .loop .inv store)
 
 returns-2 : tie.Need-returns-2 Inv-loop μ-loop
-returns-2 c = ask-done _ _ _ (c .loop-test .left) (c .before .loop .inv)
+returns-2 c = λ store. ask-done _ _ _ (c .loop-test .left) (c .before .loop .inv store)
 
 pub parents-smaller-spec : {M : Type 1} → statement M
 parents-smaller-spec =

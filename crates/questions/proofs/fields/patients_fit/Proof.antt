@@ -1,23 +1,22 @@
 use borrow.Author.Needs.{needs}
 use mathlib.Core.Path.{_≡_}
 use Prim.Native.Nat.{_-_}
+use Rattle.definitions.specs.Basics.{ℕ, List}
 use Rattle.definitions.specs.Questions.{patientsWithin}
-use Rattle.held_region.specs.Held.{patientOf}
-use Rattle.held_region.specs.Outline.{outline, patientIn, patientFits}
-use Rattle.held_region.specs.Asked.{patients-asked}
-use Rattle.held_region.specs.Places.{askedFrom, ask-all, ask-yes, ask-no, ask-done}
-use Rattle.held_region.specs.Answers.{answered-no, answered-yes}
+use Rattle.held_region.specs.Meaning.{patientOf, patientIn, said}
+use Rattle.held_region.specs.Asked.{patientFits, patients-asked}
+use Rattle.held_region.specs.Places.{askedFrom, ask-all, ask-yes, ask-no, ask-done, answered-no, answered-yes}
 use Rattle.questions.proofs.fields.patients_fit.Statement.{statement}
 use Rattle.questions.proofs.fields.patients_fit.Tie as tie
 
 abbrev Inv-loop : tie.InvT-loop
-Inv-loop region s₀ s = askedFrom (λ i. patientFits (patientOf (patientIn region i))) (region .v) s ≡ patientsWithin (outline region)
+Inv-loop region s₀ s = (store : List ℕ) → askedFrom (λ i. patientFits (patientOf (patientIn region i))) (region .v) s ≡ patientsWithin (said region store)
 
 abbrev μ-loop : tie.MeasureT-loop
 μ-loop region s₀ s = region .v - s
 
 loop-holds : tie.Need-loop-holds Inv-loop μ-loop
-loop-holds c = ask-all _ _ (patients-asked _ _)
+loop-holds c = λ store. ask-all _ _ (patients-asked _ store)
 
 mul-patient : tie.Need-mul-patient Inv-loop μ-loop
 mul-patient c = search needs
@@ -29,7 +28,7 @@ patient-fits-requires : tie.Need-patient-fits-requires Inv-loop μ-loop
 patient-fits-requires c κs = search needs
 
 returns : tie.Need-returns Inv-loop μ-loop
-returns c = ask-no _ _ _ (c .before .before .before .loop-test .taken) (answered-no (c .before .patient-fits .ensures) (c .if1 .taken)) (c .before .before .before .before .loop .inv)
+returns c = λ store. ask-no _ _ _ (c .before .before .before .loop-test .taken) (answered-no (c .before .patient-fits .ensures) (c .if1 .taken)) (c .before .before .before .before .loop .inv store)
 
 add-s : tie.Need-add-s Inv-loop μ-loop
 add-s c = search needs
@@ -38,10 +37,10 @@ loop-less : tie.Need-loop-less Inv-loop μ-loop
 loop-less c = search needs
 
 loop-again : tie.Need-loop-again Inv-loop μ-loop
-loop-again c = ask-yes _ _ _ (c .before .before .before .loop-test .taken) (answered-yes (c .before .patient-fits .ensures) (c .if1 .left)) (c .before .before .before .before .loop .inv)
+loop-again c = λ store. ask-yes _ _ _ (c .before .before .before .loop-test .taken) (answered-yes (c .before .patient-fits .ensures) (c .if1 .left)) (c .before .before .before .before .loop .inv store)
 
 returns-2 : tie.Need-returns-2 Inv-loop μ-loop
-returns-2 c = ask-done _ _ _ (c .loop-test .left) (c .before .loop .inv)
+returns-2 c = λ store. ask-done _ _ _ (c .loop-test .left) (c .before .loop .inv store)
 
 pub patients-fit-spec : {M : Type 1} → statement M
 patients-fit-spec =
