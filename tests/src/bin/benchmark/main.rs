@@ -4,6 +4,7 @@
 
 mod check_times;
 mod list_times;
+mod small_times;
 mod timing;
 
 use std::process::ExitCode;
@@ -34,6 +35,7 @@ fn run(mut arguments: impl Iterator<Item = String>) -> Result<(), String> {
             given.push((argument, file));
         }
     }
+    small_times::print();
     check_times::print(&given);
     list_times::print(&given, limit);
     Ok(())

@@ -19,9 +19,19 @@ impl Times {
         Times { median: times[times.len() / 2], least: times[0] }
     }
 
+    /// The times of one of so many calls.
+    pub fn each_of(self, calls: u32) -> Times {
+        Times { median: self.median / calls, least: self.least / calls }
+    }
+
     /// In microseconds: the median, and the least in brackets.
     pub fn text(&self) -> String {
         format!("{:.1} ({:.1})", microseconds(self.median), microseconds(self.least))
+    }
+
+    /// The same with two digits, for calls that take less than a microsecond.
+    pub fn short_text(&self) -> String {
+        format!("{:.2} ({:.2})", microseconds(self.median), microseconds(self.least))
     }
 }
 
