@@ -57,7 +57,7 @@ module _ {r : Region} {clinic : ℕ} {store patients terms : List ℕ} {v set : 
       let inside = getD-in (take n taken) s 0 (omega (arith, length-take-le n taken (omega (arith, size-most set)))) in
       let (q, i, e) = in-map-cases (bedOf beds) (members set) (subst (λ (l : List ℕ). getD (take n taken) s 0 ∈ l) is inside) in
       let known = ltb-true q v (every-in (λ t. ltb t v) (patientsOf r clinic) patients-known (subst (λ (l : List ℕ). q ∈ l) (own .ofClinic) i)) in
-      let low = fitting-low (among r (contains (members set))) (own .prepared .answered) beds (among-fits beds fits) q (omega (arith, own .all)) in
+      let low = fitting-low (among r (contains (members set))) (own .prepared .accepted) beds (among-fits beds fits) q (omega (arith, own .all)) in
       omega (arith, e, low, getD-take n taken s 0 h)
 
   -- The beds and the cost.

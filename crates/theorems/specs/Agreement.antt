@@ -18,7 +18,8 @@ use Rattle.theorems.specs.Sums.{sum-same}
 use Rattle.theorems.specs.Sameness.{table-tests}
 use Rattle.theorems.specs.Places.{alone, alone-fits, alone-allowed}
 use Rattle.theorems.specs.Isolation.{MembersPatients, clinicAlone, sheet-first}
-use Rattle.theorems.specs.Yields.{members-patients, sheet-some}
+use Rattle.theorems.specs.Yields.{yielding, sheet-some}
+use Rattle.theorems.specs.Accepted.{constraint-known}
 use Rattle.theorems.specs.SheetAreas.{rowAt, Printed, outcome-rows, outcome-printed, call-rows, call-printed}
 
 -- The same counts of beds and the same tables, each as often, allow the same rows at the same costs.
@@ -51,7 +52,7 @@ pub same-beginning : (f g : List ℕ) (c : ℕ) → YieldsList f → YieldsList 
 same-beginning f g c inF inG same = record {
   firstRow = sheet-some f inF c;
   secondRow = sheet-some g inG c;
-  sameRows = sheets-agree (regionOf f) (regionOf g) c (members-patients f inF) (members-patients g inG) same;
+  sameRows = sheets-agree (regionOf f) (regionOf g) c (constraint-known (regionOf f) (yielding f inF)) (constraint-known (regionOf g) (yielding g inG)) same;
 }
 
 -- ---- demand 3 of what is printed

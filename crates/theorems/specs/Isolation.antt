@@ -10,7 +10,7 @@ use borrow.Author.Tests.{not-true}
 use Rattle.definitions.specs.Basics.{ℕ, suc, _+_, _<_, _≡_, refl, Bool, true, false, not, Option·getD}
 use Rattle.definitions.specs.Basics.{List, [], _∷_, map, length, take, eqb, every, any, keep, contains, below}
 use Rattle.definitions.specs.Syntax.{Patient, Table, Region, patientNumbers, patientAt, bedCounts, patientsOf}
-use Rattle.definitions.specs.Plans.{Plan, bedOf, entryFor, costOver, total, Row, listOf}
+use Rattle.definitions.specs.Plans.{Plan, bedOf, entryFor, costOver, constraints, total, Row, listOf}
 use Rattle.definitions.specs.Sheets.{part, ownTables, ownCost, ownRow, sheetOf}
 use Rattle.definitions.specs.Isolation.{tablesAmong, joins}
 use Rattle.ranking.specs.Members.{_∈_}
@@ -34,9 +34,9 @@ fits-length [] (b ∷ plan) f = absurd f
 fits-length (d ∷ ds) [] f = absurd f
 fits-length (d ∷ ds) (b ∷ plan) f = ap suc (fits-length ds plan (f .1))
 
--- The members of every table are patients.
+-- The members of every constraint are patients.
 abbrev pub MembersPatients : Region → Type 0
-MembersPatients region = (t : Table) → t ∈ region .tables → (s : ℕ) → s ∈ t .members → s < length (region .patients)
+MembersPatients region = (t : Table) → t ∈ constraints region → (s : ℕ) → s ∈ t .members → s < length (region .patients)
 
 -- The clinic alone, for m plans: its patients' counts of beds and the tables among them, by places, and nothing else.
 abbrev pub clinicAlone : ℕ → Region → ℕ → Region
