@@ -10,6 +10,7 @@ use lib.Seq.{drop-cons}
 use Rattle.definitions.specs.Basics.{ℕ, suc, _+_, _-_, _*_, _<_, Bool, true, false, cond, List, [], _∷_, map, length, getD, eqb, sum, every, keep}
 use Rattle.definitions.specs.Syntax as Said
 use Rattle.definitions.specs.Syntax.{patientAt}
+use Rattle.definitions.specs.Plans.{constraints}
 use Rattle.theorems.specs.Accepted.{Accepted, patients-few, tables-few, entries-few, beds-few}
 use Rattle.partial_rows.specs.Rows.{decidedTables}
 use Rattle.partial_rows.specs.Bounds.{leastEntry}
@@ -68,7 +69,7 @@ module _ (h : Region) (store : List ℕ) (P : ℕ → Bool) (a : Accepted (said 
 
   -- All tables.
   pub filled-all : (start : ℕ) (patients terms : List ℕ) → Filled P r store 0 start patients terms → Prepared (among r P) store patients terms
-  unfolding bucketOf leastIn decidedTables patientAt
+  unfolding bucketOf leastIn decidedTables constraints patientAt
   filled-all start patients terms f = record { accepted = accepted-among r P a; beds = f .beds; least = f .least; bucket = f .bucket }
 
   -- One more table.

@@ -199,17 +199,21 @@ cost-most region plan (t ∷ tables) small n e =
     omega (arith, parts .whole, small t (here refl) (parts .x) (parts .left), later)
 
 module _ (r : Region) (a : Accepted r) where
+  constraint-table : (t : Table) → t ∈ constraints r → t ∈ r .tables
+  unfolding constraints
+  constraint-table t k = k
+
   -- Each constraint has a member, its members are patients, and any two are the same or one is an ancestor of the other.
   pub constraint-held : (t : Table) → t ∈ constraints r → (s : ℕ) × (s ∈ t .members)
-  constraint-held t k = (getD (t .members) 0 0, getD-in (t .members) 0 0 (table-right r a k .some))
+  constraint-held t k = (getD (t .members) 0 0, getD-in (t .members) 0 0 (table-right r a (constraint-table t k) .some))
 
   pub constraint-known : (t : Table) → t ∈ constraints r → (s : ℕ) → s ∈ t .members → s < length (r .patients)
-  constraint-known t k s i = table-right r a k .known i
+  constraint-known t k s i = table-right r a (constraint-table t k) .known i
 
   pub constraint-related : (t : Table) → t ∈ constraints r → (s q : ℕ) → s ∈ t .members → q ∈ t .members
       → (s ≡ q) ⊎ ((q ∈ ancestors r s) ⊎ (s ∈ ancestors r q))
   unfolding membersRelated
-  constraint-related t k s q i j = elim (every-two-in _ (t .members) (every-in _ (r .tables) (a .related) k) i j) [
+  constraint-related t k s q i j = elim (every-two-in _ (t .members) (every-in _ (r .tables) (a .related) (constraint-table t k)) i j) [
     | inl e ↦ inl e
     | inr e ↦ inr (elim e [ inl h ↦ above s q h | inr h ↦ swap (above q s h) ])
   ]
@@ -245,6 +249,7 @@ module _ (r : Region) (a : Accepted r) where
 
   -- .. and so do some of the constraints, or all.
   pub part-small : (test : Table → Bool) (plan : Plan) (n : ℕ) → costOver (keep test (constraints r)) r plan ≡ some n → n ≤ 64_000_000
+  unfolding constraints
   part-small = tables-small
 
   pub total-small : (plan : Plan) (n : ℕ) → total r plan ≡ some n → n ≤ 64_000_000

@@ -34,13 +34,18 @@ fits-length [] (b ∷ plan) f = absurd f
 fits-length (d ∷ ds) [] f = absurd f
 fits-length (d ∷ ds) (b ∷ plan) f = ap suc (fits-length ds plan (f .1))
 
--- The members of every constraint are patients.
+-- The members of every table are patients.
 abbrev pub MembersPatients : Region → Type 0
-MembersPatients region = (t : Table) → t ∈ constraints region → (s : ℕ) → s ∈ t .members → s < length (region .patients)
+MembersPatients region = (t : Table) → t ∈ region .tables → (s : ℕ) → s ∈ t .members → s < length (region .patients)
 
 -- The clinic alone, for m plans: its patients' counts of beds and the tables among them, by places, and nothing else.
 abbrev pub clinicAlone : ℕ → Region → ℕ → Region
 clinicAlone m region c = alone m (bedCounts region (patientsOf region c)) (tablesAmong region c)
+
+-- A plan's total goes over the tables.
+pub total-tables : (region : Region) (plan : Plan) → total region plan ≡ costOver (region .tables) region plan
+unfolding total constraints
+total-tables region plan = refl
 
 -- ---- a region falls into the clinic and the rest
 
@@ -99,18 +104,17 @@ module _ (region : Region) (c m : ℕ) (members : MembersPatients region) (apart
 
   -- The total is the clinic's own cost and the cost of the rest.
   own-total : (plan : Plan) → total own (map (bedOf plan) patients) ≡ costOver (ownTables region c) region plan
-  unfolding total tablesAmong
-  own-total plan = cost-alone region patients m (tablesAmong region c) plan (ownTables region c) own-members
+  unfolding tablesAmong
+  own-total plan = total-tables own (map (bedOf plan) patients) ∙ cost-alone region patients m (tablesAmong region c) plan (ownTables region c) own-members
 
   rest-total : (plan : Plan) → total rest (map (bedOf plan) others) ≡ costOver otherTables region plan
-  unfolding total
-  rest-total plan = cost-alone region others 1 (map (byPlaces others) otherTables) plan otherTables other-members
+  rest-total plan = total-tables rest (map (bedOf plan) others) ∙ cost-alone region others 1 (map (byPlaces others) otherTables) plan otherTables other-members
 
   total-apart : (plan : Plan) → total region plan ≡ plus (total own (map (bedOf plan) patients)) (total rest (map (bedOf plan) others))
   total-apart plan = by-tables ∙ sym (ap₂ plus (own-total plan) (rest-total plan))
     where
       by-tables : total region plan ≡ plus (costOver (ownTables region c) region plan) (costOver otherTables region plan)
-      by-tables = unfold total ownTables costOver in sum-split (entryFor region plan) inside (region .tables)
+      by-tables = total-tables region plan ∙ (unfold ownTables costOver in sum-split (entryFor region plan) inside (region .tables))
 
   -- A plan is the beds of the clinic's patients interleaved with those of the others.
   abbrev counts : List ℕ
