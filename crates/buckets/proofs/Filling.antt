@@ -10,6 +10,8 @@ use lib.Seq.{drop-cons}
 use Rattle.definitions.specs.Basics.{ℕ, suc, _+_, _-_, _*_, _<_, Bool, true, false, cond, List, [], _∷_, map, length, getD, eqb, sum, every, keep}
 use Rattle.definitions.specs.Syntax as Said
 use Rattle.definitions.specs.Syntax.{patientAt}
+use Rattle.definitions.specs.Plans.{constraints}
+use Rattle.theorems.specs.Accepted.{Accepted, patients-few, tables-few, entries-few, beds-few}
 use Rattle.partial_rows.specs.Rows.{decidedTables}
 use Rattle.partial_rows.specs.Bounds.{leastEntry}
 use Rattle.held_region.specs.declared.Table.{Table}
@@ -20,16 +22,16 @@ use Rattle.held_region.specs.Asked.{outline-count, outline-patient}
 use Rattle.held_region.specs.Said.{patients-said, members-said, entry-counts-said, total-said, stands}
 use Rattle.held_region.specs.Sound.{Sound, room}
 use Rattle.held_region.specs.Entries.{countsMatch, entryTotal, counts-match}
-use Rattle.buckets.specs.Terms.{Answered, Planned, Term, Chain, Prepared, highest, bucketOf, leastIn, bedsAt, leastAt, firstAt}
+use Rattle.buckets.specs.Terms.{Term, Chain, Prepared, highest, bucketOf, leastIn, bedsAt, leastAt, firstAt}
 use Rattle.buckets.specs.Least.{leastNumber}
 use Rattle.buckets.specs.Places.{strideOf, stride-same}
 use Rattle.held_region.specs.Stores.{startOf, start-next, start-all, start-most}
-use Rattle.buckets.specs.Right.{in-bucket, patients-few, tables-few, entries-few, beds-few}
+use Rattle.buckets.specs.Right.{in-bucket}
 use Rattle.buckets.specs.Chains.{term-right, chain-kept, chain-lower}
-use Rattle.buckets.specs.Among.{allAmong, among, answered-among, term-among}
+use Rattle.buckets.specs.Among.{allAmong, among, accepted-among, term-among}
 use Rattle.buckets.specs.Written.{PatientsWritten, lastOf, TermKnown, TermAdded}
 use Rattle.buckets.proofs.Writing.{zeros}
-use Rattle.buckets.proofs.Held.{held-lines, least-fits, held-place, held-right, members-same, entries-same, count-same}
+use Rattle.buckets.proofs.Held.{held-lines, least-fits, held-place, held-right, held-known, members-same, entries-same, count-same}
 use Rattle.buckets.proofs.Held.{first-same, last-same, last-known, least-told, least-one}
 
 -- The tables among some patients, from place i on, of which s is the highest member.
@@ -43,7 +45,7 @@ pub record Filled (P : ℕ → Bool) (r : Said.Region) (store : List ℕ) (i sta
   pub least : (s : ℕ) → s < length (r .patients) → leastAt patients s ≡ sum (map leastEntry (bucketFrom P r i s))
   pub bucket : (s : ℕ) → s < length (r .patients) → Chain (among r P) store terms i (firstAt patients s) (bucketFrom P r i s)
 
-module _ (h : Region) (store : List ℕ) (P : ℕ → Bool) (a : Answered (said h store)) where
+module _ (h : Region) (store : List ℕ) (P : ℕ → Bool) (a : Accepted (said h store)) where
   abbrev r : Said.Region
   r = said h store
 
@@ -67,8 +69,8 @@ module _ (h : Region) (store : List ℕ) (P : ℕ → Bool) (a : Answered (said 
 
   -- All tables.
   pub filled-all : (start : ℕ) (patients terms : List ℕ) → Filled P r store 0 start patients terms → Prepared (among r P) store patients terms
-  unfolding bucketOf leastIn decidedTables patientAt
-  filled-all start patients terms f = record { answered = answered-among r P a; beds = f .beds; least = f .least; bucket = f .bucket }
+  unfolding bucketOf leastIn decidedTables constraints patientAt
+  filled-all start patients terms f = record { accepted = accepted-among r P a; beds = f .beds; least = f .least; bucket = f .bucket }
 
   -- One more table.
   module _ (i : ℕ) (l : i < h .t) (start : ℕ) (patients terms : List ℕ) (f : Filled P r store (suc i) start patients terms) where
@@ -99,7 +101,7 @@ module _ (h : Region) (store : List ℕ) (P : ℕ → Bool) (a : Answered (said 
 
     member-known : (j : ℕ) → j < table .members → getD (table .first) j 0 < length (r .patients)
     member-known j m =
-        omega (arith, first-same h store a i l j m, held-right h store a i l .known j (omega (arith, count-same h store a i l)))
+        omega (arith, first-same h store a i l j m, held-known h store a i l j (omega (arith, count-same h store a i l)))
 
     pub term-known : length patients ≡ 96 → length terms ≡ 640 → TermKnown store table i from patients terms
     term-known wide termsWide =
@@ -152,7 +154,7 @@ module _ (h : Region) (store : List ℕ) (P : ℕ → Bool) (a : Answered (said 
           (λ j m. w .members .members (λ q n. blank _ (omega arith)) j m ∙ ap (λ ms. getD ms j 0) (members-same h store a i l))
           (λ j m.
           w .members .strides (λ q n. blank _ (omega arith)) j m ∙ ap (λ ms. strideOf (bedsAt patients) ms j) (members-same h store a i l)
-          ∙ stride-same (bedsAt patients) (λ s. patientAt r s .bedCount) (t .members) (λ q n. f .beds _ (held-right h store a i l .known q n)) j) store (stands h store)))
+          ∙ stride-same (bedsAt patients) (λ s. patientAt r s .bedCount) (t .members) (λ q n. f .beds _ (held-known h store a i l q n)) j) store (stands h store)))
 
       kept : (s : ℕ) → s < length (r .patients) → Chain (among r P) store after (suc i) (firstAt patients s) (bucketFrom P r (suc i) s)
       kept s m = chain-kept (among r P) store terms after (suc i) (firstAt patients s) (bucketFrom P r (suc i) s) (λ q n. w .members .others .higher q (omega arith)) (f .bucket s m)
@@ -217,7 +219,7 @@ pub record Filling (h : Region) (store : List ℕ) (P : ℕ → Bool) (i start :
   pub blank : (p : ℕ) → p < i * 10 → getD terms p 0 ≡ 0
   pub filled : Filled P (said h store) store i start patients terms
 
-module _ (h : Region) (store : List ℕ) (a : Planned h store) where
+module _ (h : Region) (store : List ℕ) (a : Accepted (said h store)) where
   -- What the functions that are called ask for.
   pub sound-held : Sound h
   sound-held =

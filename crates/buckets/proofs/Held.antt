@@ -10,7 +10,8 @@ use Rattle.definitions.specs.Questions.{entriesWithin}
 use Rattle.definitions.specs.Syntax as Said
 use Rattle.theorems.specs.Tests.{both}
 use Rattle.theorems.specs.Every.{every-weaken}
-use Rattle.theorems.specs.Accepted.{at-most}
+use Rattle.ranking.specs.Members.{getD-in}
+use Rattle.theorems.specs.Accepted.{Accepted, at-most, TableRight, table-right, tables-few}
 use Rattle.patient_set.specs.Lists.{length-keep, every-keep}
 use Rattle.partial_rows.specs.Bounds.{smaller, leastOf, leastEntry}
 use Rattle.held_region.specs.declared.Table.{Table}
@@ -19,10 +20,8 @@ use Rattle.held_region.specs.Held.{mark, tableAt}
 use Rattle.held_region.specs.Outline.{said, tableIn, membersOf}
 use Rattle.held_region.specs.Said.{tables-count, members-of, entries-of, stands}
 use Rattle.held_region.specs.Places.{length-by-places, at-place}
-use Rattle.buckets.specs.Terms.{Answered}
 use Rattle.buckets.specs.Least.{leastNumber, least-of-entries}
 use Rattle.held_region.specs.Stores.{startOf}
-use Rattle.buckets.specs.Right.{TableRight, table-right, tables-few}
 use Rattle.buckets.specs.Written.{lastOf}
 
 -- ---- least numbers
@@ -64,7 +63,7 @@ every-drop p (suc i) (x ∷ l) all = every-drop p i l (both (p x) all .1)
 
 -- ---- a held table
 
-module _ (h : Region) (store : List ℕ) (a : Answered (said h store)) where
+module _ (h : Region) (store : List ℕ) (a : Accepted (said h store)) where
   abbrev r : Said.Region
   r = said h store
 
@@ -95,7 +94,10 @@ module _ (h : Region) (store : List ℕ) (a : Answered (said h store)) where
     held-place = omega (arith, held-lines)
 
     pub held-right : TableRight r t
-    held-right = table-right r a i held-place
+    held-right = table-right r a (getD-in (r .tables) i _ held-place)
+
+    pub held-known : (j : ℕ) → j < length (t .members) → getD (t .members) j 0 < length (r .patients)
+    held-known j m = held-right .known (getD-in (t .members) j 0 m)
 
     pub members-same : membersOf table ≡ t .members
     members-same = members-of h store i l
@@ -113,7 +115,7 @@ module _ (h : Region) (store : List ℕ) (a : Answered (said h store)) where
     last-same = first-same (table .members - 1) (omega (arith, count-same, held-right .some)) ∙ ap (λ n. getD (t .members) (n - 1) 0) count-same
 
     pub last-known : lastOf table < length (r .patients)
-    last-known = omega (arith, last-same, held-right .known (length (t .members) - 1) (omega (arith, held-right .some)))
+    last-known = omega (arith, last-same, held-known (length (t .members) - 1) (omega (arith, held-right .some)))
 
     pub least-told : leastNumber store (startOf (r .tables) i) (startOf (r .tables) i + table .entries) ≡ leastEntry t
     unfolding leastEntry

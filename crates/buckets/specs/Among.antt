@@ -2,20 +2,21 @@
 use mathlib.Core.Path.{_≡_, refl, sym, ap, _∙_, subst, fun-ext}
 use Prim.Native.Nat.{_≤_}
 use native.Mathlib.Omega.{arith}
-use borrow.Author.Tests.{ltb-true, le-leb, eqb-true, eq-eqb}
-use Rattle.definitions.specs.Basics.{ℕ, zero, suc, _+_, _^_, _<_, Bool, true, false, not, _&&_, _||_, cond, Option, none, some, List, [], _∷_, length, eqb, ltb, product, isEmpty, every, everyTwo, keep, contains, below}
-use Rattle.definitions.specs.Limits.{limits, within, patientCount, tableCount, memberCount}
+use borrow.Author.Tests.{le-leb, eq-eqb}
+use Rattle.definitions.specs.Basics.{ℕ, zero, suc, _+_, _^_, _<_, Bool, true, false, not, _&&_, _||_, cond, Option, none, some, List, [], _∷_, length, eqb, product, isEmpty, every, everyTwo, keep, contains, below}
+use Rattle.definitions.specs.Limits.{limits, within, patientCount, tableCount}
 use Rattle.definitions.specs.Syntax.{Table, Region, patientAt, bedCounts}
 use Rattle.definitions.specs.Plans.{entryFor}
 use Rattle.definitions.specs.Questions.{countsTrue, countsWithin, patientsWithin, parentsSmaller, membersRight, entryCountsRight, entriesWithin, following, ancestors, membersRelated}
 use Rattle.theorems.specs.Tests.{both, join}
+use Rattle.theorems.specs.Kept.{every-all}
+use Rattle.theorems.specs.Accepted.{Accepted, patients-few, tables-counted, tables-few, table-right, entries-few}
 use Rattle.patient_set.specs.Sets.{inSet, members}
-use Rattle.patient_set.specs.Lists.{keep-all, length-keep, every-keep, every-weaker, contains-numbers}
+use Rattle.patient_set.specs.Lists.{keep-all, length-keep, every-keep, contains-numbers}
 use Rattle.patient_set.specs.Laws.{member, members-full}
 use Rattle.held_region.specs.Sets.{none-left}
-use Rattle.buckets.specs.Terms.{Answered, Term, Prepared}
+use Rattle.buckets.specs.Terms.{Term, Prepared}
 use Rattle.held_region.specs.Stores.{entriesOf}
-use Rattle.buckets.specs.Right.{patients-counted, patients-few, tables-few, entries-few}
 
 -- Are all members of a table among some patients?
 abbrev pub allAmong : (ℕ → Bool) → Table → Bool
@@ -55,7 +56,7 @@ module _ (r : Region) (P : ℕ → Bool) where
   unfolding ancestors patientAt
   ancestors-same s = following-same (length (r .patients)) (patientAt r s .parent)
 
-  module _ (a : Answered r) where
+  module _ (a : Accepted r) where
     -- Questions 5, 8 and 10, and then all.
     counts-among : countsWithin (among r P) ≡ true
     unfolding countsWithin within limits
@@ -79,9 +80,9 @@ module _ (r : Region) (P : ℕ → Bool) where
         ap (λ f. every (λ (t : Table). everyTwo (λ a b. contains (f a) b || contains (f b) a) (t .members)) (keep (allAmong P) (r .tables))) (fun-ext ancestors-same)
         ∙ every-keep _ (allAmong P) (r .tables) (a .related)
 
-    pub answered-among : Answered (among r P)
+    pub accepted-among : Accepted (among r P)
     unfolding countsTrue patientsWithin parentsSmaller membersRight entriesWithin patientAt
-    answered-among =
+    accepted-among =
         let count = length (keep (allAmong P) (r .tables)) in
         record {
           counted = join (both (eqb (length (r .patients)) (r .patientCount)) (a .counted) .0) (eq-eqb count count refl);
@@ -114,21 +115,11 @@ none-outside w of m fits is = outside-asked w of m is ∙ ap (λ f. every f (mem
 abbrev everybody : ℕ → Bool
 everybody = contains (members 4_294_967_295)
 
-known-everybody : (v s : ℕ) → v ≤ 32 → ltb s v ≡ true → everybody s ≡ true
-known-everybody v s h l = ap (λ m. contains m s) members-full ∙ contains-numbers 0 32 s (omega arith) (omega (arith, ltb-true s v l))
+all-everybody : (r : Region) → Accepted r → every (allAmong everybody) (r .tables) ≡ true
+all-everybody r a = every-all (allAmong everybody) (r .tables) (λ t k. every-all everybody (t .members) (λ s i.
+    ap (λ m. contains m s) members-full ∙ contains-numbers 0 32 s (omega arith) (omega (arith, table-right r a k .known i, patients-few r a))))
 
-all-everybody : (r : Region) → Answered r → every (allAmong everybody) (r .tables) ≡ true
-unfolding membersRight
-all-everybody r a =
-    every-weaker _ (allAmong everybody)
-    (λ t fits.
-    let two = both (within memberCount (length (t .members)) && every (λ s. ltb s (r .patientCount)) (t .members)) fits .0 in
-    every-weaker (λ s. ltb s (r .patientCount)) everybody (λ s l. known-everybody (r .patientCount) s (omega (arith, patients-counted r a, patients-few r a)) l) (t .members)
-    (both (within memberCount (length (t .members))) two .1))
-    (r .tables) (a .membersFit)
-
-among-all : (r : Region) → Answered r → among r everybody ≡ r
-unfolding countsTrue
+among-all : (r : Region) → Accepted r → among r everybody ≡ r
 among-all r a = λ i. record {
   patientCount = r .patientCount;
   tableCount = count i;
@@ -142,8 +133,8 @@ among-all r a = λ i. record {
     all = keep-all (allAmong everybody) (r .tables) (all-everybody r a)
 
     count : length (keep (allAmong everybody) (r .tables)) ≡ r .tableCount
-    count = ap length all ∙ eqb-true (length (r .tables)) (r .tableCount) (both (eqb (length (r .patients)) (r .patientCount)) (a .counted) .1)
+    count = ap length all ∙ tables-counted r a
 
 -- So their buckets are those of the whole region.
-pub prepared-all : (r : Region) → Answered r → {store patients terms : List ℕ} → Prepared (among r everybody) store patients terms → Prepared r store patients terms
+pub prepared-all : (r : Region) → Accepted r → {store patients terms : List ℕ} → Prepared (among r everybody) store patients terms → Prepared r store patients terms
 prepared-all r a {store} {patients} {terms} p = subst (λ x. Prepared x store patients terms) (among-all r a) p

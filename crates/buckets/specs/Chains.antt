@@ -9,11 +9,13 @@ use lib.ListN.{set, List·getD-eq-default}
 use Rattle.definitions.specs.Basics.{ℕ, zero, suc, _+_, _-_, _*_, _<_, _≡_, refl, true, List, [], _∷_, map, length, getD, numbersFrom, sum, product}
 use Rattle.definitions.specs.Syntax.{Table, Region, patientAt}
 use Rattle.definitions.specs.Plans.{Plan, bedOf, entryFor}
+use Rattle.ranking.specs.Members.{_∈_, getD-in}
+use Rattle.theorems.specs.Accepted.{Accepted, TableRight, table-right, patients-few, entries-few, beds-some, entry-small}
 use Rattle.held_region.specs.Held.{tableAt}
-use Rattle.buckets.specs.Terms.{Answered, Fitting, highest, startAt, nextAt, memberAt, strideAt, placeAt, Term, Chain}
+use Rattle.buckets.specs.Terms.{Fitting, highest, startAt, nextAt, memberAt, strideAt, placeAt, Term, Chain}
 use Rattle.buckets.specs.Places.{strideOf, placeOf, place-strides, place-bound, place-last}
 use Rattle.held_region.specs.Stores.{startOf, start-next, start-most, Stands}
-use Rattle.buckets.specs.Right.{TableRight, table-right, patients-few, entries-few, beds-some, in-bucket, entry-small}
+use Rattle.buckets.specs.Right.{in-bucket}
 
 sum-same : (f g : ℕ → ℕ) (a n : ℕ) → ((j : ℕ) → j < a + n → f j ≡ g j) → sum (map f (numbersFrom a n)) ≡ sum (map g (numbersFrom a n))
 sum-same f g a zero same = refl
@@ -34,15 +36,21 @@ stride-most count (s ∷ members) each (suc j) =
     le-trans (stride-most count members (λ i l. each (suc i) (omega arith)) j) (whole-most count s members (each 0 (omega arith)))
 
 -- The term of a table, from its words.
-module _ (r : Region) (a : Answered r) (i : ℕ) (h : i < length (r .tables)) (terms : List ℕ) where
+module _ (r : Region) (a : Accepted r) (i : ℕ) (h : i < length (r .tables)) (terms : List ℕ) where
   abbrev t : Table
   t = tableAt r i
 
   abbrev count : ℕ → ℕ
   count s = patientAt r s .bedCount
 
+  there : t ∈ r .tables
+  there = getD-in (r .tables) i _ h
+
   right : TableRight r t
-  right = table-right r a i h
+  right = table-right r a there
+
+  known : (j : ℕ) → j < length (t .members) → getD (t .members) j 0 < length (r .patients)
+  known j l = right .known (getD-in (t .members) j 0 l)
 
   -- The entries begin and end in the store.
   ends : startOf (r .tables) i + length (t .entries) ≤ 4096
@@ -59,18 +67,18 @@ module _ (r : Region) (a : Answered r) (i : ℕ) (h : i < length (r .tables)) (t
         ∙ sym (place-strides count (bedOf plan) (t .members) 4 (right .few)))
 
     bounded : (plan : Plan) → Fitting r plan → placeOf count (bedOf plan) (t .members) < length (t .entries)
-    bounded plan fits = omega (arith, right .counted, place-bound count (bedOf plan) (t .members) (λ j l. fits _ (right .known j l)))
+    bounded plan fits = omega (arith, right .counted, place-bound count (bedOf plan) (t .members) (λ j l. fits _ (known j l)))
 
     pub term-right : (store : List ℕ) → Stands store (r .tables) → Term r store terms i t
     unfolding entryFor
     term-right store stands =
         record {
           known = λ j l. omega (arith, members j l, member-small j (decLt j (length (t .members))));
-          near = λ j l. omega (arith, strides j l, stride-most count (t .members) (λ q m. beds-some r a _ (right .known q m)) j, right .counted, ends);
+          near = λ j l. omega (arith, strides j l, stride-most count (t .members) (λ q m. beds-some r a _ (known q m)) j, right .counted, ends);
           starts = omega (arith, starts, ends);
           inside = λ plan fits. omega (arith, places plan, bounded plan fits, ends);
           finds = λ plan fits. ap (λ n. getD store n 0) (places plan) ∙ stands i _ h (bounded plan fits);
-          small = λ plan e is. entry-small (t .entries) (right .within) _ e is;
+          small = entry-small r a there;
           beside = λ s bed plan top inside. omega (arith, places (set plan s bed), places plan, place-last count plan (t .members) bed (right .some) (right .rising) (top-last s top) inside);
         }
       where
@@ -78,7 +86,7 @@ module _ (r : Region) (a : Answered r) (i : ℕ) (h : i < length (r .tables)) (t
         top-last s top = eqb-true _ _ (sym (in-bucket s t (right .some) (right .rising)) ∙ top)
 
         member-small : (j : ℕ) → Dec (j < length (t .members)) → getD (t .members) j 0 < 32
-        member-small j (yes l) = omega (arith, right .known j l, patients-few r a)
+        member-small j (yes l) = omega (arith, known j l, patients-few r a)
         member-small j (no l) = omega (arith, List·getD-eq-default (t .members) 0 {n = j} (omega arith))
 
 -- Words that are the same from a place on leave the terms there as they are.

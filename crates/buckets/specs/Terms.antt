@@ -4,28 +4,11 @@ use lib.ListN.{set}
 use Rattle.definitions.specs.Basics.{ℕ, suc, _+_, _*_, _<_, _≡_, Bool, true, not, _&&_, some, List, [], _∷_, map, length, getD, ltb, sum, below}
 use Rattle.definitions.specs.Syntax.{Table, Region, patientAt}
 use Rattle.definitions.specs.Plans.{Plan, bedOf, entryFor}
-use Rattle.definitions.specs.Questions.{countsTrue, countsWithin, patientsWithin, parentsSmaller, membersRight, entryCountsRight, entriesWithin, membersRelated}
+use Rattle.theorems.specs.Accepted.{Accepted}
 use Rattle.partial_rows.specs.Sets.{only}
 use Rattle.partial_rows.specs.Rows.{holds, decidedTables}
 use Rattle.partial_rows.specs.Bounds.{leastEntry}
-use Rattle.held_region.specs.declared.Region as Code
 use Rattle.held_region.specs.Held.{codeOf}
-use Rattle.held_region.specs.Outline.{said}
-
--- Questions 3 and 5 to 10 are answered yes.
-pub record Answered (r : Region) : Type 0 where
-  pub counted : countsTrue r ≡ true
-  pub countsFit : countsWithin r ≡ true
-  pub patientsFit : patientsWithin r ≡ true
-  pub parentsFit : parentsSmaller r ≡ true
-  pub membersFit : membersRight r ≡ true
-  pub entryCountsFit : entryCountsRight r ≡ true
-  pub entriesFit : entriesWithin r ≡ true
-  pub related : membersRelated r ≡ true
-
--- A held region and a store that can be planned: questions 3 and 5 to 10 of what they say are answered yes.
-abbrev pub Planned : Code.Region → List ℕ → Type 0
-Planned h store = Answered (said h store)
 
 -- A plan with each bed below its patient's count.
 abbrev pub Fitting : Region → Plan → Type 0
@@ -89,7 +72,7 @@ firstAt patients s = getD patients (s * 3 + 2) 0
 
 -- The words say each patient's count of beds, the sum of its bucket's least numbers, and its bucket.
 pub record Prepared (r : Region) (store patients terms : List ℕ) : Type 0 where
-  pub answered : Answered r
+  pub accepted : Accepted r
   pub beds : (s : ℕ) → s < length (r .patients) → bedsAt patients s ≡ patientAt r s .bedCount
   pub least : (s : ℕ) → s < length (r .patients) → leastAt patients s ≡ leastIn r s
   pub bucket : (s : ℕ) → s < length (r .patients) → Chain r store terms 0 (firstAt patients s) (bucketOf r s)

@@ -9,11 +9,12 @@ use region_sets::member_set;
 ghost use mathlib.Core.Path.{_≡_};
 ghost use Prim.Native.Nat.{_≤_, _<_};
 ghost use Rattle.definitions.specs.Basics.{every, contains};
+ghost use Rattle.theorems.specs.Accepted.{Accepted};
 ghost use Rattle.patient_set.specs.Sets.{members};
 ghost use Rattle.held_region.specs.Outline.{membersOf, said};
 ghost use Rattle.held_region.specs.Related as Related;
 ghost use Rattle.buckets.specs.Among.{among};
-ghost use Rattle.buckets.specs.Terms.{Planned, Prepared};
+ghost use Rattle.buckets.specs.Terms.{Prepared};
 ghost use Rattle.buckets.specs.Least.{leastNumber};
 ghost use Rattle.buckets.specs.Written.{PatientsWritten, MembersKnown, MembersWritten, LastKnown, lastOf, TermKnown, TermAdded};
 
@@ -118,7 +119,7 @@ fn is_among(table: Table, of: PatientSet) -> bool
 // Every table among the patients of a set as a term in the bucket of its highest member.
 // From the last table on, so that each bucket has the order of the file.
 pub fn prepare_within(region: Region, store: &[u32; 4096], of: PatientSet) -> Buckets
-    requires { ⌜ Planned region (now store) ⌝ }
+    requires { ⌜ Accepted (said region (now store)) ⌝ }
     ensures { λ b. ⌜ Prepared (among (said region (now (store .entry))) (contains (members (of .0)))) (now (store .entry)) (b .patients) (b .terms) ⌝ }
 {
     let held = region.patients;
@@ -142,7 +143,7 @@ pub fn prepare_within(region: Region, store: &[u32; 4096], of: PatientSet) -> Bu
 
 // Every table as a term.
 pub fn prepare(region: Region, store: &[u32; 4096]) -> Buckets
-    requires { ⌜ Planned region (now store) ⌝ }
+    requires { ⌜ Accepted (said region (now store)) ⌝ }
     ensures { λ b. ⌜ Prepared (said region (now (store .entry))) (now (store .entry)) (b .patients) (b .terms) ⌝ }
 {
     prepare_within(region, store, PatientSet::FULL)

@@ -4,21 +4,18 @@ use mathlib.Core.Bool.{true≢false, not-eq-not, or-false}
 use Prim.Native.Nat.{_≤_}
 use native.Mathlib.Decide.{decLt}
 use native.Mathlib.Omega.{arith}
-use borrow.Author.Tests.{ltb-true, lt-ltb, le-ltb, eqb-true}
-use Rattle.definitions.specs.Basics.{ℕ, suc, _<_, _≡_, true, false, _&&_, Option, none, some, List, length, getD, eqb, ltb, every}
-use Rattle.definitions.specs.Limits.{within, memberCount}
+use borrow.Author.Tests.{lt-ltb, le-ltb}
+use Rattle.definitions.specs.Basics.{ℕ, suc, _<_, _≡_, true, false, _&&_, Option, none, some, List, length, getD, eqb, ltb}
 use Rattle.definitions.specs.Syntax.{Table, Region}
-use Rattle.definitions.specs.Questions.{countsTrue, membersRight}
 use Rattle.definitions.specs.Plans.{constraints}
 use Rattle.ranking.specs.Members.{_∈_}
-use Rattle.theorems.specs.Tests.{both}
-use Rattle.theorems.specs.Kept.{every-in, any-in, any-out}
+use Rattle.theorems.specs.Accepted.{Accepted, constraint-known}
+use Rattle.theorems.specs.Kept.{any-in, any-out}
 use Rattle.partial_rows.specs.Sets.{Patients, Part, neither, Splits}
 use Rattle.partial_rows.specs.Rows.{holds}
 use Rattle.partial_rows.specs.Parts.{Apart}
 use Rattle.partial_rows.specs.Trees.{rootOf, treeOf, rootsBelow, roots-closed, trees-apart, trees-split}
 use Rattle.patient_set.specs.Sets.{inSet}
-use Rattle.buckets.specs.Terms.{Answered}
 
 -- The numbers are the patients' roots.
 pub record Rooted (r : Region) (numbers : List ℕ) : Type 0 where
@@ -29,17 +26,8 @@ abbrev pub rootFrom : List ℕ → ℕ → Option ℕ → ℕ
 rootFrom roots s none = s
 rootFrom roots s (some p) = getD roots p 0
 
--- Question 7: the members of a table are patients.
-member-known : {r : Region} → Answered r → (t : Table) → t ∈ constraints r → {s : ℕ} → s ∈ t .members → s < length (r .patients)
-unfolding countsTrue membersRight
-member-known {r} answered t i {s} j =
-    let (fits, rising) = both (within memberCount (length (t .members)) && every (λ s. ltb s (r .patientCount)) (t .members)) (every-in _ (r .tables) (answered .membersFit) i) in
-    let below : s < r .patientCount = ltb-true s (r .patientCount) (every-in _ (t .members) (both (within memberCount (length (t .members))) fits .1) j) in
-    let counted : length (r .patients) ≡ r .patientCount = eqb-true _ _ (both (eqb (length (r .patients)) (r .patientCount)) (answered .counted) .0) in
-    omega (arith, below, counted)
-
 -- A word that has the patients with root k.
-module _ {r : Region} {roots : List ℕ} (rooted : Rooted r roots) (answered : Answered r) {v : ℕ} (all : v ≡ length (r .patients))
+module _ {r : Region} {roots : List ℕ} (rooted : Rooted r roots) (accepted : Accepted r) {v : ℕ} (all : v ≡ length (r .patients))
     (w k : ℕ) (is : (q : ℕ) → inSet w q ≡ (ltb q v && eqb (getD roots q 0) k)) where
   -- It is the tree of k, ..
   pub tree-is : (q : ℕ) → q < v → inSet w q ≡ treeOf r k q
@@ -49,13 +37,13 @@ module _ {r : Region} {roots : List ℕ} (rooted : Rooted r roots) (answered : A
   tree-beyond q l = is q ∙ ap (λ b. b && eqb (getD roots q 0) k) (le-ltb q v l)
 
   known : (t : Table) → t ∈ constraints r → {s : ℕ} → s ∈ t .members → s < v
-  known t i j = omega (arith, member-known answered t i j, all)
+  known t i {s} j = omega (arith, constraint-known r accepted t i s j, all)
 
   -- .. so with one member of a table it has all, ..
   pub tree-upward : (t : Table) → t ∈ constraints r → (s q : ℕ) → s ∈ t .members → q ∈ t .members → inSet w s ≡ true → inSet w q ≡ true
   tree-upward t i s q j n e =
       let held : holds (treeOf r k) t ≡ true = any-in (treeOf r k) (t .members) j (sym (tree-is s (known t i j)) ∙ e) in
-      tree-is q (known t i n) ∙ sym (or-false (treeOf r k q)) ∙ roots-closed r (answered .parentsFit) (answered .related) (λ root. eqb root k) (λ s. false) t i held q n
+      tree-is q (known t i n) ∙ sym (or-false (treeOf r k q)) ∙ roots-closed r accepted (λ root. eqb root k) (λ s. false) t i held q n
 
   -- .. no table joins it to the patients with roots below k, ..
   pub tree-apart : (E : Patients) → ((q : ℕ) → q < v → E q ≡ rootsBelow r k q) → Apart r E (inSet w)
@@ -64,7 +52,7 @@ module _ {r : Region} {roots : List ℕ} (rooted : Rooted r roots) (answered : A
       let (b, n, g) = any-out (inSet w) (t .members) d in
       let held : holds (rootsBelow r k) t ≡ true = any-in (rootsBelow r k) (t .members) j (sym (below a (known t i j)) ∙ h) in
       let other : holds (treeOf r k) t ≡ true = any-in (treeOf r k) (t .members) n (sym (tree-is b (known t i n)) ∙ g) in
-      true≢false (sym other ∙ trees-apart r (answered .parentsFit) (answered .related) k t i held))
+      true≢false (sym other ∙ trees-apart r accepted k t i held))
 
   -- .. and together they are the patients with roots up to k.
   pub trees-next : (D E : Patients) → ((q : ℕ) → q < v → D q ≡ rootsBelow r (suc k) q) → ((q : ℕ) → v ≤ q → D q ≡ false)

@@ -3,20 +3,19 @@ use mathlib.Core.Path.{sym, ap, _∙_}
 use mathlib.Core.Logic.{_⊎_, inl, inr}
 use mathlib.Core.Bool.{true≢false, not-eq-not}
 use mathlib.Core.Option.{Option·none-ne-some}
-use native.Mathlib.Decide.{decLt}
 use native.Mathlib.Omega.{arith}
 use borrow.Author.Tests.{ltb-true, lt-ltb, le-ltb, eqb-true, eq-eqb, ne-eqb}
-use lib.ListN.{List·getD-eq-default}
 use Prim.Native.Nat.{_≤_}
 use Rattle.definitions.specs.Basics.{ℕ, zero, suc, _<_, Ordering, _≡_, refl, Bool, true, false, _||_, Option, none, some, List, [], _∷_, length}
-use Rattle.definitions.specs.Basics.{eqb, ltb, every, everyTwo, contains, noneOr}
-use Rattle.definitions.specs.Syntax.{Patient, Table, Region, patientNumbers, patientAt}
-use Rattle.definitions.specs.Questions.{parentsSmaller, following, ancestors, membersRelated}
+use Rattle.definitions.specs.Basics.{eqb, ltb, contains}
+use Rattle.definitions.specs.Syntax.{Table, Region, patientAt}
+use Rattle.definitions.specs.Plans.{constraints}
+use Rattle.definitions.specs.Questions.{following, ancestors}
 use Rattle.ranking.specs.Members.{_∈_, here, there, here-or-there, none-in-nil}
 use Rattle.ranking.specs.Orders.{View, before, equal, after, ℕ-view}
-use Rattle.theorems.specs.Tests.{both, same-answer}
-use Rattle.theorems.specs.Kept.{every-in, any-out, contains-in, contains-out}
-use Rattle.theorems.specs.Below.{below-in}
+use Rattle.theorems.specs.Tests.{same-answer}
+use Rattle.theorems.specs.Kept.{any-out, contains-in, contains-out}
+use Rattle.theorems.specs.Accepted.{Accepted, parent-smaller, constraint-related}
 use Rattle.partial_rows.specs.Sets.{Patients, Part, first, second, neither, Splits}
 use Rattle.partial_rows.specs.Rows.{Closed}
 use Rattle.partial_rows.specs.Parts.{Apart}
@@ -36,19 +35,6 @@ treeOf region r s = eqb (rootOf region s) r
 
 abbrev pub rootsBelow : Region → ℕ → Patients
 rootsBelow region k s = ltb (rootOf region s) k
-
--- One of two tests is passed; so is a test of any two elements, in one order or the other.
-either : (a : Bool) {b : Bool} → (a || b) ≡ true → (a ≡ true) ⊎ (b ≡ true)
-either true e = inl refl
-either false e = inr e
-
-every-two-in : {A : Type 0} (f : A → A → Bool) (l : List A) → everyTwo f l ≡ true → {a b : A} → a ∈ l → b ∈ l
-    → (a ≡ b) ⊎ ((f a b ≡ true) ⊎ (f b a ≡ true))
-every-two-in f [] e i j = absurd (none-in-nil i)
-every-two-in f (x ∷ l) e i j = let (now, later) = both (every (f x) l) e in elim (here-or-there i) [
-  | inl p ↦ elim (here-or-there j) [ inl q ↦ inl (p ∙ sym q) | inr k ↦ inr (inl (rw p (every-in (f x) l now k))) ]
-  | inr h ↦ elim (here-or-there j) [ inl q ↦ inr (inr (rw q (every-in (f x) l now h))) | inr k ↦ every-two-in f l later h k ]
-]
 
 -- Following parents from s ends at r.
 data Rooted (region : Region) (r : ℕ) : ℕ → Type 0 where
@@ -74,16 +60,8 @@ module _ {region : Region} where
   rooted-on {s} {b} (suc k) i (top e h) = absurd (none-in-nil (rw e at i))
   rooted-on {s} {r} {b} (suc k) i (up p e h) = elim (here-or-there (rw e at i)) [ inl q ↦ rw q h | inr t ↦ rooted-on k t h ]
 
-module _ (region : Region) (smaller : parentsSmaller region ≡ true) where
-  -- Question 6: a parent has a smaller number. And only patients have parents.
-  parent-smaller : (s p : ℕ) → patientAt region s .parent ≡ some p → (p < s) × (s < length (region .patients))
-  unfolding parentsSmaller patientAt
-  parent-smaller s p e = elim (decLt s (length (region .patients))) [
-    | yes h ↦ (ltb-true p s (ap (noneOr (λ q. ltb q s)) (sym e) ∙ every-in _ (patientNumbers region) smaller (below-in _ h)), h)
-    | no h ↦ absurd (Option·none-ne-some p (sym (ap (λ (x : Patient). x .parent) (List·getD-eq-default (region .patients) _ (omega arith))) ∙ e))
-  ]
-
-  -- So as many steps as there are patients reach the root.
+module _ (region : Region) (accepted : Accepted region) where
+  -- Parents have smaller numbers, so as many steps as there are patients reach the root.
   rooted-after : (k s : ℕ) → ((p : ℕ) → patientAt region s .parent ≡ some p → s ≤ k)
       → Rooted region (lastFrom s (following region k (patientAt region s .parent))) s
   unfolding following
@@ -91,18 +69,18 @@ module _ (region : Region) (smaller : parentsSmaller region ≡ true) where
     where
       go : (o : Option ℕ) → patientAt region s .parent ≡ o → Rooted region s s
       go none e = top e refl
-      go (some p) e = absurd (omega (arith, few p e, parent-smaller s p e .0))
+      go (some p) e = absurd (omega (arith, few p e, parent-smaller region accepted s p e .0))
   rooted-after (suc k) s few = go (patientAt region s .parent) refl (rooted-after k)
     where
       go : (o : Option ℕ) → patientAt region s .parent ≡ o
           → ((p : ℕ) → ((q : ℕ) → patientAt region p .parent ≡ some q → p ≤ k) → Rooted region (lastFrom p (following region k (patientAt region p .parent))) p)
           → Rooted region (lastFrom s (following region (suc k) o)) s
       go none e ih = top e refl
-      go (some p) e ih = up p e (ih p (λ q d. omega (arith, few p e, parent-smaller s p e .0)))
+      go (some p) e ih = up p e (ih p (λ q d. omega (arith, few p e, parent-smaller region accepted s p e .0)))
 
   rooted : (s : ℕ) → Rooted region (rootOf region s) s
   unfolding rootOf ancestors
-  rooted s = rooted-after (length (region .patients)) s (λ p e. omega (arith, parent-smaller s p e .1))
+  rooted s = rooted-after (length (region .patients)) s (λ p e. omega (arith, parent-smaller region accepted s p e .1))
 
   -- A patient has the root of its ancestors, and the root has no parent and no larger number.
   root-of-ancestor : (a b : ℕ) → b ∈ ancestors region a → rootOf region a ≡ rootOf region b
@@ -117,7 +95,7 @@ module _ (region : Region) (smaller : parentsSmaller region ≡ true) where
     where
       go : {r s : ℕ} → Rooted region r s → r ≤ s
       go (top e h) = omega arith
-      go {s} (up p e h) = omega (arith, go h, parent-smaller s p e .0)
+      go {s} (up p e h) = omega (arith, go h, parent-smaller region accepted s p e .0)
 
   -- The tree of a patient holds patients only.
   pub tree-known : (r s : ℕ) → r < length (region .patients) → treeOf region r s ≡ true → s < length (region .patients)
@@ -125,7 +103,7 @@ module _ (region : Region) (smaller : parentsSmaller region ≡ true) where
     where
       go : Rooted region r s → s < length (region .patients)
       go (top q d) = rw (← d) h
-      go (up p q d) = parent-smaller s p q .1
+      go (up p q d) = parent-smaller region accepted s p q .1
 
   -- The tree of a root: the root, and the patients that have it as an ancestor.
   pub tree-members : (r s : ℕ) → patientAt region r .parent ≡ none → treeOf region r s ≡ contains (s ∷ ancestors region s) r
@@ -148,31 +126,25 @@ module _ (region : Region) (smaller : parentsSmaller region ≡ true) where
 
   -- ---- tables
 
-  module _ (related : membersRelated region ≡ true) where
-    -- Question 10: the members of a table have one root.
-    one-root : (t : Table) → t ∈ region .tables → {a b : ℕ} → a ∈ t .members → b ∈ t .members → rootOf region a ≡ rootOf region b
-    unfolding membersRelated
-    one-root t k {a} {b} i j = elim (every-two-in _ (t .members) (every-in _ (region .tables) related k) i j) [
-      | inl e ↦ ap (rootOf region) e
-      | inr r ↦ elim r [ inl e ↦ go a b (either _ e) | inr e ↦ sym (go b a (either _ e)) ]
-    ]
-      where
-        go : (a b : ℕ) → (contains (ancestors region a) b ≡ true) ⊎ (contains (ancestors region b) a ≡ true) → rootOf region a ≡ rootOf region b
-        go a b (inl e) = root-of-ancestor a b (contains-out (ancestors region a) b e)
-        go a b (inr e) = sym (root-of-ancestor b a (contains-out (ancestors region b) a e))
+  -- The members of a constraint have one root.
+  one-root : (t : Table) → t ∈ constraints region → (a b : ℕ) → a ∈ t .members → b ∈ t .members → rootOf region a ≡ rootOf region b
+  one-root t k a b i j = elim (constraint-related region accepted t k a b i j) [
+    | inl e ↦ ap (rootOf region) e
+    | inr r ↦ elim r [ inl above ↦ root-of-ancestor a b above | inr above ↦ sym (root-of-ancestor b a above) ]
+  ]
 
-    -- So a set that is given by the roots is closed, whoever has a bed already.
-    pub roots-closed : (f : ℕ → Bool) (bedded : Patients) → Closed region (λ s. f (rootOf region s)) bedded
-    roots-closed f bedded t k held s i =
-        let (a, j, h) = any-out (λ s. f (rootOf region s)) (t .members) held in
-        ap (λ r. f r || bedded s) (one-root t k i j) ∙ ap (λ b. b || bedded s) h
+  -- So a set that is given by the roots is closed, whoever has a bed already.
+  pub roots-closed : (f : ℕ → Bool) (bedded : Patients) → Closed region (λ s. f (rootOf region s)) bedded
+  roots-closed f bedded t k held s i =
+      let (a, j, h) = any-out (λ s. f (rootOf region s)) (t .members) held in
+      ap (λ r. f r || bedded s) (one-root t k s a i j) ∙ ap (λ b. b || bedded s) h
 
-    -- And no table joins sets that are told apart by the roots.
-    pub roots-apart : (f g : ℕ → Bool) → ((r : ℕ) → f r ≡ true → g r ≡ false) → Apart region (λ s. f (rootOf region s)) (λ s. g (rootOf region s))
-    roots-apart f g differ t k e = not-eq-not .0 (λ d.
-        let (a, i, h) = any-out (λ s. f (rootOf region s)) (t .members) e in
-        let (b, j, q) = any-out (λ s. g (rootOf region s)) (t .members) d in
-        true≢false (sym q ∙ ap g (one-root t k j i) ∙ differ (rootOf region a) h))
+  -- And no table joins sets that are told apart by the roots.
+  pub roots-apart : (f g : ℕ → Bool) → ((r : ℕ) → f r ≡ true → g r ≡ false) → Apart region (λ s. f (rootOf region s)) (λ s. g (rootOf region s))
+  roots-apart f g differ t k e = not-eq-not .0 (λ d.
+      let (a, i, h) = any-out (λ s. f (rootOf region s)) (t .members) e in
+      let (b, j, q) = any-out (λ s. g (rootOf region s)) (t .members) d in
+      true≢false (sym q ∙ ap g (one-root t k b a j i) ∙ differ (rootOf region a) h))
 
 -- ---- one tree after another
 
@@ -189,15 +161,15 @@ trees-split region k s = go (rootOf region s) (ℕ-view (rootOf region s) k)
 pub roots-none : (region : Region) (s : ℕ) → rootsBelow region 0 s ≡ false
 roots-none region s = le-ltb (rootOf region s) 0 (omega arith)
 
-module _ (region : Region) (smaller : parentsSmaller region ≡ true) where
+module _ (region : Region) (accepted : Accepted region) where
   -- No table joins them.
-  pub trees-apart : membersRelated region ≡ true → (k : ℕ) → Apart region (rootsBelow region k) (treeOf region k)
-  trees-apart related k = roots-apart region smaller related (λ r. ltb r k) (λ r. eqb r k) (λ r h. ne-eqb r k (λ e. omega (arith, ltb-true r k h)))
+  pub trees-apart : (k : ℕ) → Apart region (rootsBelow region k) (treeOf region k)
+  trees-apart k = roots-apart region accepted (λ r. ltb r k) (λ r. eqb r k) (λ r h. ne-eqb r k (λ e. omega (arith, ltb-true r k h)))
 
   -- A patient with a parent is nobody's root.
   pub roots-skip : (k p : ℕ) → patientAt region k .parent ≡ some p → (s : ℕ) → rootsBelow region (suc k) s ≡ rootsBelow region k s
   roots-skip k p e s = go (trees-split region k s)
-      (ne-eqb (rootOf region s) k (λ q. Option·none-ne-some p (sym (root-top region smaller s) ∙ ap (λ r. patientAt region r .parent) q ∙ e)))
+      (ne-eqb (rootOf region s) k (λ q. Option·none-ne-some p (sym (root-top region accepted s) ∙ ap (λ r. patientAt region r .parent) q ∙ e)))
     where
       go : {a b c : Bool} → Part a b c → c ≡ false → a ≡ b
       go first h = refl
@@ -206,4 +178,4 @@ module _ (region : Region) (smaller : parentsSmaller region ≡ true) where
 
   -- Every patient has one of the patients for its root.
   pub roots-all : (s : ℕ) → s < length (region .patients) → rootsBelow region (length (region .patients)) s ≡ true
-  roots-all s h = lt-ltb (rootOf region s) (length (region .patients)) (omega (arith, root-at-most region smaller s))
+  roots-all s h = lt-ltb (rootOf region s) (length (region .patients)) (omega (arith, root-at-most region accepted s))

@@ -1,20 +1,16 @@
 -- The two ends: the rows of the whole region are what its list may hold, and of no patients there is one row.
-use mathlib.Core.Path.{sym, ap, _∙_}
+use mathlib.Core.Path.{sym, _∙_}
 use mathlib.Core.Logic.{_↔_}
 use mathlib.Core.Bool.{true≢false, not-eq-not}
 use native.Mathlib.Omega.{arith}
-use borrow.Author.Tests.{ltb-true, eqb-true}
-use Rattle.definitions.specs.Basics.{ℕ, _<_, _≡_, refl, true, false, _&&_, List, [], _∷_, length, eqb, ltb, any, every, keep}
-use Rattle.definitions.specs.Limits.{memberCount, limits, within}
+use Rattle.definitions.specs.Basics.{ℕ, _<_, _≡_, refl, true, false, List, [], _∷_, length, keep}
 use Rattle.definitions.specs.Syntax.{Table, Region}
 use Rattle.definitions.specs.Plans.{Plan, costOver, constraints, total, Row, listOf}
-use Rattle.definitions.specs.Questions.{countsTrue, membersRight}
-use Rattle.ranking.specs.Members.{_∈_, here}
+use Rattle.ranking.specs.Members.{_∈_}
 use Rattle.ranking.specs.First.{First, first-iff, first-unique}
-use Rattle.theorems.specs.Tests.{both}
 use Rattle.theorems.specs.List.{rowOrder, Allowed, list-first}
-use Rattle.theorems.specs.Kept.{every-in, any-in, any-out}
-use Rattle.theorems.specs.Accepted.{at-least}
+use Rattle.theorems.specs.Kept.{any-in, any-out, keep-all}
+use Rattle.theorems.specs.Accepted.{Accepted, constraint-held, constraint-known}
 use Rattle.partial_rows.specs.Adding.{addBeds, add-zeros}
 use Rattle.partial_rows.specs.Sets.{Patients}
 use Rattle.partial_rows.specs.Rows.{holds, tablesOf, noBeds, emptyRow, BedsOf, RowOf}
@@ -22,32 +18,17 @@ use Rattle.partial_rows.specs.Costs.{keep-same}
 use Rattle.partial_rows.specs.Beds.{beds-same, empty-beds, fits-beds}
 use Rattle.partial_rows.specs.Splitting.{row-by-beds}
 
--- What is kept by a test that all pass, and by one that none passes.
-keep-all : {A : Type 0} (l : List A) → keep (λ x. true) l ≡ l
-keep-all [] = refl
-keep-all {A} (x ∷ l) = ap {B = List A} (λ r. x ∷ r) (keep-all l)
-
+-- What is kept by a test that none passes.
 keep-none : {A : Type 0} (l : List A) → keep (λ x. false) l ≡ []
 keep-none [] = refl
 keep-none (x ∷ l) = keep-none l
 
 -- ---- the whole region
 
--- Questions 3 and 7 see to it that every table has a member among the patients.
-pub tables-held : (region : Region) (D : Patients) → countsTrue region ≡ true → membersRight region ≡ true
-    → ((s : ℕ) → s < length (region .patients) → D s ≡ true) → (t : Table) → t ∈ constraints region → holds D t ≡ true
-unfolding countsTrue membersRight limits
-tables-held region D counted right all t k =
-    let (counts, rising) = both (within memberCount (length (t .members)) && every (λ s. ltb s (region .patientCount)) (t .members)) (every-in _ (region .tables) right k) in
-    let (one, fit) = both (within memberCount (length (t .members))) counts in
-    go (t .members) (at-least memberCount (length (t .members)) one) fit
-  where
-    number : length (region .patients) ≡ region .patientCount
-    number = eqb-true _ _ (both (eqb (length (region .patients)) (region .patientCount)) counted .0)
-
-    go : (members : List ℕ) → 0 < length members → every (λ s. ltb s (region .patientCount)) members ≡ true → any D members ≡ true
-    go [] h e = absurd (omega arith)
-    go (s ∷ members) h e = any-in D (s ∷ members) (here refl) (all s (omega (arith, number, ltb-true s (region .patientCount) (both (ltb s (region .patientCount)) e .0))))
+-- A set of all patients has a member of every constraint of an accepted region.
+pub tables-held : (region : Region) (D : Patients) → Accepted region → ((s : ℕ) → s < length (region .patients) → D s ≡ true)
+    → (t : Table) → t ∈ constraints region → holds D t ≡ true
+tables-held region D accepted all t k = let (s, i) = constraint-held region accepted t k in any-in D (t .members) i (all s (constraint-known region accepted t k s i))
 
 module _ (region : Region) (D : Patients) (all : (s : ℕ) → s < length (region .patients) → D s ≡ true)
     (held : (t : Table) → t ∈ constraints region → holds D t ≡ true) where

@@ -11,9 +11,9 @@ use Rattle.definitions.specs.Questions.{roomForRows, areasLongEnough}
 use Rattle.definitions.specs.Outcomes.{written, outcomeOf}
 use Rattle.ranking.specs.Members.{_∈_, getD-in}
 use Rattle.theorems.specs.Tests.{both}
+use Rattle.theorems.specs.Accepted.{Accepted}
 use Rattle.held_region.specs.declared.Region.{Region}
 use Rattle.held_region.specs.Outline.{said}
-use Rattle.buckets.specs.Terms.{Planned}
 use Rattle.row_list.specs.Rows.{rowIn, rowsIn}
 use Rattle.row_list.specs.Laws.{cut-long, cut-at}
 use Rattle.row_writer.specs.Writing.{RowsWritten}
@@ -44,8 +44,8 @@ module _ (h : Region) (store : List ℕ) {long : Bool} (beds costs work : List �
     pub all-long : (h .m * h .v ≤ length beds) × (h .m ≤ length costs) × (16_384 ≤ length work)
     all-long = areas-long (h .v) (h .m) (length beds) (length costs) (length work) (sym asked ∙ yes-twelve)
 
-    pub asks-list : Planned h store → AsksRegion h store work
-    asks-list planned = record { planned = planned; long = omega (arith, all-long .2) }
+    pub asks-list : Accepted (said h store) → AsksRegion h store work
+    asks-list accepted = record { accepted = accepted; long = omega (arith, all-long .2) }
 
 -- Rows that lie in an area.
 module _ (v n : ℕ) (area : List ℕ) {rows : List Row} (is : rowsIn v n area ≡ rows) where

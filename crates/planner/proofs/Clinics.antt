@@ -2,28 +2,24 @@
 use mathlib.Core.Path.{_≡_, refl, sym, ap, _∙_}
 use mathlib.Core.Bool.{true≢false}
 use Prim.Native.Nat.{_≤_}
-use native.Mathlib.Nat.{le-trans, mul-le-mul-right}
 use native.Mathlib.Omega.{arith}
 use borrow.Author.Tests.{eqb-true}
-use Rattle.definitions.specs.Basics.{ℕ, _<_, true, false, not, Option, none, some, Option·getD, List, [], _∷_, length, eqb, isEmpty}
-use Rattle.definitions.specs.Limits.{limits, within, clinic, entry}
+use Rattle.definitions.specs.Basics.{ℕ, _<_, true, false, not, List, [], _∷_, eqb, isEmpty}
+use Rattle.definitions.specs.Limits.{limits, within, clinic}
 use Rattle.definitions.specs.Syntax as Said
 use Rattle.definitions.specs.Syntax.{patientsOf}
-use Rattle.definitions.specs.Plans.{Row, costOver}
-use Rattle.definitions.specs.Sheets.{ownTables, ownCost, ownRow, sheetOf}
-use Rattle.definitions.specs.Questions.{patientsWithin, entriesWithin, clinicPresent}
+use Rattle.definitions.specs.Plans.{Row}
+use Rattle.definitions.specs.Sheets.{ownRow, sheetOf}
+use Rattle.definitions.specs.Questions.{patientsWithin, clinicPresent}
 use Rattle.ranking.specs.Members.{_∈_}
 use Rattle.theorems.specs.Tests.{both}
-use Rattle.theorems.specs.Kept.{every-in, any-out, keep-short}
-use Rattle.theorems.specs.Accepted.{at-most, cost-most}
+use Rattle.theorems.specs.Kept.{every-in, any-out}
+use Rattle.theorems.specs.Accepted.{Accepted, at-most, own-small}
 use Rattle.theorems.specs.SheetRows.{sheet-rows}
-use Rattle.patient_set.specs.Lists.{every-keep}
 use Rattle.patient_set.specs.Sets.{members}
 use Rattle.patient_set.specs.Laws.{members-empty}
 use Rattle.held_region.specs.declared.Region.{Region}
 use Rattle.held_region.specs.Outline.{outline}
-use Rattle.buckets.specs.Terms.{Answered}
-use Rattle.buckets.specs.Right.{tables-few}
 use Rattle.planner.specs.Asked.{present-asked}
 
 -- A number beyond the limits of clinics has none.
@@ -49,17 +45,6 @@ unfolding limits
 clinic-narrow c inside = omega (arith, at-most clinic c inside)
 
 -- Each own cost is at most 64,000,000.
-pub own-costs-small : (r : Said.Region) → Answered r → (c : ℕ) (z : Row) → z ∈ sheetOf r c → z .cost ≤ 64_000_000
-unfolding ownRow ownCost ownTables entriesWithin limits
-own-costs-small r answered c z k =
-    let (w, i, e) = sheet-rows r c z k in
-    let most = go (w .beds) (costOver (ownTables r c) r (w .beds)) refl in
-    omega (arith, most, ap (λ (x : Row). x .cost) e)
-  where
-    few : length (ownTables r c) ≤ 64
-    few = le-trans (keep-short _ (r .tables)) (tables-few r answered)
-
-    go : (plan : List ℕ) (o : Option ℕ) → costOver (ownTables r c) r plan ≡ o → Option·getD o 0 ≤ 64_000_000
-    go plan none e = omega arith
-    go plan (some t) e =
-        le-trans (cost-most r plan (ownTables r c) t (every-keep _ _ (r .tables) (answered .entriesFit)) e) (mul-le-mul-right (limits entry .highest) few)
+pub own-costs-small : (r : Said.Region) → Accepted r → (c : ℕ) (z : Row) → z ∈ sheetOf r c → z .cost ≤ 64_000_000
+unfolding ownRow
+own-costs-small r accepted c z k = let (w, i, e) = sheet-rows r c z k in omega (arith, own-small r accepted c w, ap (λ (x : Row). x .cost) e)

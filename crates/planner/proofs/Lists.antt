@@ -4,18 +4,16 @@ use Prim.Native.Nat.{_≤_}
 use native.Mathlib.Nat.{le-trans, mul-le-mul-right}
 use native.Mathlib.Omega.{arith}
 use Rattle.definitions.specs.Basics.{ℕ, Bool, true, false, List, [], _∷_, map, length, replicate}
-use Rattle.definitions.specs.Limits.{limits}
 use Rattle.definitions.specs.Syntax as Said
 use Rattle.definitions.specs.Plans.{Row, listOf}
 use Rattle.definitions.specs.Questions.{areasLongEnough}
 use Rattle.definitions.specs.Outcomes.{written, outcomeOf}
 use Rattle.ranking.specs.Members.{_∈_}
-use Rattle.theorems.specs.Accepted.{total-most}
+use Rattle.theorems.specs.Accepted.{Accepted, total-small}
 use Rattle.theorems.specs.List.{list-first}
 use Rattle.partial_rows.specs.Padding.{cut}
 use Rattle.held_region.specs.declared.Region.{Region}
 use Rattle.held_region.specs.Outline.{said}
-use Rattle.buckets.specs.Terms.{Answered, Planned}
 use Rattle.row_list.specs.Rows.{rowsIn}
 use Rattle.row_list.specs.Laws.{rows-take}
 use Rattle.row_sums.specs.Sums.{part}
@@ -30,9 +28,9 @@ use Rattle.planner.specs.Lists.{longEnough, RegionListed}
 use Rattle.planner.proofs.Areas.{question, all-long, rows-counted, narrow, written-out}
 
 -- A list that was found, and where its rows lie.
-module _ (h : Region) (store : List ℕ) (planned : Planned h store) {n : ℕ} {work area : List ℕ} (gives : GivesRegion h store work area n) where
+module _ (h : Region) (store : List ℕ) (accepted : Accepted (said h store)) {n : ℕ} {work area : List ℕ} (gives : GivesRegion h store work area n) where
   pub most : n ≤ 64
-  most = omega (arith, gives .count, counts-few h store planned .1)
+  most = omega (arith, gives .count, counts-few h store accepted .1)
 
   found : rowsIn (h .v) n area ≡ listOf (said h store)
   unfolding part
@@ -45,11 +43,10 @@ module _ (h : Region) (store : List ℕ) (planned : Planned h store) {n : ℕ} {
   cleared e = e ∙ ap (λ k. replicate k 0) (gives .long)
 
 -- Each total is at most 64,000,000.
-totals-small : (r : Said.Region) → Answered r → (z : Row) → z ∈ listOf r → z .cost ≤ 64_000_000
-unfolding limits
-totals-small r answered z k = total-most r (z .beds) (z .cost) (answered .counted) (answered .countsFit) (answered .entriesFit) (list-first r .sound k .priced)
+totals-small : (r : Said.Region) → Accepted r → (z : Row) → z ∈ listOf r → z .cost ≤ 64_000_000
+totals-small r accepted z k = total-small r accepted (z .beds) (z .cost) (list-first r .sound k .priced)
 
-module _ (h : Region) (store : List ℕ) (planned : Planned h store) {long : Bool} (beds costs work : List ℕ)
+module _ (h : Region) (store : List ℕ) (accepted : Accepted (said h store)) {long : Bool} (beds costs work : List ℕ)
     (asked : long ≡ longEnough (h .v) (h .m) (length beds) (length costs) (length work)) where
   abbrev r : Said.Region
   r = said h store
@@ -63,12 +60,12 @@ module _ (h : Region) (store : List ℕ) (planned : Planned h store) {long : Boo
     writable =
         let (beds-long, costs-long, work-long) = all-long h store beds costs work asked yes-twelve in
         record {
-          patients = counts-few h store planned .0;
-          wanted = most h store planned gives;
-          held = omega (arith, most h store planned gives, gives .long, work-long);
+          patients = counts-few h store accepted .0;
+          wanted = most h store accepted gives;
+          held = omega (arith, most h store accepted gives, gives .long, work-long);
           bedsLong = le-trans (mul-le-mul-right (h .v) (gives .count)) beds-long;
           costsLong = le-trans (gives .count) costs-long;
-          narrow = narrow (h .v) n area (found h store planned gives) (totals-small r planned);
+          narrow = narrow (h .v) n area (found h store accepted gives) (totals-small r accepted);
         }
 
     -- No row is written of an empty list.
@@ -76,18 +73,18 @@ module _ (h : Region) (store : List ℕ) (planned : Planned h store) {long : Boo
         → RegionListed r beds costs work Nothing bedsAfter costsAfter after
     unfolding outcomeOf
     listed-nothing none-found {bedsAfter} {costsAfter} rows zeros =
-        let count = found-count h store planned gives in
-        let none-allowed = list-none r planned count none-found in
-        let empty : rowsIn (h .v) n area ≡ [] = found h store planned gives ∙ no-list r planned count none-found in
+        let count = found-count h store accepted gives in
+        let none-allowed = list-none r accepted count none-found in
+        let empty : rowsIn (h .v) n area ≡ [] = found h store accepted gives ∙ no-list r accepted count none-found in
         let same-beds : bedsAfter ≡ beds = rows .eachBed ∙ ap (λ l. written 0 (h .v) (λ row. row .beds) l beds) empty in
         let same-costs : costsAfter ≡ costs = rows .eachCost ∙ ap (λ l. written 0 1 (λ row. row .cost ∷ []) l costs) empty in
-        (λ i. listedOutcome Nothing (same-beds i) (same-costs i) (cleared h store planned gives zeros i))
+        (λ i. listedOutcome Nothing (same-beds i) (same-costs i) (cleared h store accepted gives zeros i))
         ∙ asked-outcome _ _ beds costs work (lastAsked r (areasLongEnough r beds costs work)) (no-thirteen r (question h store beds costs work asked yes-twelve) none-allowed)
 
     pub listed-rows : (n ≡ 0 → ⊥) → {bedsAfter costsAfter after : List ℕ} → RowsWritten (h .v) n area beds costs bedsAfter costsAfter → after ≡ replicate (length area) 0
         → RegionListed r beds costs work (Rows n) bedsAfter costsAfter after
     unfolding said
     listed-rows some-found rows zeros =
-        let allowed = list-some r planned (found-count h store planned gives) some-found in
-        written-out (h .v) n area (found h store planned gives) (h .v) beds costs work refl rows (cleared h store planned gives zeros)
+        let allowed = list-some r accepted (found-count h store accepted gives) some-found in
+        written-out (h .v) n area (found h store accepted gives) (h .v) beds costs work refl rows (cleared h store accepted gives zeros)
         ∙ asked-outcome _ _ beds costs work (lastAsked r (areasLongEnough r beds costs work)) (no-refusal r (question h store beds costs work asked yes-twelve) allowed)

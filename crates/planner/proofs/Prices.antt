@@ -9,10 +9,11 @@ use Rattle.definitions.specs.Plans.{total}
 use Rattle.definitions.specs.Questions.{firstNo, planFits}
 use Rattle.definitions.specs.Outcomes.{priced}
 use Rattle.theorems.specs.Tests.{both}
+use Rattle.theorems.specs.Accepted.{Accepted}
 use Rattle.held_region.specs.declared.Region.{Region}
 use Rattle.held_region.specs.Outline.{said}
 use Rattle.held_region.specs.Asked.{outline-count}
-use Rattle.buckets.specs.Terms.{Planned, Prepared}
+use Rattle.buckets.specs.Terms.{Prepared}
 use Rattle.pricing.specs.declared.Cost.{Cost}
 use Rattle.pricing.specs.Pricing.{costIn, AsksAll, GivesAll, PlanAsked}
 use Rattle.answers.specs.declared.Priced.{Priced}
@@ -21,7 +22,7 @@ use Rattle.answers.specs.Answers.{pricedOutcome}
 use Rattle.planner.specs.Counts.{counts-few}
 use Rattle.planner.specs.Prices.{RegionPriced, fitting}
 
-module _ (h : Region) (store : List ℕ) {words terms : List ℕ} (plan : List ℕ) (pre : Planned h store)
+module _ (h : Region) (store : List ℕ) {words terms : List ℕ} (plan : List ℕ) (pre : Accepted (said h store))
     (prepared : Prepared (said h store) store words terms) {answer : Bool} (asked : PlanAsked words (h .v) plan answer) where
   abbrev r : Said.Region
   r = said h store
@@ -49,13 +50,13 @@ module _ (h : Region) (store : List ℕ) {words terms : List ℕ} (plan : List �
       asks-all = record {
         region = r;
         prepared = prepared;
-        fits = fitting r plan beds (pre .counted) fits same;
+        fits = fitting r plan beds pre fits same;
         all = sym (outline-count h store);
         few = counts-few h store pre .0;
       }
 
       pub fit-priced : (cost : Cost) → GivesAll store words terms (h .v) beds cost → (p : Priced) → priced 0 (costIn cost) ≡ pricedOutcome p → RegionPriced r plan p
       fit-priced cost gives p e =
-          let is = gives r prepared (fitting r plan beds (pre .counted) fits same) (sym (outline-count h store)) in
+          let is = gives r prepared (fitting r plan beds pre fits same) (sym (outline-count h store)) in
           let whole = ap (λ n. take n beds) (sym as-many) ∙ same in
           sym e ∙ sym (ap₂ (λ b t. priced (firstNo ((14, b) ∷ [])) t) fits (sym (is ∙ ap (total r) whole)))

@@ -10,6 +10,7 @@ use Rattle.definitions.specs.Sheets.{sameBeds, ownRow, sheetOf}
 use Rattle.definitions.specs.Plans.{Row}
 use Rattle.definitions.specs.Questions.{firstNo, patientsWithin, clinicPresent, areasLongEnough}
 use Rattle.definitions.specs.Outcomes.{ListOutcome, written, foundBy, outcomeOf}
+use Rattle.theorems.specs.Accepted.{Accepted}
 use Rattle.theorems.specs.SheetAreas.{patients-few}
 use Rattle.patient_set.specs.Sets.{members}
 use Rattle.patient_set.specs.Laws.{size-most}
@@ -18,7 +19,6 @@ use Rattle.held_region.specs.Outline.{outline, said, Fits}
 use Rattle.held_region.specs.Asked.{outline-count}
 use Rattle.held_region.specs.Said.{clinic-said, patients-said}
 use Rattle.held_region.specs.Sound.{room}
-use Rattle.buckets.specs.Terms.{Planned}
 use Rattle.row_list.specs.Rows.{rowsIn}
 use Rattle.row_sums.specs.Sums.{part}
 use Rattle.row_sums.specs.Areas.{part-long}
@@ -55,7 +55,7 @@ module _ (h : Region) (store : List ℕ) {n set k count : ℕ} (beds costs work 
         held = omega (arith, part-is, gives .count, asks .asks .few);
         bedsLong = le-trans (mul-le-mul (le-trans (gives .count) (asks .count)) narrower) (asks .bedsLong);
         costsLong = omega (arith, gives .count, asks .count, asks .costsLong);
-        narrow = narrow k count (part 1 area) (rows (asks .asks .clinic) (asks .asks .given)) (own-costs-small (said h store) (asks .asks .planned) (asks .asks .clinic));
+        narrow = narrow k count (part 1 area) (rows (asks .asks .clinic) (asks .asks .given)) (own-costs-small (said h store) (asks .asks .accepted) (asks .asks .clinic));
       }
 
   pub sheet-written : {bedsAfter costsAfter after : List ℕ} → RowsWritten k count (part 1 area) beds costs bedsAfter costsAfter → after ≡ replicate (length area) 0
@@ -77,7 +77,7 @@ same-zeros width sheet beds costs area work e =
       work = replicate l 0;
     }) e
 
-module _ (h : Region) (store : List ℕ) (planned : Planned h store) (clinic set : ℕ) (is : members set ≡ patientsOf (outline h) clinic) (beds costs work : List ℕ)
+module _ (h : Region) (store : List ℕ) (accepted : Accepted (said h store)) (clinic set : ℕ) (is : members set ≡ patientsOf (outline h) clinic) (beds costs work : List ℕ)
     {empty : Bool} (told : empty ≡ isEmpty (members set)) where
   abbrev r : Said.Region
   r = said h store
@@ -114,10 +114,10 @@ module _ (h : Region) (store : List ℕ) (planned : Planned h store) (clinic set
           let (beds-long, costs-long, work-long) = all-long h store beds costs work asked yes-twelve in
           record {
             asks = record {
-              planned = planned;
+              accepted = accepted;
               clinic = clinic;
               given = given;
-              few = most h store planned gives;
+              few = most h store accepted gives;
               long = omega (arith, gives .long, work-long);
             };
             count = gives .count;
@@ -134,17 +134,17 @@ module _ (h : Region) (store : List ℕ) (planned : Planned h store) (clinic set
         pub sheeted-nothing : n ≡ 0 → RegionSheeted r clinic beds costs work Nothing bedsAfter costsAfter after
         unfolding outcomeOf sheetOf
         sheeted-nothing none-found =
-            let count = found-count h store planned gives in
-            let nothing : sheetOf r clinic ≡ [] = ap (λ l. firstOccurrences sameBeds [] (map (ownRow r clinic) l)) (no-list r planned count none-found) in
+            let count = found-count h store accepted gives in
+            let nothing : sheetOf r clinic ≡ [] = ap (λ l. firstOccurrences sameBeds [] (map (ownRow r clinic) l)) (no-list r accepted count none-found) in
             ap (λ (o : ListOutcome). sheetedOutcome Nothing (o .beds) (o .costs) (o .work))
             (left ∙ ap (λ sheet. outcomeWith (length (patientsOf r clinic)) sheet beds costs work 0) nothing)
-            ∙ last (no-thirteen r (question h store beds costs work asked yes-twelve) (list-none r planned count none-found))
+            ∙ last (no-thirteen r (question h store beds costs work asked yes-twelve) (list-none r accepted count none-found))
 
         pub sheeted-rows : (n ≡ 0 → ⊥) → RegionSheeted r clinic beds costs work (Rows k) bedsAfter costsAfter after
         sheeted-rows some-found =
-            let allowed = list-some r planned (found-count h store planned gives) some-found in
+            let allowed = list-some r accepted (found-count h store accepted gives) some-found in
             left ∙ last (no-refusal r (question h store beds costs work asked yes-twelve) allowed)
 
 -- What the set of a clinic's patients asks for.
-pub patients-planned : (h : Region) (store : List ℕ) → Planned h store → (Fits h) × (patientsWithin (outline h) ≡ true)
-patients-planned h store planned = (room h store (planned .countsFit), sym (patients-said h store) ∙ planned .patientsFit)
+pub patients-accepted : (h : Region) (store : List ℕ) → Accepted (said h store) → (Fits h) × (patientsWithin (outline h) ≡ true)
+patients-accepted h store accepted = (room h store (accepted .countsFit), sym (patients-said h store) ∙ accepted .patientsFit)

@@ -8,8 +8,7 @@ use Rattle.definitions.specs.Plans.{Row, listOf}
 use Rattle.definitions.specs.Questions.{clinicPresent, planAllowed}
 use Rattle.theorems.specs.Below.{by-number}
 use Rattle.theorems.specs.List.{list-empty}
-use Rattle.buckets.specs.Terms.{Answered}
-use Rattle.buckets.specs.Right.{plans-wanted}
+use Rattle.theorems.specs.Accepted.{Accepted, plans-wanted}
 
 -- Some element passes where something is kept.
 any-kept : {A : Type 0} (f : A → Bool) (g : ℕ → A) (l : List ℕ) → any f (map g l) ≡ not (isEmpty (keep (λ s. f (g s)) l))
@@ -29,7 +28,7 @@ present-asked r c =
     ap (any asked) (sym (by-number (r .patients) _)) ∙ any-kept asked (patientAt r) (patientNumbers r)
 
 -- Where at least one plan is wanted, question 13 asks whether the list has a row.
-module _ (r : Said.Region) (answered : Answered r) {n : ℕ} (count : n ≡ length (listOf r)) where
+module _ (r : Said.Region) (accepted : Accepted r) {n : ℕ} (count : n ≡ length (listOf r)) where
   pub no-list : n ≡ 0 → listOf r ≡ []
   no-list none-found = no-rows (listOf r) (sym count ∙ none-found)
     where
@@ -38,10 +37,10 @@ module _ (r : Said.Region) (answered : Answered r) {n : ℕ} (count : n ≡ leng
       no-rows (x ∷ l) e = absurd (omega arith)
 
   pub list-none : n ≡ 0 → planAllowed r ≡ false
-  list-none none-found = list-empty r (plans-wanted r answered .0) .0 (no-list none-found)
+  list-none none-found = list-empty r (plans-wanted r accepted .0) .0 (no-list none-found)
 
   pub list-some : (n ≡ 0 → ⊥) → planAllowed r ≡ true
-  list-some some-found = not-false-true (λ e. some-found (count ∙ ap length (list-empty r (plans-wanted r answered .0) .1 e)))
+  list-some some-found = not-false-true (λ e. some-found (count ∙ ap length (list-empty r (plans-wanted r accepted .0) .1 e)))
     where
       not-false-true : {b : Bool} → (b ≡ false → ⊥) → b ≡ true
       not-false-true {b = true} no-no = refl

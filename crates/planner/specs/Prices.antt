@@ -6,9 +6,10 @@ use borrow.Author.Tests.{eqb-true, ltb-true}
 use Rattle.definitions.specs.Basics.{ℕ, suc, _<_, _≡_, Bool, true, List, [], _∷_, length, take, eqb}
 use Rattle.definitions.specs.Syntax as Said
 use Rattle.definitions.specs.Plans.{Plan, bedOf, total}
-use Rattle.definitions.specs.Questions.{firstNo, regionOf, checkOf, countsTrue, planFits, askedByPrice}
+use Rattle.definitions.specs.Questions.{firstNo, regionOf, checkOf, planFits, askedByPrice}
 use Rattle.definitions.specs.Outcomes.{PriceOutcome, priced, priceFound}
 use Rattle.theorems.specs.Tests.{both}
+use Rattle.theorems.specs.Accepted.{Accepted, patients-counted}
 use Rattle.held_region.specs.Places.{every-place}
 use Rattle.buckets.specs.Terms.{Fitting}
 use Rattle.answers.specs.declared.Priced.{Priced}
@@ -24,13 +25,12 @@ abbrev pub RegionPriced : Said.Region → Plan → Priced → Type 0
 RegionPriced r plan answer = pricedOutcome answer ≡ regionPrice r plan
 
 -- A plan that fits, as the first beds of a longer list.
-pub fitting : (r : Said.Region) (plan beds : List ℕ) → countsTrue r ≡ true → planFits r plan ≡ true → take (length plan) beds ≡ plan → Fitting r beds
-unfolding countsTrue planFits
-fitting r plan beds counted fits same s h =
+pub fitting : (r : Said.Region) (plan beds : List ℕ) → Accepted r → planFits r plan ≡ true → take (length plan) beds ≡ plan → Fitting r beds
+unfolding planFits
+fitting r plan beds accepted fits same s h =
     let (long, each) = both (eqb (length plan) (r .patientCount)) fits in
-    let lines = eqb-true (length (r .patients)) (r .patientCount) (both (eqb (length (r .patients)) (r .patientCount)) counted .0) in
     let all = eqb-true (length plan) (r .patientCount) long in
-    let inside : s < length plan = omega arith in
+    let inside : s < length plan = omega (arith, patients-counted r accepted) in
     let bed : bedOf plan s ≡ bedOf beds s = ap (λ l. bedOf l s) (sym same) ∙ getD-take (length plan) beds s 0 inside in
     let below = ltb-true (bedOf plan s) _ (every-place _ (length (r .patients)) s each h) in
     omega (arith, bed, below)

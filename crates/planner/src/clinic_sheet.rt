@@ -5,7 +5,7 @@ ghost use Rattle.definitions.specs.Syntax.{patientsOf};
 ghost use Rattle.definitions.specs.Questions.{patientsWithin};
 ghost use Rattle.patient_set.specs.Sets.{members};
 ghost use Rattle.held_region.specs.Outline.{outline, Fits, said};
-ghost use Rattle.buckets.specs.Terms.{Planned};
+ghost use Rattle.theorems.specs.Accepted.{Accepted};
 ghost use Rattle.planner.specs.Sheets.{AsksSheet, SheetWritten, RegionSheeted};
 use crate::loaded::long_enough;
 use answers::Sheeted;
@@ -61,7 +61,7 @@ pub fn sheet_loaded(
     costs: &mut [u32],
     work: &mut [u32],
 ) -> Sheeted
-    requires { ⌜ Planned region (now store) ⌝ }
+    requires { ⌜ Accepted (said region (now store)) ⌝ }
     ensures { λ r. ⌜ RegionSheeted (said region (now (store .entry))) clinic (now (beds .entry)) (now (costs .entry)) (now (work .entry)) r (now (beds .exit)) (now (costs .exit)) (now (work .exit)) ⌝ }
 {
     let set = clinic_patients(region, clinic);

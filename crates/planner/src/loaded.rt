@@ -1,6 +1,6 @@
 // The entries over the region of an accepted file.
 ghost use mathlib.Core.Path.{_≡_};
-ghost use Rattle.buckets.specs.Terms.{Planned};
+ghost use Rattle.theorems.specs.Accepted.{Accepted};
 ghost use Rattle.held_region.specs.Outline.{said};
 ghost use Prim.Native.Nat.{_≤_};
 ghost use Rattle.planner.specs.Prices.{RegionPriced};
@@ -19,7 +19,7 @@ use search::list_region;
 
 // Question 14, then the plan's total.
 pub fn price_region(region: Region, store: &[u32; 4096], plan: &[u8]) -> Priced
-    requires { ⌜ Planned region (now store) ⌝ }
+    requires { ⌜ Accepted (said region (now store)) ⌝ }
     ensures { λ r. ⌜ RegionPriced (said region (now (store .entry))) (now (plan .entry)) r ⌝ }
 {
     let buckets = prepare(region, store);
@@ -52,7 +52,7 @@ pub fn list_loaded(
     costs: &mut [u32],
     work: &mut [u32],
 ) -> Listed
-    requires { ⌜ Planned region (now store) ⌝ }
+    requires { ⌜ Accepted (said region (now store)) ⌝ }
     ensures { λ r. ⌜ RegionListed (said region (now (store .entry))) (now (beds .entry)) (now (costs .entry)) (now (work .entry)) r (now (beds .exit)) (now (costs .exit)) (now (work .exit)) ⌝ }
 {
     if !long_enough(region.v, region.m, beds.len(), costs.len(), work.len()) {

@@ -14,9 +14,8 @@ use Rattle.definitions.specs.Questions.{checkOf, regionOf, roomForRows, areasLo
 use Rattle.definitions.specs.Outcomes.{Found, ListOutcome, written, outcomeOf}
 use Rattle.definitions.specs.Boundary.{bytesOf, resultAfter, callAreasLongEnough, callOf}
 use Rattle.theorems.specs.Tests.{both}
+use Rattle.theorems.specs.Accepted.{accepted, plans-wanted}
 use Rattle.byte_areas.specs.Costs.{held-costs, stored-costs}
-use Rattle.planner.specs.Loaded.{answered}
-use Rattle.buckets.specs.Right.{plans-wanted}
 use Rattle.planner.specs.Found.{AsksTwelve}
 use Rattle.planner_c.specs.Room.{costRoom}
 
@@ -64,7 +63,7 @@ module _ (file beds costs result part work : List ℕ) (room : length part ≡ c
   unfolding areasLongEnough callAreasLongEnough roomForRows
   long-same e =
       let beds-long = leb (region .plansWanted * region .patientCount) (length beds) in
-      let (some, few) = plans-wanted region (answered file e) in
+      let (some, few) = plans-wanted region (accepted file e .region) in
       ap₂ (λ a b. beds-long && leb (region .plansWanted * 1) a && b) room (le-leb 16_384 (length work) (omega arith))
       ∙ and-true (beds-long && leb (region .plansWanted * 1) (costRoom (length costs) (length result)))
       ∙ ap (λ b. beds-long && b) (room-same (region .plansWanted) (length costs) (length result) some few)

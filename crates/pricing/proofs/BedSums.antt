@@ -7,8 +7,8 @@ use Rattle.definitions.specs.Basics.{ℕ, _+_, _*_, _<_, some, List, length, ge
 use Rattle.definitions.specs.Syntax.{Region, patientAt}
 use Rattle.definitions.specs.Plans.{bedOf}
 use Rattle.theorems.specs.Sums.{plus, halves}
+use Rattle.theorems.specs.Accepted.{beds-few}
 use Rattle.buckets.specs.Terms.{Fitting, firstAt, nextAt, placeAt, Prepared}
-use Rattle.buckets.specs.Right.{beds-few}
 use Rattle.pricing.specs.Pricing.{sumIn, entryIn, Reads}
 use Rattle.pricing.specs.Costs.{fitting-set}
 use Rattle.pricing.specs.BedCosts.{Small, AsksEntries, GivesEntries, Asks, Gives}
@@ -30,7 +30,7 @@ module _ {store patients terms : List ℕ} {s count : ℕ} {beds zeros : List �
   counted r prepared known = asks .counts ∙ prepared .beds s known
 
   few-beds : count ≤ 16
-  few-beds = omega (arith, counted (asks .region) (asks .prepared) (asks .known), beds-few (asks .region) (asks .prepared .answered) s (asks .known))
+  few-beds = omega (arith, counted (asks .region) (asks .prepared) (asks .known), beds-few (asks .region) (asks .prepared .accepted) s (asks .known))
 
   nothing : (bed : ℕ) → bed < count → getD zeros bed 0 ≡ 0
   nothing bed h = ap (λ (l : List ℕ). getD l bed 0) (asks .zeros) ∙ getD-replicate 16 bed 0 0 (omega (arith, few-beds))

@@ -1,27 +1,25 @@
 -- A plan's total, bucket by bucket, from patient 0 on. Assumes nothing.
 use mathlib.Core.Path.{_≡_, refl, sym, ap, _∙_, fun-ext}
-use mathlib.Core.Bool.{true≢false, not-eq-not}
+use mathlib.Core.Bool.{not-eq-not}
 use mathlib.Core.Option.{Option·none-ne-some}
 use Prim.Native.Nat.{_≤_}
 use native.Mathlib.Nat.{add-zero}
 use native.Mathlib.Omega.{arith}
-use borrow.Author.Tests.{ltb-true, lt-ltb, le-ltb, le-leb, lt-leb, leb-true, eq-eqb, ne-eqb, eqb-true}
+use borrow.Author.Tests.{lt-ltb, le-ltb, le-leb, lt-leb, leb-true, eq-eqb, ne-eqb}
 use lib.Seq.{getD-take}
-use Rattle.definitions.specs.Basics.{ℕ, suc, _+_, _*_, _<_, Ordering, Bool, true, false, _&&_, Option, none, some, List, [], _∷_, length, take, keep, eqb, ltb, leb, every}
-use Rattle.definitions.specs.Syntax.{Table, Region}
+use Rattle.definitions.specs.Basics.{ℕ, _+_, _*_, _<_, Ordering, Bool, true, false, Option, none, some, List, [], _∷_, length, take, keep, eqb, ltb, leb}
+use Rattle.definitions.specs.Syntax.{Region}
 use Rattle.definitions.specs.Plans.{Plan, costOver, constraints, total}
-use Rattle.definitions.specs.Limits.{within, memberCount}
-use Rattle.definitions.specs.Questions.{countsTrue, membersRight}
 use Rattle.ranking.specs.Members.{_∈_, here, there}
 use Rattle.ranking.specs.Orders.{View, before, equal, after, ℕ-view}
-use Rattle.theorems.specs.Tests.{both}
-use Rattle.theorems.specs.Kept.{every-in, any-out}
+use Rattle.theorems.specs.Accepted.{Accepted, constraint-known}
+use Rattle.theorems.specs.Kept.{any-out}
 use Rattle.theorems.specs.Sums.{plus}
-use Rattle.partial_rows.specs.Sets.{Patients, only, Part, first, second, neither, Splits}
+use Rattle.partial_rows.specs.Sets.{only, Part, first, second, neither, Splits}
 use Rattle.partial_rows.specs.Rows.{holds, tablesOf}
 use Rattle.partial_rows.specs.Costs.{cost-same, cost-split}
 use Rattle.partial_rows.specs.Whole.{tables-held, tables-all}
-use Rattle.buckets.specs.Terms.{Answered, Fitting, bucketOf, Prepared}
+use Rattle.buckets.specs.Terms.{Fitting, bucketOf, Prepared}
 use Rattle.pricing.specs.Pricing.{costIn, Asks, Gives, AsksAll, GivesAll}
 use Rattle.pricing.specs.declared.Cost.{Cost}
 use Rattle.pricing.specs.declared.Cost.the-variants.{Forbidden, Of}
@@ -57,20 +55,10 @@ module _ (r : Region) (beds : Plan) where
   unfolding costFrom bucketOf
   next-bucket s = cost-split r (from-split s) beds ∙ ap (λ D. plus (costOver (tablesOf r D) r beds) (costOver (bucketOf r s) r beds)) (above-next s)
 
-  module _ (answered : Answered r) where
-    patients-counted : length (r .patients) ≡ r .patientCount
-    unfolding countsTrue
-    patients-counted = eqb-true _ _ (both (eqb (length (r .patients)) (r .patientCount)) (answered .counted) .0)
-
-    member-known : (t : Table) → t ∈ constraints r → (s : ℕ) → s ∈ t .members → s < length (r .patients)
-    unfolding membersRight
-    member-known t k s i =
-        let (counts, rising) = both (within memberCount (length (t .members)) && every (λ s. ltb s (r .patientCount)) (t .members)) (every-in _ (r .tables) (answered .membersFit) k) in
-        omega (arith, patients-counted, ltb-true s (r .patientCount) (every-in (λ s. ltb s (r .patientCount)) (t .members) (both (within memberCount (length (t .members))) counts .1) i))
-
+  module _ (accepted : Accepted r) where
     cost-all : costFrom 0 ≡ total r beds
     unfolding costFrom total
-    cost-all = ap (λ l. costOver l r beds) (tables-all r (leb 0) every-patient (tables-held r (leb 0) (answered .counted) (answered .membersFit) every-patient))
+    cost-all = ap (λ l. costOver l r beds) (tables-all r (leb 0) every-patient (tables-held r (leb 0) accepted every-patient))
       where
         every-patient : (s : ℕ) → s < length (r .patients) → leb 0 s ≡ true
         every-patient s h = le-leb 0 s (omega arith)
@@ -79,12 +67,12 @@ module _ (r : Region) (beds : Plan) where
     cost-none : (v : ℕ) → length (r .patients) ≤ v → costFrom v ≡ some 0
     unfolding costFrom costOver tablesOf
     cost-none v le = ap (λ l. costOver l r beds) (keep-none-in (holds (leb v)) (constraints r) (λ t k. not-eq-not .0 (λ e.
-        let (s, i, q) = any-out (leb v) (t .members) e in omega (arith, member-known t k s i, leb-true v s q))))
+        let (s, i, q) = any-out (leb v) (t .members) e in omega (arith, constraint-known r accepted t k s i, leb-true v s q))))
 
     -- The beds past V do not matter.
     cost-take : (v : ℕ) → length (r .patients) ≤ v → total r beds ≡ total r (take v beds)
     unfolding total
-    cost-take v le = cost-same r beds (take v beds) (constraints r) (λ t k s i. sym (getD-take v beds s 0 (omega (arith, member-known t k s i))))
+    cost-take v le = cost-same r beds (take v beds) (constraints r) (λ t k s i. sym (getD-take v beds s 0 (omega (arith, constraint-known r accepted t k s i))))
 
 -- A loop over the patients: the sum so far and what is left make the total, for every region that the words are prepared for.
 pub record Adds (store patients terms : List ℕ) (v : ℕ) (beds : Plan) (sum s : ℕ) : Type 0 where
@@ -107,14 +95,14 @@ plus-none (some y) (some z) x e = absurd (Option·none-ne-some z (sym e))
 
 module _ {store patients terms : List ℕ} {v : ℕ} {beds : Plan} where
   pub adds-start : Adds store patients terms v beds 0 0
-  adds-start = record { few = omega arith; left = λ r prepared fits all. plus-end (costFrom r beds 0) ∙ cost-all r beds (prepared .answered) }
+  adds-start = record { few = omega arith; left = λ r prepared fits all. plus-end (costFrom r beds 0) ∙ cost-all r beds (prepared .accepted) }
 
   module _ {sum s : ℕ} (adds : Adds store patients terms v beds sum s) where
     pub adds-done : v ≤ s → GivesAll store patients terms v beds (Of sum)
     adds-done end r prepared fits all =
         ap {B = Option ℕ} some (omega arith)
-        ∙ ap (λ o. plus o (some sum)) (sym (cost-none r beds (prepared .answered) s (omega (arith, all))))
-        ∙ adds .left r prepared fits all ∙ cost-take r beds (prepared .answered) v (omega (arith, all))
+        ∙ ap (λ o. plus o (some sum)) (sym (cost-none r beds (prepared .accepted) s (omega (arith, all))))
+        ∙ adds .left r prepared fits all ∙ cost-take r beds (prepared .accepted) v (omega (arith, all))
 
     module _ (more : s < v) {cost : Cost} (gives : Gives store patients terms s beds cost) where
       known : (r : Region) → v ≡ length (r .patients) → s < length (r .patients)
@@ -124,7 +112,7 @@ module _ {store patients terms : List ℕ} {v : ℕ} {beds : Plan} where
       adds-forbidden e r prepared fits all =
           sym (ap (λ o. plus o (some sum)) (next-bucket r beds s)
           ∙ plus-none (costFrom r beds (s + 1)) (costOver (bucketOf r s) r beds) sum (sym (gives .cost r prepared fits (known r all)) ∙ ap costIn e))
-          ∙ adds .left r prepared fits all ∙ cost-take r beds (prepared .answered) v (omega (arith, all))
+          ∙ adds .left r prepared fits all ∙ cost-take r beds (prepared .accepted) v (omega (arith, all))
 
       module _ (n : ℕ) (e : cost ≡ Of n) where
         pub adds-small : n ≤ 64_000_000

@@ -13,7 +13,6 @@ use Rattle.held_region.specs.declared.Region as Code
 use Rattle.held_region.specs.Outline.{outline, said}
 use Rattle.held_region.specs.Said.{clinic-said}
 use Rattle.definitions.specs.Syntax.{patientsOf}
-use Rattle.buckets.specs.Terms.{Planned}
 use Rattle.row_list.specs.Rows.{rowsIn}
 use Rattle.row_sums.specs.Sums.{part}
 use Rattle.row_sums.specs.Areas.{part-long}
@@ -53,9 +52,9 @@ module _ (h : Code.Region) (store : List ℕ) {n clinic at : ℕ} (out work : Li
 
   pub asks-sheet : Asks h store n set work
   asks-sheet =
-      let planned = asks .listed .planned in
+      let accepted = asks .listed .accepted in
       record {
-        planned = planned;
+        accepted = accepted;
         clinic = clinic;
         given = given;
         few = asks .listed .few;

@@ -14,7 +14,7 @@ use Rattle.held_region.specs.Refusals.{numberOf}
 use Rattle.reader.specs.declared.Loaded.{Loaded}
 use Rattle.reader.specs.Loading.{LoadedFrom, checks}
 use Rattle.planner.specs.Later.{after-check, refused-before, refusal-number}
-use Rattle.planner.specs.Loaded.{planned-fine}
+use Rattle.planner.specs.Loaded.{region-fine}
 use Rattle.planner.specs.Found.{lastAsked}
 use Rattle.text_writer.specs.Wrote.{Room, Wrote}
 use Rattle.row_printer.specs.Whole.{printed-size}
@@ -78,7 +78,7 @@ module _ (file out : List ℕ) where
 
       pub asks-text : (work : List ℕ) → 1_152 ≤ length work → AsksText (loaded .region) store out work
       asks-text work enough = record {
-        planned = planned-fine file loaded from holds;
+        accepted = region-fine file loaded from holds;
         long = enough;
         room = omega (arith, ap length (region-said ∙ ap regionText (sym (from .says holds))), room);
       }

@@ -9,7 +9,6 @@ use Rattle.definitions.specs.Plans.{Row, listOf}
 use Rattle.definitions.specs.Output.{printedRows}
 use Rattle.held_region.specs.declared.Region as Code
 use Rattle.held_region.specs.Outline.{said}
-use Rattle.buckets.specs.Terms.{Planned}
 use Rattle.row_list.specs.Rows.{rowsIn}
 use Rattle.row_list.specs.Laws.{cut-long}
 use Rattle.row_sums.specs.Sums.{part}
@@ -31,7 +30,7 @@ module _ (h : Code.Region) (store : List ℕ) (out work : List ℕ) (asks : Asks
   r = said h store
 
   few : n ≤ 64
-  few = omega (arith, gives .count, counts-few h store (asks .planned) .1)
+  few = omega (arith, gives .count, counts-few h store (asks .accepted) .1)
 
   -- As many rows as the list has.
   counted : n ≡ length (listOf r)
@@ -40,7 +39,7 @@ module _ (h : Code.Region) (store : List ℕ) (out work : List ℕ) (asks : Asks
   -- Question 13 is answered no.
   module _ (none-found : n ≡ 0) where
     nothing-said : regionText r ≡ line (text "refused" ∷ decimal 13 ∷ [])
-    nothing-said = nothing-text r (list-none r (asks .planned) counted none-found)
+    nothing-said = nothing-text r (list-none r (asks .accepted) counted none-found)
 
     pub refusal-room : Room (line (text "refused" ∷ decimal 13 ∷ [])) 0 out
     refusal-room =
@@ -55,13 +54,13 @@ module _ (h : Code.Region) (store : List ℕ) (out work : List ℕ) (asks : Asks
     all-left : Left (regionText r) 0 out (listText (rowsIn (h .v) n (part 0 area)) ∷ sheetsFrom r 0 ∷ []) out 0
     all-left =
         let list = gives .list in
-        rw list (none-yet _ (text-parts r (list-some r (asks .planned) counted some-found)))
+        rw list (none-yet _ (text-parts r (list-some r (asks .accepted) counted some-found)))
 
     pub list-printable : Printable (listText (rowsIn (h .v) n (part 0 area))) (h .v) n (part 0 area) 0 out
     list-printable =
         let part-is = part-long 0 area (omega (arith, gives .long, asks .long)) in
         record {
-          patients = counts-few h store (asks .planned) .0;
+          patients = counts-few h store (asks .accepted) .0;
           held = omega (arith, part-is, few);
           room = room-for all-left (asks .room);
         }
@@ -70,7 +69,7 @@ module _ (h : Code.Region) (store : List ℕ) (out work : List ℕ) (asks : Asks
       pub asks-sheets : AsksSheets h store n at now area
       asks-sheets =
           record {
-            listed = record { planned = asks .planned; few = few; long = omega (arith, gives .long, asks .long); list = gives .list };
+            listed = record { accepted = asks .accepted; few = few; long = omega (arith, gives .long, asks .long); list = gives .list };
             room = room-for (then-left all-left wrote) (asks .room);
           }
 

@@ -7,7 +7,6 @@ use Rattle.definitions.specs.Basics.{ℕ, _+_, _<_, List, [], _∷_, flatten}
 use Rattle.definitions.specs.Syntax.{Region}
 use Rattle.held_region.specs.declared.Region as Code
 use Rattle.held_region.specs.Outline.{said}
-use Rattle.buckets.specs.Terms.{Planned}
 use Rattle.text_writer.specs.Wrote.{Left, none-yet, room-for, then-left}
 use Rattle.printer.specs.Steps.{sheetsFrom, Kept, AsksClinic, GivesClinic, AsksSheets, GivesSheets}
 use Rattle.printer.proofs.Texts.{clinic-left, sheets-done}
@@ -28,7 +27,7 @@ module _ (h : Code.Region) (store : List ℕ) {n at : ℕ} (out work : List ℕ)
         let listed = asks .listed in
         record {
           listed = record {
-            planned = listed .planned;
+            accepted = listed .accepted;
             few = listed .few;
             long = omega (arith, so-far .kept .long, listed .long);
             list = so-far .kept .list ∙ listed .list;

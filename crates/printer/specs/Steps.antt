@@ -7,9 +7,9 @@ use Rattle.definitions.specs.Plans.{listOf}
 use Rattle.definitions.specs.Sheets.{sheetOf}
 use Rattle.definitions.specs.Questions.{firstNo, clinicPresent, planAllowed}
 use Rattle.definitions.specs.Output.{printedRows, printedAnswer}
+use Rattle.theorems.specs.Accepted.{Accepted}
 use Rattle.held_region.specs.declared.Region as Code
 use Rattle.held_region.specs.Outline.{said}
-use Rattle.buckets.specs.Terms.{Planned}
 use Rattle.row_sums.specs.Sums.{listAt}
 use Rattle.text_writer.specs.Wrote.{Room, Wrote}
 
@@ -25,9 +25,9 @@ sheetsFrom r c = flatMap (clinicText r) (numbersFrom c (16 - c))
 unfoldable pub regionText : Region → List ℕ
 regionText r = printedAnswer (firstNo ((13, planAllowed r) ∷ [])) r
 
--- The list of a planned region lies in the first part of the work area; afterwards it still does.
+-- The list of an accepted region lies in the first part of the work area; afterwards it still does.
 pub record Listed (h : Code.Region) (store : List ℕ) (n : ℕ) (work : List ℕ) : Type 0 where
-  pub planned : Planned h store
+  pub accepted : Accepted (said h store)
   pub few : n ≤ 64
   pub long : 1_152 ≤ length work
   pub list : listAt (h .v) n 0 work ≡ listOf (said h store)
@@ -55,7 +55,7 @@ GivesSheets h store at out after end = Wrote (sheetsFrom (said h store) 0) at ou
 
 -- The whole text.
 pub record AsksText (h : Code.Region) (store out work : List ℕ) : Type 0 where
-  pub planned : Planned h store
+  pub accepted : Accepted (said h store)
   pub long : 1_152 ≤ length work
   pub room : Room (regionText (said h store)) 0 out
 

@@ -12,6 +12,7 @@ use Rattle.definitions.specs.Syntax.{Region}
 use Rattle.ranking.specs.Members.{here, here-or-there, none-in-nil}
 use Rattle.ranking.specs.First.{First}
 use Rattle.theorems.specs.List.{rowOrder}
+use Rattle.theorems.specs.Accepted.{Accepted, patients-few, plans-wanted}
 use Rattle.patient_set.specs.Sets.{inSet, members}
 use Rattle.patient_set.specs.Lists.{contains-keep, contains-numbers}
 use Rattle.partial_rows.specs.Sets.{Patients, Part, first, second, neither, Splits}
@@ -25,8 +26,7 @@ use Rattle.held_region.specs.Asked.{outline-count}
 use Rattle.held_region.specs.Said.{parents-said, ancestors-said}
 use Rattle.held_region.specs.Sound.{room}
 use Rattle.definitions.specs.Questions.{parentsSmaller}
-use Rattle.buckets.specs.Terms.{Answered, Planned, Prepared}
-use Rattle.buckets.specs.Right.{patients-few, plans-wanted}
+use Rattle.buckets.specs.Terms.{Prepared}
 use Rattle.forest.specs.Trees.{Rooted, tree-beyond, tree-upward, tree-apart, trees-next}
 use Rattle.row_sums.specs.Sums.{part, listAt}
 use Rattle.search.specs.Lowest.{Upward}
@@ -70,17 +70,17 @@ pub record Listed (store patients terms roots : List ℕ) (v m size : ℕ) (now 
   pub first : (r : Region) → Planted r store patients terms roots v m → First rowOrder m (RowOf r (treesBelow r v k) (noBeds r)) (listAt v n 0 now)
 
 module _ {store patients terms roots : List ℕ} {v m : ℕ} {work : List ℕ} (asks : AsksForest store patients terms roots v m work) where
-  answered : Answered (asks .region)
-  answered = asks .planted .prepared .answered
+  accepted : Accepted (asks .region)
+  accepted = asks .planted .prepared .accepted
 
   few : v ≤ 32
-  few = omega (arith, asks .planted .counted, patients-few (asks .region) answered)
+  few = omega (arith, asks .planted .counted, patients-few (asks .region) accepted)
 
   some : 0 < m
-  some = omega (arith, asks .planted .wanted, plans-wanted (asks .region) answered .0)
+  some = omega (arith, asks .planted .wanted, plans-wanted (asks .region) accepted .0)
 
   wanted : m ≤ 64
-  wanted = omega (arith, asks .planted .wanted, plans-wanted (asks .region) answered .1)
+  wanted = omega (arith, asks .planted .wanted, plans-wanted (asks .region) accepted .1)
 
   pub forest-few : v ≤ 32
   forest-few = few
@@ -108,18 +108,18 @@ module _ {store patients terms roots : List ℕ} {v m : ℕ} {work : List ℕ} (
           count = listed .count;
           long = listed .long ∙ same-size;
           list = λ r planted.
-              let a = planted .prepared .answered in
+              let a = planted .prepared .accepted in
               let upto : k ≡ length (r .patients) = omega (arith, listed .upto, planted .counted) in
               let all : (s : ℕ) → s < length (r .patients) → treesBelow r v k s ≡ true =
-              (λ s h. trees-known r v k s (omega (arith, planted .counted)) ∙ ap (λ j. rootsBelow r j s) upto ∙ roots-all r (a .parentsFit) s h) in
-              whole-list r (treesBelow r v k) all (tables-held r (treesBelow r v k) (a .counted) (a .membersFit) all)
+              (λ s h. trees-known r v k s (omega (arith, planted .counted)) ∙ ap (λ j. rootsBelow r j s) upto ∙ roots-all r a s h) in
+              whole-list r (treesBelow r v k) all (tables-held r (treesBelow r v k) a all)
               (subst (λ j. First rowOrder j (RowOf r (treesBelow r v k) (noBeds r)) (listAt v n 0 now)) (planted .wanted) (listed .first r planted));
         }
 
     module _ (more : k < v) (w : ℕ) (is : (q : ℕ) → inSet w q ≡ (ltb q v && eqb (getD roots q 0) k)) where
       module _ (r : Region) (planted : Planted r store patients terms roots v m) where
-        a : Answered r
-        a = planted .prepared .answered
+        a : Accepted r
+        a = planted .prepared .accepted
 
         same : contains (members w) ≡ inSet w
         same = word-members w v few (tree-beyond (planted .rooted) a (planted .counted) w k is)
@@ -210,5 +210,5 @@ unfolding said
 planted h store prepared rooted =
     record { prepared = prepared; rooted = rooted-said h store rooted; counted = sym (outline-count h store); wanted = refl }
 
-pub parents-planned : (h : Code.Region) (store : List ℕ) → Planned h store → (Fits h) × (parentsSmaller (outline h) ≡ true)
-parents-planned h store a = (room h store (a .countsFit), sym (parents-said h store) ∙ a .parentsFit)
+pub parents-accepted : (h : Code.Region) (store : List ℕ) → Accepted (said h store) → (Fits h) × (parentsSmaller (outline h) ≡ true)
+parents-accepted h store a = (room h store (a .countsFit), sym (parents-said h store) ∙ a .parentsFit)

@@ -4,15 +4,12 @@ use mathlib.Core.Bool.{or-true}
 use borrow.Author.Tests.{eq-eqb}
 use Prim.Native.Nat.{_≤_}
 use native.Mathlib.Decide.{decLt}
-use native.Mathlib.Nat.{le-trans}
 use native.Mathlib.Omega.{arith}
 use lib.Seq.{getD-take}
 use lib.ListN.{List·getD-eq-default}
-use Rattle.definitions.specs.Basics.{ℕ, zero, suc, _+_, _*_, _<_, Bool, true, false, _||_, some, List, [], _∷_, _++_, map, length, take, replicate, sum, every, eqb, contains, noneOr}
-use Rattle.definitions.specs.Limits.{limits, within, entry}
+use Rattle.definitions.specs.Basics.{ℕ, zero, suc, _+_, _*_, _<_, Bool, true, false, _||_, some, List, [], _∷_, _++_, map, length, take, replicate, sum, eqb, contains}
 use Rattle.definitions.specs.Syntax.{Region}
-use Rattle.definitions.specs.Plans.{Plan, Row, bedOf, constraints}
-use Rattle.definitions.specs.Questions.{entriesWithin}
+use Rattle.definitions.specs.Plans.{Plan, Row, bedOf}
 use mathlib.Core.Logic.{inl, inr}
 use Rattle.ranking.specs.Members.{_∈_, here-or-there, none-in-nil, in-map}
 use Rattle.ranking.specs.First.{First, first-iff, Sorted}
@@ -20,9 +17,7 @@ use Rattle.ranking.specs.Growing.{Grown, Ready, ready-nil}
 use Rattle.ranking.specs.Combining.{Combined, Injective}
 use Rattle.ranking.specs.Mapped.{sorted-back}
 use Rattle.theorems.specs.List.{rowOrder}
-use Rattle.theorems.specs.Kept.{keep-short}
-use Rattle.theorems.specs.Accepted.{cost-most}
-use Rattle.patient_set.specs.Lists.{every-keep}
+use Rattle.theorems.specs.Accepted.{Accepted, beds-some, beds-few, part-small}
 use Rattle.patient_set.specs.Sets.{members}
 use Rattle.patient_set.specs.Laws.{size-most}
 use Rattle.partial_rows.specs.Sets.{Patients, Splits, not-both}
@@ -33,8 +28,7 @@ use Rattle.partial_rows.specs.Beds.{no-bed, inside, outside}
 use Rattle.partial_rows.specs.Contexts.{row-context}
 use Rattle.partial_rows.specs.Parts.{parts-injective, parts-combined}
 use Rattle.partial_rows.specs.Walk.{position-start, walk-finds}
-use Rattle.buckets.specs.Terms.{Answered, Fitting, leastAt, leastIn}
-use Rattle.buckets.specs.Right.{beds-some, beds-few, tables-few}
+use Rattle.buckets.specs.Terms.{Fitting, leastAt, leastIn}
 use Rattle.packed_rows.specs.declared.Row as Code
 use Rattle.packed_rows.specs.Packed.{rowOf, Fit}
 use Rattle.packed_rows.specs.Packing.{packedRow}
@@ -100,7 +94,7 @@ light-start {set} {head} fresh =
 
 module _ {r : Region} {D E : Patients} {store patients terms : List ℕ} {v m n : ℕ} {work : List ℕ} {set : ℕ} (treed : Treed r D E store patients terms v m n work set) (few : v ≤ 32) where
   zeros-fit : Fitting r (replicate 32 0)
-  zeros-fit s h = omega (arith, zero-bed 32 s, beds-some r (treed .prepared .answered) s h)
+  zeros-fit s h = omega (arith, zero-bed 32 s, beds-some r (treed .prepared .accepted) s h)
 
   -- The least numbers that the words say are those of the buckets.
   least-same : (l : List ℕ) → ((s : ℕ) → contains l s ≡ true → s < length (r .patients)) → sum (map (leastAt patients) l) ≡ sum (map (leastIn r) l)
@@ -147,37 +141,33 @@ module _ {r : Region} {D E : Patients} {store patients terms : List ℕ} {v m n 
 
 -- ---- rows are small
 
-module _ (r : Region) (answered : Answered r) (D : Patients) (placed : Plan) where
+module _ (r : Region) (accepted : Accepted r) (D : Patients) (placed : Plan) where
   rows-cost : (z : Row) → RowOf r D placed z → z .cost ≤ 64_000_000
-  unfolding entriesWithin tablesOf limits
-  rows-cost z row =
-      let most = cost-most r (addBeds placed (z .beds)) (tablesOf r D) (z .cost)
-      (every-keep (λ u. every (noneOr (within entry)) (u .entries)) (holds D) (constraints r) (answered .entriesFit)) (row .priced) in
-      let few : length (tablesOf r D) ≤ 64 = le-trans (keep-short (holds D) (constraints r)) (tables-few r answered) in
-      omega (arith, most, few)
+  unfolding tablesOf
+  rows-cost z row = part-small r accepted (holds D) (addBeds placed (z .beds)) (z .cost) (row .priced)
 
   rows-bed : (z : Row) → RowOf r D placed z → (s : ℕ) → bedOf (z .beds) s < 16
   rows-bed z row s = go (D s) refl (decLt s (length (r .patients)))
     where
       go : (b : Bool) → D s ≡ b → Dec (s < length (r .patients)) → bedOf (z .beds) s < 16
       go false e d = omega (arith, outside (row .fits) s e)
-      go true e (yes h) = omega (arith, inside (row .fits) s h e, beds-few r answered s h)
+      go true e (yes h) = omega (arith, inside (row .fits) s h e, beds-few r accepted s h)
       go true e (no h) =
           let past : length (z .beds) ≤ s = omega (arith, row .fits .long) in
           let none-there : bedOf (z .beds) s ≡ 0 = List·getD-eq-default (z .beds) 0 past in
           omega arith
 
 -- The sum of rows of two parts fits, since one of each two beds is 0.
-sum-fits : (r : Region) → Answered r → {D E F : Patients} → Splits D E F → (placed : Plan) (v : ℕ) (x y : Row) → Padded v x → Padded v y → RowOf r E placed (cut v x) → RowOf r F placed (cut v y)
+sum-fits : (r : Region) → Accepted r → {D E F : Patients} → Splits D E F → (placed : Plan) (v : ℕ) (x y : Row) → Padded v x → Padded v y → RowOf r E placed (cut v x) → RowOf r F placed (cut v y)
     → Fit x y
-sum-fits r answered {D} {E} {F} split placed v x y p q one two = record {
-  cost = omega (arith, rows-cost r answered E placed (cut v x) one, rows-cost r answered F placed (cut v y) two);
+sum-fits r accepted {D} {E} {F} split placed v x y p q one two = record {
+  cost = omega (arith, rows-cost r accepted E placed (cut v x) one, rows-cost r accepted F placed (cut v y) two);
   beds = λ s. elim (decLt s v) [ yes h ↦ known s h (E s) refl | no h ↦ omega (arith, padded-zero v x s p (omega arith), padded-zero v y s q (omega arith)) ];
 }
   where
     known : (s : ℕ) → s < v → (b : Bool) → E s ≡ b → bedOf (x .beds) s + bedOf (y .beds) s < 16
-    known s h true e = omega (arith, getD-take v (x .beds) s 0 h, getD-take v (y .beds) s 0 h, rows-bed r answered E placed (cut v x) one s, outside (two .fits) s (not-both split s e))
-    known s h false e = omega (arith, getD-take v (x .beds) s 0 h, getD-take v (y .beds) s 0 h, outside (one .fits) s e, rows-bed r answered F placed (cut v y) two s)
+    known s h true e = omega (arith, getD-take v (x .beds) s 0 h, getD-take v (y .beds) s 0 h, rows-bed r accepted E placed (cut v x) one s, outside (two .fits) s (not-both split s e))
+    known s h false e = omega (arith, getD-take v (x .beds) s 0 h, getD-take v (y .beds) s 0 h, outside (one .fits) s e, rows-bed r accepted F placed (cut v y) two s)
 
 -- ---- one more tree
 
@@ -254,7 +244,7 @@ module _ {store patients terms : List ℕ} {v m n : ℕ} {work : List ℕ} {set 
           second = gives .count;
           long = omega (arith, asks .long, replaced-long 1 work new fits long);
           fits = λ x y i j.
-              sum-fits (asks .region) (asks .treed .prepared .answered) (asks .treed .split) (noBeds (asks .region)) v x y (first-padded x i) (second-padded y j)
+              sum-fits (asks .region) (asks .treed .prepared .accepted) (asks .treed .split) (noBeds (asks .region)) v x y (first-padded x i) (second-padded y j)
               (one (asks .region) (asks .treed) .sound (in-map (cut v) i)) (two (asks .region) (asks .treed) .sound (in-map (cut v) j));
         }
 

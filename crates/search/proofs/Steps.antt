@@ -60,7 +60,7 @@ module _ {r : Region} {store patients terms : List ℕ} {v : ℕ} {head : Branch
 
 -- Four bits hold each bed that fits.
 pub low-beds : {r : Region} {store patients terms : List ℕ} {v : ℕ} {head : Branching} → Heads r store patients terms v head → (beds : List ℕ) → Fitting r beds → (q : ℕ) → q < v → bedOf beds q < 16
-low-beds {r} heads beds fits q h = fitting-low r (heads .prepared .answered) beds fits q (omega (arith, heads .counted))
+low-beds {r} heads beds fits q h = fitting-low r (heads .prepared .accepted) beds fits q (omega (arith, heads .counted))
 
 -- What is asked for on the way to the head below a bed.
 module _ {store patients terms : List ℕ} {head : Branching} {s bed : ℕ} (asks : AsksNext store patients terms head s bed) where

@@ -6,7 +6,7 @@ use native.Mathlib.Numerals.{add-one}
 use native.Mathlib.Omega.{arith}
 use lib.ListN.{set, drop}
 use borrow.Author.Tests.{eqb-true, not-true}
-use Rattle.definitions.specs.Basics.{ℕ, suc, _+_, _-_, _<_, Ordering, true, false, not, none, some, List, [], _∷_, length, take, eqb, isEmpty, insert, contains}
+use Rattle.definitions.specs.Basics.{ℕ, suc, _+_, _-_, _<_, Ordering, true, false, none, some, List, [], _∷_, length, take, eqb, isEmpty, insert, contains}
 use Rattle.definitions.specs.Syntax.{Region, patientAt}
 use Rattle.definitions.specs.Plans.{Row, costOver, compareRows}
 use Rattle.ranking.specs.Orders.{View, before, equal, after}
@@ -14,13 +14,13 @@ use Rattle.ranking.specs.Growing.{Grown, Ready}
 use Rattle.ranking.specs.Rising.{sorted-rising}
 use Rattle.theorems.specs.Tests.{both}
 use Rattle.theorems.specs.List.{rowOrder}
+use Rattle.theorems.specs.Accepted.{beds-few}
 use Rattle.patient_set.specs.Sets.{first}
 use Rattle.partial_rows.specs.Sets.{only, Splits}
 use Rattle.partial_rows.specs.Rows.{Branch, decidedTables, withBed}
 use Rattle.partial_rows.specs.Padding.{cut, Padded}
 use Rattle.partial_rows.specs.Walk.{BranchBelow, walk-leaf, walk-cut, walk-none, ready-bed, walk-bed, walk-skip, walk-all}
 use Rattle.buckets.specs.Terms.{bedsAt}
-use Rattle.buckets.specs.Right.{beds-few}
 use Rattle.packed_rows.specs.declared.Row as Code
 use Rattle.packed_rows.specs.Packed.{rowOf, isBefore}
 use Rattle.packed_rows.specs.Packing.{packedRow}
@@ -119,7 +119,7 @@ module _ {store patients terms : List ℕ} {v n m : ℕ} {area : List ℕ} {head
       fits r heads = omega (arith, sofar .counts, heads .prepared .beds s (known heads (sofar .lowest)))
 
       pub bed-small : bed < 16
-      bed-small = omega (arith, fits (asks .region) (asks .heads), beds-few (asks .region) (asks .heads .prepared .answered) s (known (asks .heads) (sofar .lowest)))
+      bed-small = omega (arith, fits (asks .region) (asks .heads), beds-few (asks .region) (asks .heads .prepared .accepted) s (known (asks .heads) (sofar .lowest)))
 
       pub asks-next : AsksNext store patients terms head s bed
       asks-next =

@@ -5,13 +5,14 @@ use Rattle.definitions.specs.Syntax.{Region}
 use Rattle.definitions.specs.Plans.{listOf}
 use Rattle.ranking.specs.First.{First}
 use Rattle.theorems.specs.List.{rowOrder}
+use Rattle.theorems.specs.Accepted.{Accepted}
 use Rattle.patient_set.specs.Sets.{members}
 use Rattle.partial_rows.specs.Sets.{Patients, Splits}
 use Rattle.partial_rows.specs.Rows.{noBeds, RowOf}
 use Rattle.partial_rows.specs.Parts.{Apart}
 use Rattle.held_region.specs.declared.Region as Code
 use Rattle.held_region.specs.Outline.{said}
-use Rattle.buckets.specs.Terms.{leastAt, Answered, Planned, Prepared}
+use Rattle.buckets.specs.Terms.{leastAt, Prepared}
 use Rattle.forest.specs.Trees.{Rooted}
 use Rattle.row_sums.specs.Sums.{part, listAt}
 use Rattle.search.specs.Lowest.{Upward}
@@ -85,7 +86,7 @@ pub record GivesForest (store patients terms roots : List ℕ) (v m : ℕ) (work
 -- ---- the whole region
 
 pub record AsksRegion (h : Code.Region) (store work : List ℕ) : Type 0 where
-  pub planned : Planned h store
+  pub accepted : Accepted (said h store)
   pub long : 1_152 ≤ length work
 
 pub record GivesRegion (h : Code.Region) (store work after : List ℕ) (n : ℕ) : Type 0 where

@@ -2,13 +2,13 @@
 use mathlib.Core.Path.{sym, ap}
 use native.Mathlib.Omega.{arith}
 use Rattle.definitions.specs.Basics.{ℕ, List, contains}
+use Rattle.theorems.specs.Accepted.{patients-few}
 use Rattle.patient_set.specs.Sets.{members}
 use Rattle.held_region.specs.declared.Region.{Region}
 use Rattle.held_region.specs.Outline.{said}
 use Rattle.held_region.specs.Asked.{outline-count}
 use Rattle.buckets.specs.Terms.{Prepared}
 use Rattle.buckets.specs.Among.{among}
-use Rattle.buckets.specs.Right.{patients-few}
 use Rattle.row_list.specs.Rows.{rowsIn}
 use Rattle.sheets.specs.Steps.{Listed, AsksList, GivesList}
 use Rattle.sheets.specs.Sheets.{Given, Asks, Gives}
@@ -28,7 +28,7 @@ module _ (h : Region) (store : List ℕ) (n set : ℕ) (work patients terms : Li
         region = said h store;
         clinic = a .clinic;
         listed = given-listed (a .clinic) (a .given);
-        fewPatients = omega (arith, outline-count h store, patients-few (said h store) (a .planned));
+        fewPatients = omega (arith, outline-count h store, patients-few (said h store) (a .accepted));
         few = a .few;
         long = a .long;
       }

@@ -7,7 +7,7 @@ use lib.Seq.{getD-take, length-take-le}
 use Rattle.definitions.specs.Basics.{ℕ, _<_, true, Option·getD, List, map, length, getD, take, ltb, below, every, keep, contains}
 use Rattle.definitions.specs.Syntax.{Region, patientAt, patientsOf}
 use Rattle.definitions.specs.Plans as Said
-use Rattle.definitions.specs.Plans.{bedOf, entryFor, costOver, total}
+use Rattle.definitions.specs.Plans.{bedOf, entryFor, costOver, constraints, total}
 use Rattle.definitions.specs.Sheets.{part, ownTables, ownCost, ownRow}
 use Rattle.ranking.specs.Members.{_∈_, getD-in, in-map-cases}
 use Rattle.theorems.specs.List.{Allowed, numbers-enumerate}
@@ -57,7 +57,7 @@ module _ {r : Region} {clinic : ℕ} {store patients terms : List ℕ} {v set : 
       let inside = getD-in (take n taken) s 0 (omega (arith, length-take-le n taken (omega (arith, size-most set)))) in
       let (q, i, e) = in-map-cases (bedOf beds) (members set) (subst (λ (l : List ℕ). getD (take n taken) s 0 ∈ l) is inside) in
       let known = ltb-true q v (every-in (λ t. ltb t v) (patientsOf r clinic) patients-known (subst (λ (l : List ℕ). q ∈ l) (own .ofClinic) i)) in
-      let low = fitting-low (among r (contains (members set))) (own .prepared .answered) beds (among-fits beds fits) q (omega (arith, own .all)) in
+      let low = fitting-low (among r (contains (members set))) (own .prepared .accepted) beds (among-fits beds fits) q (omega (arith, own .all)) in
       omega (arith, e, low, getD-take n taken s 0 h)
 
   -- The beds and the cost.
@@ -68,7 +68,7 @@ module _ {r : Region} {clinic : ℕ} {store patients terms : List ℕ} {v set : 
       ∙ same-maps (λ s. ltb s v) (bedOf beds) (bedOf (take v beds)) (λ s l. sym (getD-take v beds s 0 (ltb-true s v l))) (patientsOf r clinic) patients-known
 
   own-cost : (beds : List ℕ) (cost first : ℕ) → Fitting r beds → Priced store patients terms v beds first → first ≡ ownCost r clinic (record { cost = cost; beds = take v beds })
-  unfolding ownCost ownTables total costOver entryFor patientAt
+  unfolding ownCost ownTables total constraints costOver entryFor patientAt
   own-cost beds cost first fits priced =
       priced (among r (contains (members set))) (own .prepared) (among-fits beds fits) (own .all)
       ∙ ap (λ l. Option·getD (costOver (keep (allAmong (contains l)) (r .tables)) r (take v beds)) 0) (own .ofClinic)

@@ -4,10 +4,10 @@ use Rattle.definitions.specs.Basics.{ℕ, _≡_, List, length}
 use Rattle.definitions.specs.Syntax.{patientsOf}
 use Rattle.definitions.specs.Plans.{listOf}
 use Rattle.definitions.specs.Sheets.{sheetOf}
+use Rattle.theorems.specs.Accepted.{Accepted}
 use Rattle.patient_set.specs.Sets.{members}
 use Rattle.held_region.specs.declared.Region as Code
 use Rattle.held_region.specs.Outline.{said}
-use Rattle.buckets.specs.Terms.{Planned}
 use Rattle.row_sums.specs.Sums.{listAt}
 
 -- The list of what is said lies in the work area, and a set holds the patients of a clinic.
@@ -16,7 +16,7 @@ pub record Given (h : Code.Region) (store : List ℕ) (clinic n set : ℕ) (work
   pub patients : members set ≡ patientsOf (said h store) clinic
 
 pub record Asks (h : Code.Region) (store : List ℕ) (n set : ℕ) (work : List ℕ) : Type 0 where
-  pub planned : Planned h store
+  pub accepted : Accepted (said h store)
   pub clinic : ℕ
   pub given : Given h store clinic n set work
   pub few : n ≤ 64

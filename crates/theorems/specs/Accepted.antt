@@ -1,37 +1,49 @@
--- What check's 0 says, question by question, and what follows from the limits: a total is at most 64,000,000.
+-- What check's 0 says, and what an accepted region has: small counts, known members, and totals of at most 64,000,000.
 use mathlib.Core.Path.{_≡_, refl, sym, ap, _∙_}
+use mathlib.Core.Logic.{_⊎_, inl, inr}
 use mathlib.Core.Bool.{true≢false}
 use mathlib.Core.Option.{Option·none-ne-some}
+use native.Mathlib.Decide.{decLt}
 use native.Mathlib.Nat.{le-trans, mul-le-mul-right}
 use native.Mathlib.Omega.{arith}
-use borrow.Author.Tests.{leb-true, eqb-true}
+use borrow.Author.Tests.{leb-true, ltb-true, eqb-true}
+use lib.ListN.{List·getD-eq-default}
 use Prim.Native.Nat.{_≤_}
-use Rattle.definitions.specs.Basics.{ℕ, zero, suc, _+_, _*_, Bool, true, false, _&&_, Option, none, some, Option·map, Option·getD, bind}
-use Rattle.definitions.specs.Basics.{List, [], _∷_, length, getD, leb, eqb, sum, every, noneOr, isSome, onAll}
-use Rattle.definitions.specs.Limits.{Field, patientCount, tableCount, plansWanted, entry, limits, within}
-use Rattle.definitions.specs.Syntax.{Table, Region}
+use Rattle.definitions.specs.Basics.{ℕ, zero, suc, _*_, _<_, Bool, true, false, _&&_, _||_, Option, none, some, Option·getD}
+use Rattle.definitions.specs.Basics.{List, [], _∷_, map, length, getD, leb, ltb, eqb, sum, product, every, everyTwo, keep, contains, noneOr, isSome}
+use Rattle.definitions.specs.Limits.{Field, patientCount, tableCount, plansWanted, clinic, bedCount, memberCount, entryCount, entry, limits, within}
+use Rattle.definitions.specs.Syntax.{Patient, Table, Region, patientNumbers, patientAt, bedCounts}
 use Rattle.definitions.specs.Layout.{layout}
-use Rattle.definitions.specs.Plans.{Plan, entryFor, costOver, total}
+use Rattle.definitions.specs.Plans.{Plan, entryFor, costOver, constraints, total, Row}
+use Rattle.definitions.specs.Sheets.{ownTables, ownCost}
 use Rattle.definitions.specs.Questions.{shortEnough, laidOut, countsTrue, sumTrue, countsWithin, patientsWithin, parentsSmaller, membersRight, entryCountsRight, entriesWithin, membersRelated}
-use Rattle.definitions.specs.Questions.{regionOf, askedByCheck, checkOf}
+use Rattle.definitions.specs.Questions.{ancestors, regionOf, askedByCheck, checkOf}
+use Rattle.ranking.specs.Members.{_∈_, here, there, getD-in}
 use Rattle.theorems.specs.Tests.{both}
 use Rattle.theorems.specs.Refusals.{check-says}
+use Rattle.theorems.specs.Kept.{every-in, every-two-in, keep-out, keep-all, keep-short, contains-out}
+use Rattle.theorems.specs.Below.{below-in}
+use Rattle.theorems.specs.Sums.{halves, sumOver, sum-cons}
 
--- Every question that check asks is answered yes.
-pub record Accepted (file : List ℕ) : Type 0 where
+-- Questions 3 and 5 to 10 of a region are answered yes.
+pub record Accepted (r : Region) : Type 0 where
+  pub counted : countsTrue r ≡ true
+  pub countsFit : countsWithin r ≡ true
+  pub patientsFit : patientsWithin r ≡ true
+  pub parentsFit : parentsSmaller r ≡ true
+  pub membersFit : membersRight r ≡ true
+  pub entryCountsFit : entryCountsRight r ≡ true
+  pub entriesFit : entriesWithin r ≡ true
+  pub related : membersRelated r ≡ true
+
+-- All questions that check asks of a file are answered yes.
+pub record AcceptedFile (file : List ℕ) : Type 0 where
   pub short : shortEnough file ≡ true
   pub laid : laidOut file ≡ true
-  pub counted : countsTrue (regionOf file) ≡ true
   pub summed : sumTrue file (regionOf file) ≡ true
-  pub countsFit : countsWithin (regionOf file) ≡ true
-  pub patientsFit : patientsWithin (regionOf file) ≡ true
-  pub parentsFit : parentsSmaller (regionOf file) ≡ true
-  pub membersFit : membersRight (regionOf file) ≡ true
-  pub entryCountsFit : entryCountsRight (regionOf file) ≡ true
-  pub entriesFit : entriesWithin (regionOf file) ≡ true
-  pub related : membersRelated (regionOf file) ≡ true
+  pub region : Accepted (regionOf file)
 
-pub accepted : (file : List ℕ) → checkOf file ≡ 0 → Accepted file
+pub accepted : (file : List ℕ) → checkOf file ≡ 0 → AcceptedFile file
 unfolding askedByCheck
 accepted file e =
     let (q1, r1) = both (shortEnough file) (check-says file .accepted .0 e) in
@@ -46,15 +58,17 @@ accepted file e =
     record {
       short = q1;
       laid = q2;
-      counted = q3;
       summed = q4;
-      countsFit = q5;
-      patientsFit = both (patientsWithin (regionOf file)) q6 .0;
-      parentsFit = both (patientsWithin (regionOf file)) q6 .1;
-      membersFit = q7;
-      entryCountsFit = q8;
-      entriesFit = q9;
-      related = both (membersRelated (regionOf file)) r9 .0;
+      region = record {
+        counted = q3;
+        countsFit = q5;
+        patientsFit = both (patientsWithin (regionOf file)) q6 .0;
+        parentsFit = both (patientsWithin (regionOf file)) q6 .1;
+        membersFit = q7;
+        entryCountsFit = q8;
+        entriesFit = q9;
+        related = both (membersRelated (regionOf file)) r9 .0;
+      };
     }
 
 -- The file says its region.
@@ -76,7 +90,16 @@ module _ (field : Field) (n : ℕ) (h : within field n ≡ true) where
   unfolding within
   at-most = leb-true n (limits field .highest) (both (leb (limits field .lowest) n) h .1)
 
--- ---- totals
+-- ---- counts, patients and tables
+
+-- What questions 7 to 9 say of a table.
+pub record TableRight (r : Region) (t : Table) : Type 0 where
+  pub some : 0 < length (t .members)
+  pub few : length (t .members) ≤ 4
+  pub known : {s : ℕ} → s ∈ t .members → s < length (r .patients)
+  pub rising : everyTwo ltb (t .members) ≡ true
+  pub counted : length (t .entries) ≡ product (bedCounts r (t .members))
+  pub within : every (noneOr (within entry)) (t .entries) ≡ true
 
 -- An entry that all tests pass at.
 entry-passes : (p : Option ℕ → Bool) (es : List (Option ℕ)) (i e : ℕ) → every p es ≡ true → getD es i none ≡ some e → p (some e) ≡ true
@@ -84,39 +107,155 @@ entry-passes p [] i e h k = absurd (Option·none-ne-some e k)
 entry-passes p (x ∷ es) zero e h k = ap p (sym k) ∙ both (p x) h .0
 entry-passes p (x ∷ es) (suc i) e h k = entry-passes p es i e (both (p x) h .1) k
 
-module _ (region : Region) (plan : Plan) where
-  entry-most : (u : Table) (y : ℕ) → every (noneOr (within entry)) (u .entries) ≡ true → entryFor region plan u ≡ some y → y ≤ limits entry .highest
-  unfolding entryFor
-  entry-most u y h q = at-most entry y (entry-passes (noneOr (within entry)) (u .entries) _ y h q)
+module _ (r : Region) (a : Accepted r) where
+  -- There are as many patients and tables as the first line says.
+  pub patients-counted : length (r .patients) ≡ r .patientCount
+  unfolding countsTrue
+  patients-counted = eqb-true _ _ (both (eqb (length (r .patients)) (r .patientCount)) (a .counted) .0)
 
-  -- The sum over some tables is at most the highest entry for each of them.
-  pub cost-most : (tables : List Table) (t : ℕ) → every (λ u. every (noneOr (within entry)) (u .entries)) tables ≡ true
-      → costOver tables region plan ≡ some t → t ≤ length tables * limits entry .highest
-  unfolding costOver bind
-  cost-most [] t h e = let z : t ≡ 0 = cc in omega arith
-  cost-most (u ∷ tables) t h e = go (entryFor region plan u) refl (onAll (entryFor region plan) tables) (λ c k. cost-most tables c (both (every (noneOr (within entry)) (u .entries)) h .1) k) e
+  pub tables-counted : length (r .tables) ≡ r .tableCount
+  unfolding countsTrue
+  tables-counted = eqb-true _ _ (both (eqb (length (r .patients)) (r .patientCount)) (a .counted) .1)
+
+  counts : (within patientCount (r .patientCount) ≡ true) × (within tableCount (r .tableCount) ≡ true) × (within plansWanted (r .plansWanted) ≡ true)
+  unfolding countsWithin
+  counts =
+      let (two, plans) = both (within patientCount (r .patientCount) && within tableCount (r .tableCount)) (a .countsFit) in
+      let (patients, tables) = both (within patientCount (r .patientCount)) two in
+      (patients, tables, plans)
+
+  pub patients-some : 1 ≤ length (r .patients)
+  unfolding limits
+  patients-some = omega (arith, patients-counted, at-least patientCount (r .patientCount) (counts .0))
+
+  pub patients-few : length (r .patients) ≤ 32
+  unfolding limits
+  patients-few = omega (arith, patients-counted, at-most patientCount (r .patientCount) (counts .0))
+
+  pub tables-few : length (r .tables) ≤ 64
+  unfolding limits
+  tables-few = omega (arith, tables-counted, at-most tableCount (r .tableCount) (counts .1))
+
+  pub plans-wanted : (0 < r .plansWanted) × (r .plansWanted ≤ 64)
+  unfolding limits
+  plans-wanted = (at-least plansWanted (r .plansWanted) (counts .2), at-most plansWanted (r .plansWanted) (counts .2))
+
+  -- A patient has from 1 to 16 beds, and a parent with a smaller number. (And only patients have parents.)
+  pub beds-within : {p : Patient} → p ∈ r .patients → (1 ≤ p .bedCount) × (p .bedCount ≤ 16)
+  unfolding patientsWithin limits
+  beds-within {p} k =
+      let fits = both (within clinic (p .clinic)) (every-in _ (r .patients) (a .patientsFit) k) .1 in
+      (at-least bedCount (p .bedCount) fits, at-most bedCount (p .bedCount) fits)
+
+  pub beds-some : (s : ℕ) → s < length (r .patients) → 1 ≤ patientAt r s .bedCount
+  unfolding patientAt
+  beds-some s h = beds-within (getD-in (r .patients) s _ h) .0
+
+  pub beds-few : (s : ℕ) → s < length (r .patients) → patientAt r s .bedCount ≤ 16
+  unfolding patientAt
+  beds-few s h = beds-within (getD-in (r .patients) s _ h) .1
+
+  pub parent-smaller : (s p : ℕ) → patientAt r s .parent ≡ some p → (p < s) × (s < length (r .patients))
+  unfolding parentsSmaller patientAt
+  parent-smaller s p e = elim (decLt s (length (r .patients))) [
+    | yes h ↦ (ltb-true p s (ap (noneOr (λ q. ltb q s)) (sym e) ∙ every-in _ (patientNumbers r) (a .parentsFit) (below-in _ h)), h)
+    | no h ↦ absurd (Option·none-ne-some p (sym (ap (λ (x : Patient). x .parent) (List·getD-eq-default (r .patients) _ (omega arith))) ∙ e))
+  ]
+
+  pub table-right : {t : Table} → t ∈ r .tables → TableRight r t
+  unfolding membersRight entryCountsRight entriesWithin limits
+  table-right {t} k =
+      let below = every (λ s. ltb s (r .patientCount)) (t .members) in
+      let (two, rising) = both (within memberCount (length (t .members)) && below) (every-in _ (r .tables) (a .membersFit) k) in
+      let (count, known) = both (within memberCount (length (t .members))) two in
+      let counted = both (every (λ t. eqb (length (t .entries)) (product (bedCounts r (t .members)))) (r .tables)) (a .entryCountsFit) .0 in
+      record {
+        some = at-least memberCount (length (t .members)) count;
+        few = at-most memberCount (length (t .members)) count;
+        known = λ {s} i. omega (arith, patients-counted, ltb-true s (r .patientCount) (every-in _ (t .members) known i));
+        rising = rising;
+        counted = eqb-true _ _ (every-in _ (r .tables) counted k);
+        within = every-in _ (r .tables) (a .entriesFit) k;
+      }
+
+  pub entries-few : sum (map (λ t. length (t .entries)) (r .tables)) ≤ 4096
+  unfolding entryCountsRight limits
+  entries-few = at-most entryCount _ (both (every (λ t. eqb (length (t .entries)) (product (bedCounts r (t .members)))) (r .tables)) (a .entryCountsFit) .1)
+
+  pub entry-small : {t : Table} → t ∈ r .tables → (plan : Plan) (e : ℕ) → entryFor r plan t ≡ some e → e ≤ 1_000_000
+  unfolding entryFor limits
+  entry-small {t} k plan e is = at-most entry e (entry-passes (noneOr (within entry)) (t .entries) _ e (table-right k .within) is)
+
+-- ---- what the total goes over
+
+-- The sum of some entries, each at most 1,000,000.
+cost-most : (region : Region) (plan : Plan) (tables : List Table) → ((t : Table) → t ∈ tables → (e : ℕ) → entryFor region plan t ≡ some e → e ≤ 1_000_000)
+    → (n : ℕ) → costOver tables region plan ≡ some n → n ≤ length tables * 1_000_000
+unfolding costOver
+cost-most region plan [] small n e = let z : n ≡ 0 = cc in omega arith
+cost-most region plan (t ∷ tables) small n e =
+    let parts = halves (entryFor region plan t) (sumOver (entryFor region plan) tables) n (sym (sum-cons (entryFor region plan) t tables) ∙ e) in
+    let later = cost-most region plan tables (λ u k. small u (there k)) (parts .y) (parts .right) in
+    omega (arith, parts .whole, small t (here refl) (parts .x) (parts .left), later)
+
+module _ (r : Region) (a : Accepted r) where
+  constraint-table : (t : Table) → t ∈ constraints r → t ∈ r .tables
+  unfolding constraints
+  constraint-table t k = k
+
+  -- Each constraint has a member, its members are patients, and any two are the same or one is an ancestor of the other.
+  pub constraint-held : (t : Table) → t ∈ constraints r → (s : ℕ) × (s ∈ t .members)
+  constraint-held t k = (getD (t .members) 0 0, getD-in (t .members) 0 0 (table-right r a (constraint-table t k) .some))
+
+  pub constraint-known : (t : Table) → t ∈ constraints r → (s : ℕ) → s ∈ t .members → s < length (r .patients)
+  constraint-known t k s i = table-right r a (constraint-table t k) .known i
+
+  pub constraint-related : (t : Table) → t ∈ constraints r → (s q : ℕ) → s ∈ t .members → q ∈ t .members
+      → (s ≡ q) ⊎ ((q ∈ ancestors r s) ⊎ (s ∈ ancestors r q))
+  unfolding membersRelated
+  constraint-related t k s q i j = elim (every-two-in _ (t .members) (every-in _ (r .tables) (a .related) (constraint-table t k)) i j) [
+    | inl e ↦ inl e
+    | inr e ↦ inr (elim e [ inl h ↦ above s q h | inr h ↦ swap (above q s h) ])
+  ]
     where
-      go : (o : Option ℕ) → entryFor region plan u ≡ o → (r : Option (List ℕ))
-          → ((c : ℕ) → Option·map sum r ≡ some c → c ≤ length tables * limits entry .highest)
-          → Option·map sum (bind o (λ y. Option·map (λ ys. y ∷ ys) r)) ≡ some t → t ≤ suc (length tables) * limits entry .highest
-      go none q r ih e = absurd (Option·none-ne-some t e)
-      go (some y) q none ih e = absurd (Option·none-ne-some t e)
-      go (some y) q (some ys) ih e =
-          let s : t ≡ y + sum ys = cc in
-          let top : y ≤ limits entry .highest = entry-most u y (both (every (noneOr (within entry)) (u .entries)) h .0) q in
-          omega (arith, ih (sum ys) refl)
+      either : (b : Bool) {c : Bool} → (b || c) ≡ true → (b ≡ true) ⊎ (c ≡ true)
+      either true e = inl refl
+      either false e = inr e
 
--- A region with the true counts, within the limits.
-pub total-most : (region : Region) (plan : Plan) (t : ℕ) → countsTrue region ≡ true → countsWithin region ≡ true → entriesWithin region ≡ true
-    → total region plan ≡ some t → t ≤ limits tableCount .highest * limits entry .highest
-unfolding countsTrue countsWithin entriesWithin total
-total-most region plan t counted fit entries e =
-    let tables = eqb-true (length (region .tables)) (region .tableCount) (both (eqb (length (region .patients)) (region .patientCount)) counted .1) in
-    let fits = both (within patientCount (region .patientCount)) (both (within patientCount (region .patientCount) && within tableCount (region .tableCount)) fit .0) .1 in
-    let few = at-most tableCount (region .tableCount) fits in
-    le-trans (cost-most region plan (region .tables) t entries e) (mul-le-mul-right (limits entry .highest) (omega arith))
+      above : (s q : ℕ) → (contains (ancestors r s) q || contains (ancestors r q) s) ≡ true → (q ∈ ancestors r s) ⊎ (s ∈ ancestors r q)
+      above s q e = elim (either (contains (ancestors r s) q) e) [
+        | inl h ↦ inl (contains-out (ancestors r s) q h)
+        | inr h ↦ inr (contains-out (ancestors r q) s h)
+      ]
+
+      swap : {A B : Type 0} → A ⊎ B → B ⊎ A
+      swap (inl x) = inr x
+      swap (inr y) = inl y
+
+  -- Some of the tables cost at most 64,000,000, ..
+  pub tables-small : (test : Table → Bool) (plan : Plan) (n : ℕ) → costOver (keep test (r .tables)) r plan ≡ some n → n ≤ 64_000_000
+  tables-small test plan n e =
+      let most = cost-most r plan (keep test (r .tables)) (λ t k. entry-small r a (keep-out test (r .tables) k .0) plan) n e in
+      let few : length (keep test (r .tables)) ≤ 64 = le-trans (keep-short test (r .tables)) (tables-few r a) in
+      le-trans most (mul-le-mul-right 1_000_000 few)
+
+  pub own-small : (c : ℕ) (w : Row) → ownCost r c w ≤ 64_000_000
+  unfolding ownCost ownTables
+  own-small c w = go (costOver (ownTables r c) r (w .beds)) (tables-small _ (w .beds))
+    where
+      go : (o : Option ℕ) → ((n : ℕ) → o ≡ some n → n ≤ 64_000_000) → Option·getD o 0 ≤ 64_000_000
+      go none h = omega arith
+      go (some n) h = h n refl
+
+  -- .. and so do some of the constraints, or all.
+  pub part-small : (test : Table → Bool) (plan : Plan) (n : ℕ) → costOver (keep test (constraints r)) r plan ≡ some n → n ≤ 64_000_000
+  unfolding constraints
+  part-small = tables-small
+
+  pub total-small : (plan : Plan) (n : ℕ) → total r plan ≡ some n → n ≤ 64_000_000
+  unfolding total
+  total-small plan n e = part-small (λ t. true) plan n (ap (λ l. costOver l r plan) (keep-all (constraints r)) ∙ e)
 
 -- So it is for every plan of an accepted file.
 pub accepted-total : (file : List ℕ) (plan : Plan) (t : ℕ) → checkOf file ≡ 0 → total (regionOf file) plan ≡ some t → t ≤ 64_000_000
-unfolding limits
-accepted-total file plan t e h = let a = accepted file e in total-most (regionOf file) plan t (a .counted) (a .countsFit) (a .entriesFit) h
+accepted-total file plan t e h = total-small (regionOf file) (accepted file e .region) plan t h

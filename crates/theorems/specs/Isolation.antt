@@ -10,7 +10,7 @@ use borrow.Author.Tests.{not-true}
 use Rattle.definitions.specs.Basics.{ℕ, suc, _+_, _<_, _≡_, refl, Bool, true, false, not, Option·getD}
 use Rattle.definitions.specs.Basics.{List, [], _∷_, map, length, take, eqb, every, any, keep, contains, below}
 use Rattle.definitions.specs.Syntax.{Patient, Table, Region, patientNumbers, patientAt, bedCounts, patientsOf}
-use Rattle.definitions.specs.Plans.{Plan, bedOf, entryFor, costOver, total, Row, listOf}
+use Rattle.definitions.specs.Plans.{Plan, bedOf, entryFor, costOver, constraints, total, Row, listOf}
 use Rattle.definitions.specs.Sheets.{part, ownTables, ownCost, ownRow, sheetOf}
 use Rattle.definitions.specs.Isolation.{tablesAmong, joins}
 use Rattle.ranking.specs.Members.{_∈_}
@@ -41,6 +41,11 @@ MembersPatients region = (t : Table) → t ∈ region .tables → (s : ℕ) → 
 -- The clinic alone, for m plans: its patients' counts of beds and the tables among them, by places, and nothing else.
 abbrev pub clinicAlone : ℕ → Region → ℕ → Region
 clinicAlone m region c = alone m (bedCounts region (patientsOf region c)) (tablesAmong region c)
+
+-- A plan's total goes over the tables.
+pub total-tables : (region : Region) (plan : Plan) → total region plan ≡ costOver (region .tables) region plan
+unfolding total constraints
+total-tables region plan = refl
 
 -- ---- a region falls into the clinic and the rest
 
@@ -99,18 +104,17 @@ module _ (region : Region) (c m : ℕ) (members : MembersPatients region) (apart
 
   -- The total is the clinic's own cost and the cost of the rest.
   own-total : (plan : Plan) → total own (map (bedOf plan) patients) ≡ costOver (ownTables region c) region plan
-  unfolding total tablesAmong
-  own-total plan = cost-alone region patients m (tablesAmong region c) plan (ownTables region c) own-members
+  unfolding tablesAmong
+  own-total plan = total-tables own (map (bedOf plan) patients) ∙ cost-alone region patients m (tablesAmong region c) plan (ownTables region c) own-members
 
   rest-total : (plan : Plan) → total rest (map (bedOf plan) others) ≡ costOver otherTables region plan
-  unfolding total
-  rest-total plan = cost-alone region others 1 (map (byPlaces others) otherTables) plan otherTables other-members
+  rest-total plan = total-tables rest (map (bedOf plan) others) ∙ cost-alone region others 1 (map (byPlaces others) otherTables) plan otherTables other-members
 
   total-apart : (plan : Plan) → total region plan ≡ plus (total own (map (bedOf plan) patients)) (total rest (map (bedOf plan) others))
   total-apart plan = by-tables ∙ sym (ap₂ plus (own-total plan) (rest-total plan))
     where
       by-tables : total region plan ≡ plus (costOver (ownTables region c) region plan) (costOver otherTables region plan)
-      by-tables = unfold total ownTables costOver in sum-split (entryFor region plan) inside (region .tables)
+      by-tables = total-tables region plan ∙ (unfold ownTables costOver in sum-split (entryFor region plan) inside (region .tables))
 
   -- A plan is the beds of the clinic's patients interleaved with those of the others.
   abbrev counts : List ℕ

@@ -5,7 +5,7 @@ use mathlib.Core.Bool.{true≢false}
 use native.Mathlib.Omega.{arith}
 use borrow.Author.Tests.{eqb-true, eq-eqb}
 use Prim.Native.Nat.{_≤_}
-use Rattle.definitions.specs.Basics.{ℕ, suc, _≡_, refl, Bool, true, false, _||_, cond, List, [], _∷_, length, eqb, every, any, keep, contains}
+use Rattle.definitions.specs.Basics.{ℕ, suc, _≡_, refl, Bool, true, false, _||_, cond, List, [], _∷_, length, eqb, every, everyTwo, any, keep, contains}
 use Rattle.ranking.specs.Members.{_∈_, here, there, here-or-there, none-in-nil}
 use Rattle.theorems.specs.Tests.{both, join}
 
@@ -54,6 +54,19 @@ module _ {A : Type 0} (f : A → Bool) where
       go : (b : Bool) → f y ≡ b → x ∈ cond b (y ∷ keep f l) (keep f l) → (x ∈ keep f l → (x ∈ l) × (f x ≡ true)) → (x ∈ y ∷ l) × (f x ≡ true)
       go true q h ih = elim (here-or-there h) [ inl s ↦ (here s, rw s q) | inr t ↦ (there (ih t .0), ih t .1) ]
       go false q h ih = (there (ih h .0), ih h .1)
+
+-- A test of any two elements, in one order or the other.
+pub every-two-in : {A : Type 0} (f : A → A → Bool) (l : List A) → everyTwo f l ≡ true → {a b : A} → a ∈ l → b ∈ l
+    → (a ≡ b) ⊎ ((f a b ≡ true) ⊎ (f b a ≡ true))
+every-two-in f [] e i j = absurd (none-in-nil i)
+every-two-in f (x ∷ l) e i j = let (now, later) = both (every (f x) l) e in elim (here-or-there i) [
+  | inl p ↦ elim (here-or-there j) [ inl q ↦ inl (p ∙ sym q) | inr k ↦ inr (inl (rw p (every-in (f x) l now k))) ]
+  | inr h ↦ elim (here-or-there j) [ inl q ↦ inr (inr (rw q (every-in (f x) l now h))) | inr k ↦ every-two-in f l later h k ]
+]
+
+pub keep-all : {A : Type 0} (l : List A) → keep (λ x. true) l ≡ l
+keep-all [] = refl
+keep-all {A} (x ∷ l) = ap {B = List A} (λ r. x ∷ r) (keep-all l)
 
 pub keep-short : {A : Type 0} (f : A → Bool) (l : List A) → length (keep f l) ≤ length l
 keep-short f [] = omega arith

@@ -3,7 +3,6 @@ pub mod Tests
 pub mod Writing
 pub mod Answers
 pub mod Refusals
-pub mod Accepted
 pub mod Every
 pub mod Readers
 pub mod Numbers
@@ -19,6 +18,7 @@ pub mod Kept
 pub mod Below
 pub mod Interleaving
 pub mod Sums
+pub mod Accepted
 pub mod Sameness
 pub mod Places
 pub mod Isolation

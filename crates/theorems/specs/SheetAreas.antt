@@ -3,27 +3,27 @@ use mathlib.Core.Path.{sym, ap, _∙_}
 use mathlib.Core.List.{append-assoc}
 use native.Mathlib.Nat.{le-trans, mul-le-mul, mul-le-mul-right}
 use native.Mathlib.Omega.{arith}
-use borrow.Author.Tests.{leb-true, eqb-true}
+use borrow.Author.Tests.{leb-true}
 use Prim.Native.Nat.{_≤_}
 use lib.ListN.{drop, length-map}
 use lib.Seq.{take-at, drop-append-add}
 use Rattle.definitions.specs.Basics.{ℕ, zero, suc, _+_, _*_, _<_, _≡_, refl, Bool, true, false, List, [], _∷_, _++_, map, flatMap, length, getD, take}
-use Rattle.definitions.specs.Basics.{leb, eqb, any, firstOccurrences}
+use Rattle.definitions.specs.Basics.{leb, any, firstOccurrences}
 use Rattle.definitions.specs.Syntax.{Region, patientNumbers, patientsOf}
 use Rattle.definitions.specs.Plans.{Row, listOf}
 use Rattle.definitions.specs.Sheets.{sameBeds, part, ownRow, sheetOf}
-use Rattle.definitions.specs.Questions.{regionOf, countsTrue, roomForRows, areasLongEnough}
+use Rattle.definitions.specs.Questions.{regionOf, roomForRows, areasLongEnough}
 use Rattle.definitions.specs.Isolation.{YieldsList}
 use Rattle.definitions.specs.Outcomes.{Found, rowsUnlessRefused, sheetFound, written, bedsAfter, costsAfter, outcomeOf, sheetOutcome}
 use Rattle.definitions.specs.Boundary.{bytesOf, roomForNumbers, resultAfter, callAreasLongEnough, callOf, sheetCall}
 use Rattle.ranking.specs.Members.{_∈_, here, there}
 use Rattle.theorems.specs.Tests.{both}
 use Rattle.theorems.specs.Writing.{written-is}
-use Rattle.theorems.specs.Accepted.{accepted}
+use Rattle.theorems.specs.Accepted.{patients-counted}
 use Rattle.theorems.specs.List.{list-first}
 use Rattle.theorems.specs.Kept.{keep-short}
 use Rattle.theorems.specs.Below.{below-long}
-use Rattle.theorems.specs.Yields.{yields, sheet-printed, sheet-call-printed}
+use Rattle.theorems.specs.Yields.{yielding, sheet-printed, sheet-call-printed}
 use Rattle.theorems.specs.SheetRows.{sheet-rows}
 
 -- ---- one row among those that were written
@@ -103,7 +103,7 @@ module _ (file : List ℕ) (c : ℕ) where
   found-printed : (longEnough : Bool) (size : ℕ) (parts : ℕ → List ℕ) (beds costs : List ℕ) → ((n : ℕ) → length (parts n) ≡ size)
       → YieldsList file → roomForRows region size beds costs ≡ true → found longEnough .number ≡ 0
       → Printed file c size parts (bedsAfter (found longEnough) beds) (costsAfter size parts (found longEnough) costs)
-  unfolding roomForRows countsTrue sheetFound
+  unfolding roomForRows sheetFound
   found-printed longEnough size parts beds costs sized list room e = rw (found-rows longEnough e) (record {
     list = list;
     bedsAt = written-at (λ w. w .beds) (length (patientsOf region c)) (sheetOf region c) beds (row-wide region c)
@@ -118,7 +118,7 @@ module _ (file : List ℕ) (c : ℕ) where
       costsRoom = leb-true _ _ (both (leb (region .plansWanted * region .patientCount) (length beds)) room .1)
 
       counted : length (region .patients) ≡ region .patientCount
-      counted = eqb-true _ _ (both (eqb (length (region .patients)) (region .patientCount)) (accepted file (yields file .0 list .checked) .counted) .0)
+      counted = patients-counted region (yielding file list)
 
   -- The entry: each cost is one number.
   module _ (beds costs work : List ℕ) (e : sheetOutcome file c beds costs work .number ≡ 0) where

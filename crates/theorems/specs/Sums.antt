@@ -43,7 +43,7 @@ halves (some x) (some y) n e = record { x = x; y = y; left = refl; right = refl;
 abbrev pub sumOver : {A : Type 0} → (A → Option ℕ) → List A → Option ℕ
 sumOver entry l = Option·map sum (onAll entry l)
 
-sum-cons : {A : Type 0} (entry : A → Option ℕ) (x : A) (l : List A) → sumOver entry (x ∷ l) ≡ plus (entry x) (sumOver entry l)
+pub sum-cons : {A : Type 0} (entry : A → Option ℕ) (x : A) (l : List A) → sumOver entry (x ∷ l) ≡ plus (entry x) (sumOver entry l)
 unfolding bind
 sum-cons entry x l = go (entry x) (onAll entry l)
   where

@@ -3,25 +3,21 @@ use mathlib.Core.Path.{sym, ap, _∙_}
 use mathlib.Core.Logic.{_↔_}
 use mathlib.Core.Bool.{and-assoc, true≢false}
 use native.Mathlib.Omega.{arith}
-use borrow.Author.Tests.{ltb-true, eqb-true}
-use Rattle.definitions.specs.Basics.{ℕ, _<_, _≡_, refl, Bool, true, _&&_, List, [], _∷_, _++_, map, length, eqb, ltb, every}
-use Rattle.definitions.specs.Limits.{patientCount, tableCount, plansWanted, memberCount, limits, within}
+use Rattle.definitions.specs.Basics.{ℕ, _<_, _≡_, refl, Bool, true, _&&_, List, [], _∷_, _++_, map, length}
 use Rattle.definitions.specs.Syntax.{Region}
 use Rattle.definitions.specs.Plans.{Plan, Row, listOf}
 use Rattle.definitions.specs.Sheets.{part, sheetOf}
-use Rattle.definitions.specs.Questions.{Asked, regionOf, checkOf, countsTrue, countsWithin, membersRight, clinicPresent, areasLongEnough, planAllowed}
+use Rattle.definitions.specs.Questions.{Asked, regionOf, checkOf, clinicPresent, areasLongEnough, planAllowed}
 use Rattle.definitions.specs.Questions.{askedByCheck, askedByList, askedBySheet}
 use Rattle.definitions.specs.Outcomes.{sheetOutcome}
 use Rattle.definitions.specs.Boundary.{callAreasLongEnough, sheetCall}
-use Rattle.definitions.specs.Isolation.{yieldNumber, YieldsList}
+use Rattle.definitions.specs.Isolation.{YieldsList}
 use Rattle.ranking.specs.Members.{_∈_, here, none-in-nil, in-map}
 use Rattle.theorems.specs.Tests.{both, join}
 use Rattle.theorems.specs.Answers.{allYes}
 use Rattle.theorems.specs.Refusals.{check-says, list-found, sheet-says, sheet-call-says}
-use Rattle.theorems.specs.Accepted.{accepted, at-least}
+use Rattle.theorems.specs.Accepted.{Accepted, accepted, plans-wanted}
 use Rattle.theorems.specs.List.{list-empty}
-use Rattle.theorems.specs.Kept.{every-in}
-use Rattle.theorems.specs.Isolation.{MembersPatients}
 use Rattle.theorems.specs.SheetRows.{sheet-parts}
 
 -- ---- questions asked after those of check
@@ -81,29 +77,18 @@ module _ (file : List ℕ) where
 
 -- ---- what follows for the region of such a file
 
--- The members of its tables are patients.
-pub members-patients : (file : List ℕ) → YieldsList file → MembersPatients (regionOf file)
-unfolding membersRight countsTrue
-members-patients file e t k s i =
-    let r = regionOf file in
-    let a = accepted file (yields file .0 e .checked) in
-    let some = within memberCount (length (t .members)) in
-    let below = every (λ s. ltb s (r .patientCount)) (t .members) in
-    let (fits, rising) = both (some && below) (every-in _ (r .tables) (a .membersFit) k) in
-    let counted = eqb-true (length (r .patients)) (r .patientCount) (both (eqb (length (r .patients)) (r .patientCount)) (a .counted) .0) in
-    omega (arith, ltb-true s (r .patientCount) (every-in (λ s. ltb s (r .patientCount)) (t .members) (both some fits .1) i))
+pub yielding : (file : List ℕ) → YieldsList file → Accepted (regionOf file)
+yielding file e = accepted file (yields file .0 e .checked) .region
 
 -- Its list has a first row, so every sheet has one.
 pub sheet-some : (file : List ℕ) → YieldsList file → (c : ℕ) → 0 < length (sheetOf (regionOf file) c)
-unfolding countsWithin limits
 sheet-some file e c = go (listOf r) refl
   where
     r : Region
     r = regionOf file
 
     wanted : 0 < r .plansWanted
-    wanted = at-least plansWanted (r .plansWanted)
-        (both (within patientCount (r .patientCount) && within tableCount (r .tableCount)) (accepted file (yields file .0 e .checked) .countsFit) .1)
+    wanted = plans-wanted r (yielding file e) .0
 
     nonempty : (s : List Row) {p : Plan} → p ∈ map (λ w. w .beds) s → 0 < length s
     nonempty [] k = absurd (none-in-nil k)

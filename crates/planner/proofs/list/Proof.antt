@@ -1,19 +1,15 @@
 use Rattle.reader.specs.Loading.{checks}
 use Rattle.definitions.specs.Plans.{listOf}
-use Rattle.definitions.specs.Sheets.{sheetOf}
-use Rattle.definitions.specs.Syntax.{patientsOf}
-use Rattle.definitions.specs.Basics.{length}
 use Rattle.definitions.specs.Questions.{areasLongEnough}
 use Rattle.definitions.specs.Outcomes.{foundBy, outcomeOf}
 use Rattle.planner.specs.Found.{lastAsked}
-use Rattle.planner.specs.Sheets.{lateAsked}
 use borrow.Author.Needs.{needs}
 use mathlib.Core.Path.{ap, sym, _∙_}
 use denote.Ref.{now}
-use Rattle.definitions.specs.Questions.{regionOf, askedByList}
+use Rattle.definitions.specs.Questions.{askedByList}
 use Rattle.definitions.specs.Outcomes.{listFound, listOutcome}
 use Rattle.answers.specs.Answers.{checkedNumber}
-use Rattle.planner.specs.Loaded.{answered, accepted-fine, planned-fine}
+use Rattle.planner.specs.Loaded.{accepted-fine, region-fine}
 use Rattle.planner.specs.Found.{refused-entry, accepted-entry}
 use Rattle.planner.proofs.list.Statement.{statement}
 use Rattle.planner.proofs.list.Tie as tie
@@ -30,7 +26,7 @@ enum-told c = search needs
 list-loaded-requires : tie.Need-list-loaded-requires
 list-loaded-requires c κs =
     let read = c .before .before .before .before .before .before in
-    planned-fine (now (read .before .before .before .before .before .before .args .file)) (read .load .result) (read .load .ensures) (c .before .before .before .before .enum-told .given .1)
+    region-fine (now (read .before .before .before .before .before .before .args .file)) (read .load .result) (read .load .ensures) (c .before .before .before .before .enum-told .given .1)
 
 returns : tie.Need-returns
 unfolding listOutcome listFound askedByList

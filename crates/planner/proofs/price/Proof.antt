@@ -3,11 +3,10 @@ use borrow.Author.Needs.{needs}
 use mathlib.Core.Path.{ap, sym, _∙_}
 use denote.Ref.{now}
 use Rattle.definitions.specs.Basics.{true}
-use Rattle.definitions.specs.Questions.{regionOf}
 use Rattle.definitions.specs.Outcomes.{priceOutcome}
 use Rattle.answers.specs.Answers.{checkedNumber, notAllowed}
 use Rattle.planner.specs.Later.{refusal-number}
-use Rattle.planner.specs.Loaded.{answered, accepted-fine, planned-fine}
+use Rattle.planner.specs.Loaded.{accepted-fine, region-fine}
 use Rattle.planner.specs.Prices.{regionPrice, price-accepted, price-not-accepted}
 use Rattle.planner.proofs.price.Statement.{statement}
 use Rattle.planner.proofs.price.Tie as tie
@@ -24,7 +23,7 @@ enum-told c = search needs
 price-region-requires : tie.Need-price-region-requires
 price-region-requires c κs =
     let read = c .before .before .before in
-    planned-fine (now (read .before .before .before .before .args .file)) (read .load .result) (read .load .ensures) (c .before .enum-told .given .1)
+    region-fine (now (read .before .before .before .before .args .file)) (read .load .result) (read .load .ensures) (c .before .enum-told .given .1)
 
 returns : tie.Need-returns
 unfolding priceOutcome

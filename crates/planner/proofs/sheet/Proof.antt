@@ -1,19 +1,17 @@
 use Rattle.reader.specs.Loading.{checks}
-use Rattle.definitions.specs.Plans.{listOf}
 use Rattle.definitions.specs.Sheets.{sheetOf}
 use Rattle.definitions.specs.Syntax.{patientsOf}
 use Rattle.definitions.specs.Basics.{length}
 use Rattle.definitions.specs.Questions.{areasLongEnough}
 use Rattle.definitions.specs.Outcomes.{foundBy, outcomeOf}
-use Rattle.planner.specs.Found.{lastAsked}
 use Rattle.planner.specs.Sheets.{lateAsked}
 use borrow.Author.Needs.{needs}
 use mathlib.Core.Path.{ap, sym, _∙_}
 use denote.Ref.{now}
-use Rattle.definitions.specs.Questions.{regionOf, askedBySheet}
+use Rattle.definitions.specs.Questions.{askedBySheet}
 use Rattle.definitions.specs.Outcomes.{sheetFound, sheetOutcome}
 use Rattle.answers.specs.Answers.{checkedNumber}
-use Rattle.planner.specs.Loaded.{answered, accepted-fine, planned-fine}
+use Rattle.planner.specs.Loaded.{accepted-fine, region-fine}
 use Rattle.planner.specs.Found.{refused-entry, accepted-entry}
 use Rattle.planner.proofs.sheet.Statement.{statement}
 use Rattle.planner.proofs.sheet.Tie as tie
@@ -30,7 +28,7 @@ enum-told c = search needs
 sheet-loaded-requires : tie.Need-sheet-loaded-requires
 sheet-loaded-requires c κs =
     let read = c .before .before .before .before .before .before in
-    planned-fine (now (read .before .before .before .before .before .before .args .file)) (read .load .result) (read .load .ensures) (c .before .before .before .before .enum-told .given .1)
+    region-fine (now (read .before .before .before .before .before .before .args .file)) (read .load .result) (read .load .ensures) (c .before .before .before .before .enum-told .given .1)
 
 returns : tie.Need-returns
 unfolding sheetOutcome sheetFound askedBySheet

@@ -1,4 +1,4 @@
-use Rattle.planner.proofs.Sheets.{patients-planned}
+use Rattle.planner.proofs.Sheets.{patients-accepted}
 use borrow.Author.Needs.{needs}
 use denote.Ref.{now}
 use Rattle.row_sums.specs.Sums.{part}
@@ -7,7 +7,7 @@ use Rattle.printer.proofs.print_clinic.Statement.{statement}
 use Rattle.printer.proofs.print_clinic.Tie as tie
 
 clinic-patients-requires : tie.Need-clinic-patients-requires
-clinic-patients-requires c κs = patients-planned _ _ (c .before .before .pre .listed .planned)
+clinic-patients-requires c κs = patients-accepted _ _ (c .before .before .pre .listed .accepted)
 
 is-empty-requires : tie.Need-is-empty-requires
 is-empty-requires c κs = search needs

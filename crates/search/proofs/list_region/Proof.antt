@@ -1,5 +1,5 @@
 use borrow.Author.Needs.{needs}
-use Rattle.search.proofs.Forests.{planted, parents-planned}
+use Rattle.search.proofs.Forests.{planted, parents-accepted}
 use Rattle.search.proofs.list_region.Statement.{statement}
 use Rattle.search.proofs.list_region.Tie as tie
 
@@ -7,7 +7,7 @@ prepare-requires : tie.Need-prepare-requires
 prepare-requires c κs = search needs
 
 root-numbers-requires : tie.Need-root-numbers-requires
-root-numbers-requires c κs = parents-planned _ _ (c .before .before .pre .planned)
+root-numbers-requires c κs = parents-accepted _ _ (c .before .before .pre .accepted)
 
 list-trees-requires : tie.Need-list-trees-requires
 list-trees-requires c κs =

@@ -5,7 +5,7 @@ use Rattle.sheets.proofs.sheet_rows.Tie as tie
 
 prepare-within-requires : tie.Need-prepare-within-requires
 prepare-within-requires c κs =
-    c .before .pre .planned
+    c .before .pre .accepted
 
 keep-rows-requires : tie.Need-keep-rows-requires
 keep-rows-requires c κs =

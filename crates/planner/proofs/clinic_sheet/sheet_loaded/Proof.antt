@@ -3,12 +3,12 @@ use denote.Ref.{now}
 use borrow.Author.Tests.{not-true, not-false}
 use Rattle.planner.specs.Counts.{counts-few}
 use Rattle.planner.proofs.Areas.{asks-list}
-use Rattle.planner.proofs.Sheets.{patients-planned, sheeted-absent, sheeted-short, sheeted-nothing, asks-sheet, sheeted-rows}
+use Rattle.planner.proofs.Sheets.{patients-accepted, sheeted-absent, sheeted-short, sheeted-nothing, asks-sheet, sheeted-rows}
 use Rattle.planner.proofs.clinic_sheet.sheet_loaded.Statement.{statement}
 use Rattle.planner.proofs.clinic_sheet.sheet_loaded.Tie as tie
 
 clinic-patients-requires : tie.Need-clinic-patients-requires
-clinic-patients-requires c κs = patients-planned _ _ (c .before .before .before .pre)
+clinic-patients-requires c κs = patients-accepted _ _ (c .before .before .before .pre)
 
 is-empty-requires : tie.Need-is-empty-requires
 is-empty-requires c κs = search needs
