@@ -16,16 +16,14 @@ use Rattle.partial_rows.specs.Rows.{decidedTables}
 use Rattle.partial_rows.specs.Bounds.{leastEntry}
 use Rattle.held_region.specs.declared.Table.{Table}
 use Rattle.held_region.specs.declared.Region.{Region}
-use Rattle.held_region.specs.Held.{tableAt}
-use Rattle.held_region.specs.Outline.{said, outline, tableIn, membersOf}
-use Rattle.held_region.specs.Asked.{outline-count, outline-patient}
-use Rattle.held_region.specs.Said.{patients-said, members-said, entry-counts-said, total-said, stands}
-use Rattle.held_region.specs.Sound.{Sound, room}
-use Rattle.held_region.specs.Entries.{countsMatch, entryTotal, counts-match}
+use Rattle.held_region.specs.Stores.{tableAt, startOf, start-next, start-most}
+use Rattle.held_region.specs.Meaning.{tableIn, membersOf, startIn, said}
+use Rattle.held_region.specs.Asked.{patients-said, patient-said, starts-said, stands}
+use Rattle.held_region.specs.Sound.{accepted-sound}
+use Rattle.held_region.specs.Entries.{CountsSmall, counts-match, counts-small}
 use Rattle.buckets.specs.Terms.{Term, Chain, Prepared, highest, bucketOf, leastIn, bedsAt, leastAt, firstAt}
 use Rattle.buckets.specs.Least.{leastNumber}
 use Rattle.buckets.specs.Places.{strideOf, stride-same}
-use Rattle.held_region.specs.Stores.{startOf, start-next, start-all, start-most}
 use Rattle.buckets.specs.Right.{in-bucket}
 use Rattle.buckets.specs.Chains.{term-right, chain-kept, chain-lower}
 use Rattle.buckets.specs.Among.{allAmong, among, accepted-among, term-among}
@@ -50,19 +48,19 @@ module _ (h : Region) (store : List ℕ) (P : ℕ → Bool) (a : Accepted (said 
   r = said h store
 
   -- No table yet.
-  pub filled-none : (start : ℕ) (words terms : List ℕ) → PatientsWritten (h .patients) (h .v) words → start ≡ entryTotal (outline h)
+  pub filled-none : (start : ℕ) (words terms : List ℕ) → PatientsWritten (h .patients) (h .v) words → start ≡ startIn h (h .t)
       → Filled P r store (h .t) start words terms
   unfolding Chain
   filled-none start words terms w total =
       record {
-        starts = total ∙ sym (total-said h store) ∙ sym (start-all (r .tables)) ∙ ap (startOf (r .tables)) (held-lines h store a);
-        beds = λ s l. w .beds s (known s l) ∙ ap (λ p. p .bedCount) (sym (outline-patient h store s (known s l)));
+        starts = total ∙ sym (starts-said h store (h .t) (omega arith));
+        beds = λ s l. w .beds s (known s l) ∙ ap (λ p. p .bedCount) (sym (patient-said h store s (known s l)));
         least = λ s l. w .least s ∙ sym (ap (λ ts. sum (map leastEntry (keep (highest s) (keep (allAmong P) ts)))) none-left);
         bucket = λ s l. subst (λ ts. Chain (among r P) store terms (h .t) (firstAt words s) (keep (highest s) (keep (allAmong P) ts))) (sym none-left) (w .first s (known s l));
       }
     where
       known : (s : ℕ) → s < length (r .patients) → s < h .v
-      known s l = omega (arith, outline-count h store)
+      known s l = omega (arith, patients-said h store)
 
       none-left : drop (h .t) (r .tables) ≡ []
       none-left = drop-of-length-le (r .tables) {i = h .t} (omega (arith, held-lines h store a))
@@ -84,7 +82,7 @@ module _ (h : Region) (store : List ℕ) (P : ℕ → Bool) (a : Accepted (said 
     from = start - table .entries
 
     start-down : start ≡ startOf (r .tables) i + table .entries
-    start-down = omega (arith, f .starts, start-next (r .tables) i (held-place h store a i l), entries-same h store a i l)
+    start-down = omega (arith, f .starts, start-next (r .tables) i, entries-same h store a i l)
 
     pub start-enough : table .entries ≤ start
     start-enough = omega (arith, start-down)
@@ -220,21 +218,13 @@ pub record Filling (h : Region) (store : List ℕ) (P : ℕ → Bool) (i start :
   pub filled : Filled P (said h store) store i start patients terms
 
 module _ (h : Region) (store : List ℕ) (a : Accepted (said h store)) where
-  -- What the functions that are called ask for.
-  pub sound-held : Sound h
-  sound-held =
-      record {
-        fits = room h store (a .countsFit);
-        patients = sym (patients-said h store) ∙ a .patientsFit;
-        members = sym (members-said h store) ∙ a .membersFit;
-      }
-
-  pub counts-held : countsMatch (outline h) ≡ true
-  counts-held = counts-match (outline h) (sym (entry-counts-said h store) ∙ a .entryCountsFit)
+  -- What the sum of all entry counts asks for.
+  pub counts-held : CountsSmall h
+  counts-held = counts-small h (accepted-sound h store a) store (counts-match (said h store) (a .entryCountsFit))
 
   module _ (P : ℕ → Bool) where
     pub filling-none : (start : ℕ) (words : List ℕ) → h .t ≤ 64
-        → PatientsWritten (h .patients) (h .v) words → start ≡ entryTotal (outline h) → Filling h store P (h .t) start words (replicate 640 0)
+        → PatientsWritten (h .patients) (h .v) words → start ≡ startIn h (h .t) → Filling h store P (h .t) start words (replicate 640 0)
     filling-none start words few w total =
         record {
           wide = w .wide;

@@ -16,12 +16,11 @@ use Rattle.patient_set.specs.Lists.{length-keep, every-keep}
 use Rattle.partial_rows.specs.Bounds.{smaller, leastOf, leastEntry}
 use Rattle.held_region.specs.declared.Table.{Table}
 use Rattle.held_region.specs.declared.Region.{Region}
-use Rattle.held_region.specs.Held.{mark, tableAt}
-use Rattle.held_region.specs.Outline.{said, tableIn, membersOf}
-use Rattle.held_region.specs.Said.{tables-count, members-of, entries-of, stands}
+use Rattle.held_region.specs.Meaning.{mark, said, tableIn, membersOf}
+use Rattle.held_region.specs.Stores.{tableAt, startOf}
+use Rattle.held_region.specs.Asked.{tables-said, members-said, entries-said, stands}
 use Rattle.held_region.specs.Places.{length-by-places, at-place}
 use Rattle.buckets.specs.Least.{leastNumber, least-of-entries}
-use Rattle.held_region.specs.Stores.{startOf}
 use Rattle.buckets.specs.Written.{lastOf}
 
 -- ---- least numbers
@@ -68,7 +67,7 @@ module _ (h : Region) (store : List ℕ) (a : Accepted (said h store)) where
   r = said h store
 
   pub held-lines : length (r .tables) ≡ h .t
-  held-lines = tables-count h store
+  held-lines = tables-said h store
 
   -- The sum of some tables' least numbers, and one more, fits.
   pub least-fits : (f g : Said.Table → Bool) (i n : ℕ) → n ≡ sum (map leastEntry (keep f (keep g (drop i (r .tables))))) → n ≤ 64_000_000
@@ -100,10 +99,10 @@ module _ (h : Region) (store : List ℕ) (a : Accepted (said h store)) where
     held-known j m = held-right .known (getD-in (t .members) j 0 m)
 
     pub members-same : membersOf table ≡ t .members
-    members-same = members-of h store i l
+    members-same = members-said h store i l
 
     pub entries-same : table .entries ≡ length (t .entries)
-    entries-same = entries-of h store i l
+    entries-same = entries-said h store i l
 
     pub count-same : table .members ≡ length (t .members)
     count-same = sym (length-by-places (λ j. getD (table .first) j 0) 0 (table .members)) ∙ ap length members-same

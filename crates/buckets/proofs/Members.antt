@@ -8,7 +8,7 @@ use Prim.Native.Nat.{ℕ, zero, suc, _+_, _-_, _*_, _^_, _≤_, _<_}
 use mathlib.Core.List.{List, _∷_, map}
 use Rattle.definitions.specs.Basics.{product, numbersFrom}
 use Rattle.held_region.specs.declared.Table.{Table}
-use Rattle.held_region.specs.Outline.{membersOf}
+use Rattle.held_region.specs.Meaning.{membersOf}
 use Rattle.held_region.specs.Members.{membersFrom, members-next, members-done}
 use Rattle.held_region.specs.Places.{placesFrom, length-by-places, at-place}
 use Rattle.buckets.specs.Terms.{memberAt, strideAt, bedsAt}

@@ -7,7 +7,7 @@ use lib.Seq.{getD-set-same, getD-set-other}
 use Prim.Native.Nat.{ℕ, zero, suc, _+_, _*_, _<_}
 use mathlib.Core.List.{List}
 use Rattle.held_region.specs.declared.Patient.{Patient}
-use Rattle.held_region.specs.Held.{noPatient}
+use Rattle.held_region.specs.Meaning.{noPatient}
 use Rattle.buckets.specs.Terms.{bedsAt, leastAt, firstAt}
 use Rattle.buckets.specs.Written.{PatientsWritten}
 

@@ -11,10 +11,9 @@ use Rattle.definitions.specs.Syntax.{Table, Region, patientAt}
 use Rattle.definitions.specs.Plans.{Plan, bedOf, entryFor}
 use Rattle.ranking.specs.Members.{_∈_, getD-in}
 use Rattle.theorems.specs.Accepted.{Accepted, TableRight, table-right, patients-few, entries-few, beds-some, entry-small}
-use Rattle.held_region.specs.Held.{tableAt}
+use Rattle.held_region.specs.Stores.{tableAt, startOf, start-next, start-most, Stands}
 use Rattle.buckets.specs.Terms.{Fitting, highest, startAt, nextAt, memberAt, strideAt, placeAt, Term, Chain}
 use Rattle.buckets.specs.Places.{strideOf, placeOf, place-strides, place-bound, place-last}
-use Rattle.held_region.specs.Stores.{startOf, start-next, start-most, Stands}
 use Rattle.buckets.specs.Right.{in-bucket}
 
 sum-same : (f g : ℕ → ℕ) (a n : ℕ) → ((j : ℕ) → j < a + n → f j ≡ g j) → sum (map f (numbersFrom a n)) ≡ sum (map g (numbersFrom a n))
@@ -54,7 +53,7 @@ module _ (r : Region) (a : Accepted r) (i : ℕ) (h : i < length (r .tables)) (t
 
   -- The entries begin and end in the store.
   ends : startOf (r .tables) i + length (t .entries) ≤ 4096
-  ends = omega (arith, start-next (r .tables) i h, start-most (r .tables) (suc i), entries-few r a)
+  ends = omega (arith, start-next (r .tables) i, start-most (r .tables) (suc i), entries-few r a)
 
   module _ (starts : startAt terms i ≡ startOf (r .tables) i) (members : (j : ℕ) → j < 4 → memberAt terms i j ≡ getD (t .members) j 0)
       (strides : (j : ℕ) → j < 4 → strideAt terms i j ≡ strideOf count (t .members) j) where

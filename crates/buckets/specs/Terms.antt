@@ -8,7 +8,7 @@ use Rattle.theorems.specs.Accepted.{Accepted}
 use Rattle.partial_rows.specs.Sets.{only}
 use Rattle.partial_rows.specs.Rows.{holds, decidedTables}
 use Rattle.partial_rows.specs.Bounds.{leastEntry}
-use Rattle.held_region.specs.Held.{codeOf}
+use Rattle.held_region.specs.Meaning.{codeOf}
 
 -- A plan with each bed below its patient's count.
 abbrev pub Fitting : Region → Plan → Type 0

@@ -3,9 +3,8 @@ use Prim.Native.Nat.{_≤_}
 use Rattle.definitions.specs.Basics.{ℕ, _+_, _*_, _-_, _^_, _<_, _≡_, List, map, getD, length, product}
 use Rattle.held_region.specs.declared.Patient.{Patient}
 use Rattle.held_region.specs.declared.Table.{Table}
-use Rattle.held_region.specs.Held.{noPatient}
+use Rattle.held_region.specs.Meaning.{noPatient, membersOf}
 use Rattle.held_region.specs.Members.{membersFrom}
-use Rattle.held_region.specs.Outline.{membersOf}
 use Rattle.buckets.specs.Terms.{startAt, nextAt, memberAt, strideAt, bedsAt, leastAt, firstAt}
 use Rattle.buckets.specs.Places.{strideOf}
 use Rattle.buckets.specs.Least.{leastNumber}

@@ -11,7 +11,7 @@ ghost use Prim.Native.Nat.{_≤_, _<_};
 ghost use Rattle.definitions.specs.Basics.{every, contains};
 ghost use Rattle.theorems.specs.Accepted.{Accepted};
 ghost use Rattle.patient_set.specs.Sets.{members};
-ghost use Rattle.held_region.specs.Outline.{membersOf, said};
+ghost use Rattle.held_region.specs.Meaning.{membersOf, said};
 ghost use Rattle.held_region.specs.Related as Related;
 ghost use Rattle.buckets.specs.Among.{among};
 ghost use Rattle.buckets.specs.Terms.{Prepared};

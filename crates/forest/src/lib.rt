@@ -4,11 +4,10 @@ use held_region::Region;
 use patient_set::PatientSet;
 ghost use mathlib.Core.Path.{_≡_};
 ghost use Prim.Native.Nat.{ℕ, _<_, _≤_};
-ghost use Rattle.definitions.specs.Basics.{true, some, _&&_, eqb, ltb, getD};
-ghost use Rattle.definitions.specs.Questions.{parentsSmaller};
+ghost use Rattle.definitions.specs.Basics.{List, some, _&&_, eqb, ltb, getD};
 ghost use Rattle.patient_set.specs.Sets.{inSet};
-ghost use Rattle.held_region.specs.Held.{parentOf};
-ghost use Rattle.held_region.specs.Outline.{outline, Fits};
+ghost use Rattle.held_region.specs.Meaning.{parentOf, said};
+ghost use Rattle.held_region.specs.Sound.{ParentsFirst};
 ghost use Rattle.forest.specs.Trees.{Rooted, rootFrom};
 
 // The root of patient s, who has this parent: its own number, or its parent's root.
@@ -27,8 +26,8 @@ fn root_number(roots: [u32; 32], s: usize, parent: Parent) -> u32
 
 // The root of each patient. A parent's number is smaller, so its root is known first.
 pub fn root_numbers(region: Region) -> [u32; 32]
-    requires { ⌜ (Fits region) × (parentsSmaller (outline region) ≡ true) ⌝ }
-    ensures { λ roots. ⌜ Rooted (outline region) roots ⌝ }
+    requires { ⌜ ParentsFirst region ⌝ }
+    ensures { λ roots. ⌜ ((store : List ℕ) → Rooted (said region store) roots) ⌝ }
 {
     let mut roots = [0u32; 32];
     let mut s = 0;

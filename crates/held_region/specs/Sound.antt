@@ -7,6 +7,7 @@ use borrow.Author.Tests.{ltb-true}
 use Rattle.definitions.specs.Basics.{ℕ, _<_, true, _&&_, List, length, getD, ltb, every, everyTwo}
 use Rattle.definitions.specs.Limits.{limits, within, patientCount, tableCount, clinic, bedCount, memberCount}
 use Rattle.definitions.specs.Questions.{countsWithin, patientsWithin, parentsSmaller, membersRight}
+use Rattle.theorems.specs.Accepted.{Accepted}
 use Rattle.held_region.specs.declared.Patient.{Patient}
 use Rattle.held_region.specs.declared.Region.{Region}
 use Rattle.held_region.specs.Meaning.{noPatient, patientOf, patientIn, tableIn, membersOf, said}
@@ -40,6 +41,17 @@ pub record ParentsFirst (h : Region) : Type 0 where
   pub store : List ℕ
   pub places : HasPlaces h
   pub smaller : parentsSmaller (said h store) ≡ true
+
+-- Both are so of an accepted region.
+pub accepted-sound : (h : Region) (store : List ℕ) → Accepted (said h store) → Sound h
+accepted-sound h store a = record { store = store; places = has-places h store (a .countsFit); patients = a .patientsFit; members = a .membersFit }
+
+pub accepted-parents : (h : Region) (store : List ℕ) → Accepted (said h store) → ParentsFirst h
+accepted-parents h store a = record { store = store; places = has-places h store (a .countsFit); smaller = a .parentsFit }
+
+-- And with every store.
+pub patients-sound : (h : Region) → Sound h → (store : List ℕ) → patientsWithin (said h store) ≡ true
+patients-sound h sound store = patients-asked h store ∙ sym (patients-asked h (sound .store)) ∙ sound .patients
 
 pub parents-first : (h : Region) → ParentsFirst h → (store : List ℕ) → parentsSmaller (said h store) ≡ true
 parents-first h first store = parents-asked h store ∙ sym (parents-asked h (first .store)) ∙ first .smaller

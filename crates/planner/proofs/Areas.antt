@@ -13,7 +13,7 @@ use Rattle.ranking.specs.Members.{_∈_, getD-in}
 use Rattle.theorems.specs.Tests.{both}
 use Rattle.theorems.specs.Accepted.{Accepted}
 use Rattle.held_region.specs.declared.Region.{Region}
-use Rattle.held_region.specs.Outline.{said}
+use Rattle.held_region.specs.Meaning.{said}
 use Rattle.row_list.specs.Rows.{rowIn, rowsIn}
 use Rattle.row_list.specs.Laws.{cut-long, cut-at}
 use Rattle.row_writer.specs.Writing.{RowsWritten}

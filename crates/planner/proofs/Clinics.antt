@@ -19,7 +19,8 @@ use Rattle.theorems.specs.SheetRows.{sheet-rows}
 use Rattle.patient_set.specs.Sets.{members}
 use Rattle.patient_set.specs.Laws.{members-empty}
 use Rattle.held_region.specs.declared.Region.{Region}
-use Rattle.held_region.specs.Outline.{outline}
+use Rattle.held_region.specs.Meaning.{said}
+use Rattle.held_region.specs.Sound.{Sound, patients-sound}
 use Rattle.planner.specs.Asked.{present-asked}
 
 -- A number beyond the limits of clinics has none.
@@ -36,8 +37,8 @@ no-patients r c fitting outside = go (patientsOf r c) refl
         absurd (true≢false (sym fits ∙ ap (within clinic) (eqb-true (p .clinic) c same) ∙ outside))
 
 -- The set of such a clinic is empty.
-pub nobody-held : (h : Region) (c : ℕ) → patientsWithin (outline h) ≡ true → within clinic c ≡ false → members 0 ≡ patientsOf (outline h) c
-nobody-held h c fitting outside = members-empty ∙ sym (no-patients (outline h) c fitting outside)
+pub nobody-held : (h : Region) (c : ℕ) → Sound h → within clinic c ≡ false → (store : List ℕ) → members 0 ≡ patientsOf (said h store) c
+nobody-held h c sound outside store = members-empty ∙ sym (no-patients (said h store) c (patients-sound h sound store) outside)
 
 -- A clinic's number is a 32-bit number.
 pub clinic-narrow : (c : ℕ) → within clinic c ≡ true → c < 4_294_967_296

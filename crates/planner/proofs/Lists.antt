@@ -13,7 +13,7 @@ use Rattle.theorems.specs.Accepted.{Accepted, total-small}
 use Rattle.theorems.specs.List.{list-first}
 use Rattle.partial_rows.specs.Padding.{cut}
 use Rattle.held_region.specs.declared.Region.{Region}
-use Rattle.held_region.specs.Outline.{said}
+use Rattle.held_region.specs.Meaning.{said}
 use Rattle.row_list.specs.Rows.{rowsIn}
 use Rattle.row_list.specs.Laws.{rows-take}
 use Rattle.row_sums.specs.Sums.{part}

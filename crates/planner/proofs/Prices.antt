@@ -11,8 +11,8 @@ use Rattle.definitions.specs.Outcomes.{priced}
 use Rattle.theorems.specs.Tests.{both}
 use Rattle.theorems.specs.Accepted.{Accepted}
 use Rattle.held_region.specs.declared.Region.{Region}
-use Rattle.held_region.specs.Outline.{said}
-use Rattle.held_region.specs.Asked.{outline-count}
+use Rattle.held_region.specs.Meaning.{said}
+use Rattle.held_region.specs.Asked.{patients-said}
 use Rattle.buckets.specs.Terms.{Prepared}
 use Rattle.pricing.specs.declared.Cost.{Cost}
 use Rattle.pricing.specs.Pricing.{costIn, AsksAll, GivesAll, PlanAsked}
@@ -29,7 +29,7 @@ module _ (h : Region) (store : List ℕ) {words terms : List ℕ} (plan : List �
 
   fits-asked : answer ≡ planFits r plan
   unfolding said
-  fits-asked = asked r (λ s l. prepared .beds s (omega (arith, outline-count h store))) refl (sym (outline-count h store))
+  fits-asked = asked r (λ s l. prepared .beds s (omega (arith, patients-said h store))) refl (sym (patients-said h store))
 
   pub misfit-priced : answer ≡ false → RegionPriced r plan Misfit
   misfit-priced misfit = sym (ap (λ b. priced (firstNo ((14, b) ∷ [])) (total r plan)) (sym fits-asked ∙ misfit))
@@ -51,12 +51,12 @@ module _ (h : Region) (store : List ℕ) {words terms : List ℕ} (plan : List �
         region = r;
         prepared = prepared;
         fits = fitting r plan beds pre fits same;
-        all = sym (outline-count h store);
+        all = sym (patients-said h store);
         few = counts-few h store pre .0;
       }
 
       pub fit-priced : (cost : Cost) → GivesAll store words terms (h .v) beds cost → (p : Priced) → priced 0 (costIn cost) ≡ pricedOutcome p → RegionPriced r plan p
       fit-priced cost gives p e =
-          let is = gives r prepared (fitting r plan beds pre fits same) (sym (outline-count h store)) in
+          let is = gives r prepared (fitting r plan beds pre fits same) (sym (patients-said h store)) in
           let whole = ap (λ n. take n beds) (sym as-many) ∙ same in
           sym e ∙ sym (ap₂ (λ b t. priced (firstNo ((14, b) ∷ [])) t) fits (sym (is ∙ ap (total r) whole)))

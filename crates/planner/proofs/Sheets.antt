@@ -8,17 +8,15 @@ use Rattle.definitions.specs.Syntax as Said
 use Rattle.definitions.specs.Syntax.{patientsOf}
 use Rattle.definitions.specs.Sheets.{sameBeds, ownRow, sheetOf}
 use Rattle.definitions.specs.Plans.{Row}
-use Rattle.definitions.specs.Questions.{firstNo, patientsWithin, clinicPresent, areasLongEnough}
+use Rattle.definitions.specs.Questions.{firstNo, clinicPresent, areasLongEnough}
 use Rattle.definitions.specs.Outcomes.{ListOutcome, written, foundBy, outcomeOf}
 use Rattle.theorems.specs.Accepted.{Accepted}
 use Rattle.theorems.specs.SheetAreas.{patients-few}
 use Rattle.patient_set.specs.Sets.{members}
 use Rattle.patient_set.specs.Laws.{size-most}
 use Rattle.held_region.specs.declared.Region.{Region}
-use Rattle.held_region.specs.Outline.{outline, said, Fits}
-use Rattle.held_region.specs.Asked.{outline-count}
-use Rattle.held_region.specs.Said.{clinic-said, patients-said}
-use Rattle.held_region.specs.Sound.{room}
+use Rattle.held_region.specs.Meaning.{said}
+use Rattle.held_region.specs.Asked.{patients-said}
 use Rattle.row_list.specs.Rows.{rowsIn}
 use Rattle.row_sums.specs.Sums.{part}
 use Rattle.row_sums.specs.Areas.{part-long}
@@ -44,7 +42,7 @@ module _ (h : Region) (store : List ℕ) {n set k count : ℕ} (beds costs work 
 
   -- A clinic has at most V patients.
   narrower : k ≤ h .v
-  narrower = omega (arith, wide, ap length (asks .asks .given .patients), patients-few (said h store) (asks .asks .clinic), outline-count h store)
+  narrower = omega (arith, wide, ap length (asks .asks .given .patients), patients-few (said h store) (asks .asks .clinic), patients-said h store)
 
   pub writable-sheet : Writable k count (part 1 area) beds costs
   writable-sheet =
@@ -77,13 +75,10 @@ same-zeros width sheet beds costs area work e =
       work = replicate l 0;
     }) e
 
-module _ (h : Region) (store : List ℕ) (accepted : Accepted (said h store)) (clinic set : ℕ) (is : members set ≡ patientsOf (outline h) clinic) (beds costs work : List ℕ)
+module _ (h : Region) (store : List ℕ) (accepted : Accepted (said h store)) (clinic set : ℕ) (held : members set ≡ patientsOf (said h store) clinic) (beds costs work : List ℕ)
     {empty : Bool} (told : empty ≡ isEmpty (members set)) where
   abbrev r : Said.Region
   r = said h store
-
-  held : members set ≡ patientsOf r clinic
-  held = is ∙ sym (clinic-said h store clinic)
 
   -- Question 11, by the set.
   eleven : {answer : Bool} → empty ≡ answer → clinicPresent r clinic ≡ not answer
@@ -144,7 +139,3 @@ module _ (h : Region) (store : List ℕ) (accepted : Accepted (said h store)) (c
         sheeted-rows some-found =
             let allowed = list-some r accepted (found-count h store accepted gives) some-found in
             left ∙ last (no-refusal r (question h store beds costs work asked yes-twelve) allowed)
-
--- What the set of a clinic's patients asks for.
-pub patients-accepted : (h : Region) (store : List ℕ) → Accepted (said h store) → (Fits h) × (patientsWithin (outline h) ≡ true)
-patients-accepted h store accepted = (room h store (accepted .countsFit), sym (patients-said h store) ∙ accepted .patientsFit)

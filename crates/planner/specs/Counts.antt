@@ -3,9 +3,9 @@ use Prim.Native.Nat.{_≤_}
 use Rattle.held_region.specs.declared.Region.{Region}
 use Rattle.definitions.specs.Basics.{ℕ, List}
 use Rattle.theorems.specs.Accepted.{Accepted, plans-wanted}
-use Rattle.held_region.specs.Outline.{said}
-use Rattle.held_region.specs.Sound.{room}
+use Rattle.held_region.specs.Meaning.{said}
+use Rattle.held_region.specs.Sound.{has-places}
 
 pub counts-few : (h : Region) (store : List ℕ) → Accepted (said h store) → (h .v ≤ 32) × (h .m ≤ 64)
 unfolding said
-counts-few h store accepted = (room h store (accepted .countsFit) .patients, plans-wanted (said h store) accepted .1)
+counts-few h store accepted = (has-places h store (accepted .countsFit) .patients, plans-wanted (said h store) accepted .1)

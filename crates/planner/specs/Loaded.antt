@@ -4,7 +4,7 @@ use Rattle.definitions.specs.Basics.{ℕ, true, _≡_, List}
 use Rattle.definitions.specs.Questions.{checkOf}
 use Rattle.theorems.specs.Accepted.{Accepted, accepted}
 use Rattle.held_region.specs.declared.Judged.the-variants.{Fine}
-use Rattle.held_region.specs.Outline.{said}
+use Rattle.held_region.specs.Meaning.{said}
 use Rattle.held_region.specs.Refusals.{numberOf}
 use Rattle.reader.specs.declared.Loaded.{Loaded}
 use Rattle.reader.specs.Loading.{LoadedFrom, checks}

@@ -9,7 +9,7 @@ use Rattle.definitions.specs.Questions.{Asked, firstNo, regionOf, clinicPresent
 use Rattle.definitions.specs.Outcomes.{foundBy, sheetFound, outcomeOf}
 use Rattle.theorems.specs.SheetAreas.{rows-few}
 use Rattle.held_region.specs.declared.Region.{Region}
-use Rattle.held_region.specs.Outline.{said}
+use Rattle.held_region.specs.Meaning.{said}
 use Rattle.sheets.specs.Sheets.{Given, Asks}
 use Rattle.answers.specs.declared.Sheeted.{Sheeted}
 use Rattle.answers.specs.declared.Sheeted.the-variants.{Rows}

@@ -1,10 +1,10 @@
 // The sheet of a clinic, over the region of an accepted file.
 ghost use mathlib.Core.Path.{_≡_};
-ghost use Rattle.definitions.specs.Basics.{true};
+ghost use Rattle.definitions.specs.Basics.{ℕ, List};
 ghost use Rattle.definitions.specs.Syntax.{patientsOf};
-ghost use Rattle.definitions.specs.Questions.{patientsWithin};
 ghost use Rattle.patient_set.specs.Sets.{members};
-ghost use Rattle.held_region.specs.Outline.{outline, Fits, said};
+ghost use Rattle.held_region.specs.Sound.{Sound};
+ghost use Rattle.held_region.specs.Meaning.{said};
 ghost use Rattle.theorems.specs.Accepted.{Accepted};
 ghost use Rattle.planner.specs.Sheets.{AsksSheet, SheetWritten, RegionSheeted};
 use crate::loaded::long_enough;
@@ -23,8 +23,8 @@ use sheets::sheet_rows;
 
 // The patients of a clinic. A number that no clinic can have is compared as it is, and has none.
 pub fn clinic_patients(region: Region, clinic: u64) -> PatientSet
-    requires { ⌜ (Fits region) × (patientsWithin (outline region) ≡ true) ⌝ }
-    ensures { λ set. ⌜ members (set .0) ≡ patientsOf (outline region) clinic ⌝ }
+    requires { ⌜ Sound region ⌝ }
+    ensures { λ set. ⌜ ((store : List ℕ) → members (set .0) ≡ patientsOf (said region store) clinic) ⌝ }
 {
     if !within(Field::Clinic, clinic as usize) {
         return PatientSet::EMPTY;

@@ -1,7 +1,7 @@
 // The entries over the region of an accepted file.
 ghost use mathlib.Core.Path.{_≡_};
 ghost use Rattle.theorems.specs.Accepted.{Accepted};
-ghost use Rattle.held_region.specs.Outline.{said};
+ghost use Rattle.held_region.specs.Meaning.{said};
 ghost use Prim.Native.Nat.{_≤_};
 ghost use Rattle.planner.specs.Prices.{RegionPriced};
 ghost use Rattle.planner.specs.Lists.{longEnough, RegionListed};

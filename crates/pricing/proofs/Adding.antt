@@ -7,7 +7,7 @@ use lib.Seq.{getD-set-same, getD-set-other}
 use borrow.Author.Tests.{eqb-true, eqb-false}
 use Rattle.definitions.specs.Basics.{ℕ, _+_, _<_, Bool, true, false, Option, none, some, List, length, getD, eqb}
 use Rattle.theorems.specs.Sums.{plus}
-use Rattle.held_region.specs.Held.{mark}
+use Rattle.held_region.specs.Meaning.{mark}
 use Rattle.pricing.specs.Pricing.{noSum, sumIn, entryIn}
 use Rattle.pricing.specs.Costs.{entry-number, sum-number}
 use Rattle.pricing.specs.BedCosts.{Small, AsksEntries, GivesEntries}

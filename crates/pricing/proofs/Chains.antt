@@ -12,7 +12,7 @@ use Rattle.theorems.specs.Kept.{keep-out}
 use Rattle.theorems.specs.Sums.{plus, plus-assoc}
 use Rattle.partial_rows.specs.Rows.{decidedTables}
 use Rattle.partial_rows.specs.Costs.{cost-cons}
-use Rattle.held_region.specs.Held.{mark}
+use Rattle.held_region.specs.Meaning.{mark}
 use Rattle.buckets.specs.Terms.{Fitting, highest, bucketOf, firstAt, nextAt, placeAt, Term, Chain, Prepared}
 use Rattle.pricing.specs.Pricing.{entryIn, Reads, Asks, Gives}
 use Rattle.pricing.specs.Costs.{zero-plus, plus-zero, entry-number, entry-known}

@@ -11,7 +11,7 @@ use Rattle.definitions.specs.Basics.{ℕ, _<_, Bool, true, false, cond, Option,
 use Rattle.definitions.specs.Syntax.{Region, patientAt}
 use Rattle.definitions.specs.Plans.{Plan, bedOf}
 use Rattle.theorems.specs.Sums.{plus}
-use Rattle.held_region.specs.Held.{mark, codeOf}
+use Rattle.held_region.specs.Meaning.{mark, codeOf}
 use Rattle.buckets.specs.Terms.{Fitting}
 use Rattle.pricing.specs.Pricing.{noSum, sumIn, entryIn}
 

@@ -5,7 +5,7 @@ use Rattle.definitions.specs.Basics.{ℕ, _+_, _*_, _<_, _≡_, Bool, cond, Opt
 use Rattle.definitions.specs.Syntax.{Region, patientAt}
 use Rattle.definitions.specs.Questions.{planFits}
 use Rattle.definitions.specs.Plans.{costOver, total}
-use Rattle.held_region.specs.Held.{mark}
+use Rattle.held_region.specs.Meaning.{mark}
 use Rattle.buckets.specs.Terms.{Fitting, bucketOf, startAt, memberAt, strideAt, bedsAt, Prepared}
 use Rattle.pricing.specs.declared.Cost.{Cost}
 use Rattle.pricing.specs.declared.Cost.the-variants.{Forbidden, Of}

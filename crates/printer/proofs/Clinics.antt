@@ -10,8 +10,7 @@ use Rattle.definitions.specs.Output.{printedRows}
 use Rattle.patient_set.specs.Sets.{members}
 use Rattle.patient_set.specs.Laws.{size-most}
 use Rattle.held_region.specs.declared.Region as Code
-use Rattle.held_region.specs.Outline.{outline, said}
-use Rattle.held_region.specs.Said.{clinic-said}
+use Rattle.held_region.specs.Meaning.{said}
 use Rattle.definitions.specs.Syntax.{patientsOf}
 use Rattle.row_list.specs.Rows.{rowsIn}
 use Rattle.row_sums.specs.Sums.{part}
@@ -26,20 +25,17 @@ use Rattle.printer.specs.Steps.{clinicText, AsksClinic, GivesClinic}
 abbrev sheetText : ℕ → List Row → List ℕ
 sheetText c rows = printedRows (text "sheet" ∷ decimal c ∷ []) rows
 
-module _ (h : Code.Region) (store : List ℕ) {n clinic at : ℕ} (out work : List ℕ) (asks : AsksClinic h store n clinic at out work) (set : ℕ) (is : members set ≡ patientsOf (outline h) clinic)
+module _ (h : Code.Region) (store : List ℕ) {n clinic at : ℕ} (out work : List ℕ) (asks : AsksClinic h store n clinic at out work) (set : ℕ) (held : members set ≡ patientsOf (said h store) clinic)
     {empty : Bool} (told : empty ≡ isEmpty (members set)) where
   abbrev r : Region
   r = said h store
-
-  held : members set ≡ patientsOf r clinic
-  held = is ∙ sym (clinic-said h store clinic)
 
   -- What is printed, by whether the set is empty.
   text-said : {answer : Bool} → empty ≡ answer → clinicText r clinic ≡ cond (not answer) (sheetText clinic (sheetOf r clinic)) []
   unfolding clinicText
   text-said e =
       ap (λ b. cond b (sheetText clinic (sheetOf r clinic)) [])
-      (present-asked r clinic ∙ ap (λ m. not (isEmpty m)) (sym (held)) ∙ ap not (sym told ∙ e))
+      (present-asked r clinic ∙ ap (λ m. not (isEmpty m)) (sym held) ∙ ap not (sym told ∙ e))
 
   pub clinic-absent : empty ≡ true → GivesClinic h store n clinic at out work out work at
   clinic-absent e = record {

@@ -8,7 +8,7 @@ use Rattle.definitions.specs.Spelling.{decimal, line}
 use Rattle.definitions.specs.Plans.{Row, listOf}
 use Rattle.definitions.specs.Output.{printedRows}
 use Rattle.held_region.specs.declared.Region as Code
-use Rattle.held_region.specs.Outline.{said}
+use Rattle.held_region.specs.Meaning.{said}
 use Rattle.row_list.specs.Rows.{rowsIn}
 use Rattle.row_list.specs.Laws.{cut-long}
 use Rattle.row_sums.specs.Sums.{part}

@@ -6,7 +6,7 @@ use Prim.Native.Nat.{_≤_}
 use Rattle.definitions.specs.Basics.{ℕ, _+_, _<_, List, [], _∷_, flatten}
 use Rattle.definitions.specs.Syntax.{Region}
 use Rattle.held_region.specs.declared.Region as Code
-use Rattle.held_region.specs.Outline.{said}
+use Rattle.held_region.specs.Meaning.{said}
 use Rattle.text_writer.specs.Wrote.{Left, none-yet, room-for, then-left}
 use Rattle.printer.specs.Steps.{sheetsFrom, Kept, AsksClinic, GivesClinic, AsksSheets, GivesSheets}
 use Rattle.printer.proofs.Texts.{clinic-left, sheets-done}

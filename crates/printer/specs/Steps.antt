@@ -9,7 +9,7 @@ use Rattle.definitions.specs.Questions.{firstNo, clinicPresent, planAllowed}
 use Rattle.definitions.specs.Output.{printedRows, printedAnswer}
 use Rattle.theorems.specs.Accepted.{Accepted}
 use Rattle.held_region.specs.declared.Region as Code
-use Rattle.held_region.specs.Outline.{said}
+use Rattle.held_region.specs.Meaning.{said}
 use Rattle.row_sums.specs.Sums.{listAt}
 use Rattle.text_writer.specs.Wrote.{Room, Wrote}
 

@@ -18,14 +18,11 @@ use Rattle.patient_set.specs.Lists.{contains-keep, contains-numbers}
 use Rattle.partial_rows.specs.Sets.{Patients, Part, first, second, neither, Splits}
 use Rattle.partial_rows.specs.Rows.{noBeds, emptyRow, RowOf}
 use Rattle.partial_rows.specs.Parts.{Apart}
-use Rattle.partial_rows.specs.Trees.{rootOf, rootsBelow, roots-none, roots-all}
+use Rattle.partial_rows.specs.Trees.{rootsBelow, roots-none, roots-all}
 use Rattle.partial_rows.specs.Whole.{tables-held, whole-list, none-left}
 use Rattle.held_region.specs.declared.Region as Code
-use Rattle.held_region.specs.Outline.{said, outline, Fits}
-use Rattle.held_region.specs.Asked.{outline-count}
-use Rattle.held_region.specs.Said.{parents-said, ancestors-said}
-use Rattle.held_region.specs.Sound.{room}
-use Rattle.definitions.specs.Questions.{parentsSmaller}
+use Rattle.held_region.specs.Meaning.{said}
+use Rattle.held_region.specs.Asked.{patients-said}
 use Rattle.buckets.specs.Terms.{Prepared}
 use Rattle.forest.specs.Trees.{Rooted, tree-beyond, tree-upward, tree-apart, trees-next}
 use Rattle.row_sums.specs.Sums.{part, listAt}
@@ -195,20 +192,7 @@ module _ {store patients terms roots : List ℕ} {v m : ℕ} {work : List ℕ} (
           gone neither e = refl
 
 -- A held region's words and roots.
-root-said : (h : Code.Region) (store : List ℕ) (s : ℕ) → rootOf (said h store) s ≡ rootOf (outline h) s
-unfolding rootOf
-root-said h store s = rw (ancestors-said h store s) refl
-
-rooted-said : (h : Code.Region) (store : List ℕ) {roots : List ℕ} → Rooted (outline h) roots → Rooted (said h store) roots
-rooted-said h store rooted = record {
-  roots = λ s l. rooted .roots s (omega (arith, outline-count h store, outline-count h [])) ∙ sym (root-said h store s);
-}
-
 pub planted : (h : Code.Region) (store : List ℕ) {patients terms roots : List ℕ}
-    → Prepared (said h store) store patients terms → Rooted (outline h) roots → Planted (said h store) store patients terms roots (h .v) (h .m)
+    → Prepared (said h store) store patients terms → Rooted (said h store) roots → Planted (said h store) store patients terms roots (h .v) (h .m)
 unfolding said
-planted h store prepared rooted =
-    record { prepared = prepared; rooted = rooted-said h store rooted; counted = sym (outline-count h store); wanted = refl }
-
-pub parents-accepted : (h : Code.Region) (store : List ℕ) → Accepted (said h store) → (Fits h) × (parentsSmaller (outline h) ≡ true)
-parents-accepted h store a = (room h store (a .countsFit), sym (parents-said h store) ∙ a .parentsFit)
+planted h store prepared rooted = record { prepared = prepared; rooted = rooted; counted = sym (patients-said h store); wanted = refl }

@@ -11,7 +11,7 @@ use Rattle.partial_rows.specs.Sets.{Patients, Splits}
 use Rattle.partial_rows.specs.Rows.{noBeds, RowOf}
 use Rattle.partial_rows.specs.Parts.{Apart}
 use Rattle.held_region.specs.declared.Region as Code
-use Rattle.held_region.specs.Outline.{said}
+use Rattle.held_region.specs.Meaning.{said}
 use Rattle.buckets.specs.Terms.{leastAt, Prepared}
 use Rattle.forest.specs.Trees.{Rooted}
 use Rattle.row_sums.specs.Sums.{part, listAt}

@@ -5,8 +5,8 @@ use Rattle.definitions.specs.Basics.{ℕ, List, contains}
 use Rattle.theorems.specs.Accepted.{patients-few}
 use Rattle.patient_set.specs.Sets.{members}
 use Rattle.held_region.specs.declared.Region.{Region}
-use Rattle.held_region.specs.Outline.{said}
-use Rattle.held_region.specs.Asked.{outline-count}
+use Rattle.held_region.specs.Meaning.{said}
+use Rattle.held_region.specs.Asked.{patients-said}
 use Rattle.buckets.specs.Terms.{Prepared}
 use Rattle.buckets.specs.Among.{among}
 use Rattle.row_list.specs.Rows.{rowsIn}
@@ -18,7 +18,7 @@ module _ (h : Region) (store : List ℕ) (n set : ℕ) (work patients terms : Li
   given-listed : (clinic : ℕ) → Given h store clinic n set work → Listed (said h store) clinic store patients terms (h .v) n set work
   given-listed clinic g =
       record {
-        own = record { prepared = prepared; ofClinic = g .patients; all = sym (outline-count h store) };
+        own = record { prepared = prepared; ofClinic = g .patients; all = sym (patients-said h store) };
         list = g .list;
       }
 
@@ -28,7 +28,7 @@ module _ (h : Region) (store : List ℕ) (n set : ℕ) (work patients terms : Li
         region = said h store;
         clinic = a .clinic;
         listed = given-listed (a .clinic) (a .given);
-        fewPatients = omega (arith, outline-count h store, patients-few (said h store) (a .accepted));
+        fewPatients = omega (arith, patients-said h store, patients-few (said h store) (a .accepted));
         few = a .few;
         long = a .long;
       }

@@ -7,7 +7,7 @@ use Rattle.definitions.specs.Sheets.{sheetOf}
 use Rattle.theorems.specs.Accepted.{Accepted}
 use Rattle.patient_set.specs.Sets.{members}
 use Rattle.held_region.specs.declared.Region as Code
-use Rattle.held_region.specs.Outline.{said}
+use Rattle.held_region.specs.Meaning.{said}
 use Rattle.row_sums.specs.Sums.{listAt}
 
 -- The list of what is said lies in the work area, and a set holds the patients of a clinic.

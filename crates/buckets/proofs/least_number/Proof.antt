@@ -2,7 +2,7 @@ use borrow.Author.Needs.{needs}
 use mathlib.Core.Logic.{⊎-elim}
 use mathlib.Core.Path.{_≡_, refl, ap, _∙_}
 use Prim.Native.Nat.{_+_, _-_}
-use Rattle.held_region.specs.Held.{mark}
+use Rattle.held_region.specs.Meaning.{mark}
 use Rattle.buckets.specs.Least.{lowest, codesIn, code-lower, code-kept, codes-done, none-found, number-found}
 use Rattle.buckets.proofs.least_number.Statement.{statement}
 use Rattle.buckets.proofs.least_number.Tie as tie

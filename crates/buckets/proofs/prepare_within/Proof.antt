@@ -1,8 +1,9 @@
 use borrow.Author.Needs.{needs}
 use Rattle.definitions.specs.Basics.{contains}
 use Rattle.patient_set.specs.Sets.{members}
+use Rattle.held_region.specs.Sound.{accepted-sound}
 use Rattle.held_region.specs.Related.{members-known}
-use Rattle.buckets.proofs.Filling.{Filling, sound-held, counts-held, filling-none, filling-all, filling-start, filling-known, filling-place, filling-over, filling-more}
+use Rattle.buckets.proofs.Filling.{Filling, counts-held, filling-none, filling-all, filling-start, filling-known, filling-place, filling-over, filling-more}
 use Rattle.buckets.proofs.prepare_within.Statement.{statement}
 use Rattle.buckets.proofs.prepare_within.Tie as tie
 
@@ -13,13 +14,13 @@ abbrev μ-loop : tie.MeasureT-loop
 μ-loop store of region patients₀ terms₀ start₀ i₀ patients terms start i = i
 
 patient-words-requires : tie.Need-patient-words-requires Inv-loop μ-loop
-patient-words-requires c κs = sound-held _ _ (c .before .pre) .fits .patients
+patient-words-requires c κs = accepted-sound _ _ (c .before .pre) .places .patients
 
 entry-total-requires : tie.Need-entry-total-requires Inv-loop μ-loop
-entry-total-requires c κs = (sound-held _ _ (c .before .before .pre), counts-held _ _ (c .before .before .pre))
+entry-total-requires c κs = counts-held _ _ (c .before .before .pre)
 
 loop-holds : tie.Need-loop-holds Inv-loop μ-loop
-loop-holds c = filling-none _ _ (c .before .before .before .pre) _ _ _ (sound-held _ _ (c .before .before .before .pre) .fits .tables) (c .before .patient-words .ensures) (c .entry-total .ensures)
+loop-holds c = filling-none _ _ (c .before .before .before .pre) _ _ _ (accepted-sound _ _ (c .before .before .before .pre) .places .tables) (c .before .patient-words .ensures) (c .entry-total .ensures)
 
 sub-i : tie.Need-sub-i Inv-loop μ-loop
 sub-i c = search needs
@@ -39,7 +40,7 @@ is-among-requires : tie.Need-is-among-requires Inv-loop μ-loop
 is-among-requires c κs =
     let turn = c .before .before in
     let start = turn .before .before .before .before .before in
-    members-known _ (sound-held _ _ (start .pre)) _ (filling-place _ _ (start .pre) _ _ _ _ _ (turn .loop-test .taken) (turn .before .loop .inv))
+    members-known _ (accepted-sound _ _ (start .pre)) _ (filling-place _ _ (start .pre) _ _ _ _ _ (turn .loop-test .taken) (turn .before .loop .inv))
 
 add-term-requires : tie.Need-add-term-requires Inv-loop μ-loop
 add-term-requires c κs =

@@ -1,7 +1,7 @@
 use borrow.Author.Needs.{needs}
 use mathlib.Core.Path.{sym, ap}
 use native.Mathlib.Omega.{arith}
-use Rattle.held_region.specs.Held.{parentOf}
+use Rattle.held_region.specs.Meaning.{parentOf}
 use Rattle.forest.specs.Trees.{rootFrom}
 use Rattle.forest.proofs.root_number.Statement.{statement}
 use Rattle.forest.proofs.root_number.Tie as tie

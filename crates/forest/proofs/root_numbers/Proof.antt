@@ -3,8 +3,7 @@ use mathlib.Core.Path.{_≡_, refl}
 use Prim.Native.Nat.{_-_}
 use native.Mathlib.Omega.{arith}
 use lib.ListN.{length, length-set}
-use Rattle.definitions.specs.Basics.{[]}
-use Rattle.held_region.specs.Asked.{outline-count}
+use Rattle.held_region.specs.Asked.{patients-said}
 use Rattle.forest.proofs.Roots.{RootedTo, parent-known, rooted-more}
 use Rattle.forest.proofs.root_numbers.Statement.{statement}
 use Rattle.forest.proofs.root_numbers.Tie as tie
@@ -16,27 +15,27 @@ abbrev μ-loop : tie.MeasureT-loop
 μ-loop region roots₀ s₀ roots s = region .v - s
 
 loop-holds : tie.Need-loop-holds Inv-loop μ-loop
-loop-holds c = (refl, λ s l. absurd (omega arith))
+loop-holds c = (refl, λ store s l. absurd (omega arith))
 
 mul-patient : tie.Need-mul-patient Inv-loop μ-loop
-mul-patient c = omega (arith, c .before .before .pre .0 .patients)
+mul-patient c = omega (arith, c .before .before .pre .places .patients)
 
 element-copy-out-patient : tie.Need-element-copy-out-patient Inv-loop μ-loop
-element-copy-out-patient c = omega (arith, c .before .before .pre .0 .patients)
+element-copy-out-patient c = omega (arith, c .before .before .pre .places .patients)
 
 root-number-requires : tie.Need-root-number-requires Inv-loop μ-loop
 root-number-requires c κs =
-    let planned = c .before .before .before .pre in
-    (omega (arith, planned .0 .patients), parent-known _ planned _ (c .before .loop-test .taken))
+    let first = c .before .before .before .pre in
+    (omega (arith, first .places .patients), parent-known _ first _ (c .before .loop-test .taken))
 
 mul-roots : tie.Need-mul-roots Inv-loop μ-loop
-mul-roots c = omega (arith, c .before .before .before .before .pre .0 .patients)
+mul-roots c = omega (arith, c .before .before .before .before .pre .places .patients)
 
 array-write-roots : tie.Need-array-write-roots Inv-loop μ-loop
-array-write-roots c = omega (arith, c .before .before .before .before .pre .0 .patients)
+array-write-roots c = omega (arith, c .before .before .before .before .pre .places .patients)
 
 add-s : tie.Need-add-s Inv-loop μ-loop
-add-s c = omega (arith, c .before .before .before .before .pre .0 .patients)
+add-s c = omega (arith, c .before .before .before .before .pre .places .patients)
 
 loop-less : tie.Need-loop-less Inv-loop μ-loop
 loop-less c = search needs
@@ -44,11 +43,11 @@ loop-less c = search needs
 loop-again : tie.Need-loop-again Inv-loop μ-loop
 loop-again c =
     let inv = c .before .before .before .loop .inv in
-    let room = c .before .before .before .before .pre .0 .patients in
+    let room = c .before .before .before .before .pre .places .patients in
     (simp length-set (inv .0), rooted-more _ (c .before .before .before .before .pre) _ (c .before .before .loop-test .taken) _ _ (omega (arith, room)) (c .root-number .ensures) (inv .1))
 
 returns : tie.Need-returns Inv-loop μ-loop
-returns c = record { roots = λ s l. c .before .loop .inv .1 s (omega (arith, outline-count (c .before .before .args .t1) [])) }
+returns c = λ store. record { roots = λ s l. c .before .loop .inv .1 store s (omega (arith, patients-said (c .before .before .args .t1) store)) }
 
 pub root-numbers-spec : {M : Type 1} → statement M
 root-numbers-spec =

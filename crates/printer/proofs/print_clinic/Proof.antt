@@ -1,4 +1,4 @@
-use Rattle.planner.proofs.Sheets.{patients-accepted}
+use Rattle.held_region.specs.Sound.{accepted-sound}
 use borrow.Author.Needs.{needs}
 use denote.Ref.{now}
 use Rattle.row_sums.specs.Sums.{part}
@@ -7,7 +7,7 @@ use Rattle.printer.proofs.print_clinic.Statement.{statement}
 use Rattle.printer.proofs.print_clinic.Tie as tie
 
 clinic-patients-requires : tie.Need-clinic-patients-requires
-clinic-patients-requires c κs = patients-accepted _ _ (c .before .before .pre .listed .accepted)
+clinic-patients-requires c κs = accepted-sound _ _ (c .before .before .pre .listed .accepted)
 
 is-empty-requires : tie.Need-is-empty-requires
 is-empty-requires c κs = search needs
@@ -18,7 +18,7 @@ returns c =
     let clinic = asked .before in
     let start = clinic .before .before .before in
     let a = start .args in
-    clinic-absent _ _ (now (a .out)) (now (a .work)) (start .pre) (clinic .clinic-patients .result .0) (clinic .clinic-patients .ensures) (asked .is-empty .ensures) (c .if1 .taken)
+    clinic-absent _ _ (now (a .out)) (now (a .work)) (start .pre) (clinic .clinic-patients .result .0) (clinic .clinic-patients .ensures _) (asked .is-empty .ensures) (c .if1 .taken)
 
 sheet-rows-requires : tie.Need-sheet-rows-requires
 sheet-rows-requires c κs =
@@ -26,7 +26,7 @@ sheet-rows-requires c κs =
     let clinic = asked .before in
     let start = clinic .before .before .before in
     let a = start .args in
-    asks-sheet _ _ (now (a .out)) (now (a .work)) (start .pre) (clinic .clinic-patients .result .0) (clinic .clinic-patients .ensures) (asked .is-empty .ensures)
+    asks-sheet _ _ (now (a .out)) (now (a .work)) (start .pre) (clinic .clinic-patients .result .0) (clinic .clinic-patients .ensures _) (asked .is-empty .ensures)
 
 size-requires : tie.Need-size-requires
 size-requires c κs = search needs
@@ -52,7 +52,7 @@ print-sheet-requires c κs =
     let clinic = asked .before in
     let start = clinic .before .before .before in
     let a = start .args in
-    printable _ _ (now (a .out)) (now (a .work)) (start .pre) (clinic .clinic-patients .result .0) (clinic .clinic-patients .ensures) (asked .is-empty .ensures) (collected .before .before .if1 .left) (collected .sheet-rows .ensures) (sized .size .ensures)
+    printable _ _ (now (a .out)) (now (a .work)) (start .pre) (clinic .clinic-patients .result .0) (clinic .clinic-patients .ensures _) (asked .is-empty .ensures) (collected .before .before .if1 .left) (collected .sheet-rows .ensures) (sized .size .ensures)
 
 same-length : tie.Need-same-length
 same-length c = search needs
@@ -69,7 +69,7 @@ returns-2 c =
     let clinic = asked .before in
     let start = clinic .before .before .before in
     let a = start .args in
-    clinic-printed _ _ (now (a .out)) (now (a .work)) (start .pre) (clinic .clinic-patients .result .0) (clinic .clinic-patients .ensures) (asked .is-empty .ensures) (collected .before .before .if1 .left) (collected .sheet-rows .ensures) (sized .size .ensures) (c .before .before .print-sheet .ensures)
+    clinic-printed _ _ (now (a .out)) (now (a .work)) (start .pre) (clinic .clinic-patients .result .0) (clinic .clinic-patients .ensures _) (asked .is-empty .ensures) (collected .before .before .if1 .left) (collected .sheet-rows .ensures) (sized .size .ensures) (c .before .before .print-sheet .ensures)
 
 pub print-clinic-spec : {M : Type 1} → statement M
 print-clinic-spec =

@@ -1,5 +1,6 @@
 use borrow.Author.Needs.{needs}
-use Rattle.search.proofs.Forests.{planted, parents-accepted}
+use Rattle.held_region.specs.Sound.{accepted-parents}
+use Rattle.search.proofs.Forests.{planted}
 use Rattle.search.proofs.list_region.Statement.{statement}
 use Rattle.search.proofs.list_region.Tie as tie
 
@@ -7,14 +8,14 @@ prepare-requires : tie.Need-prepare-requires
 prepare-requires c κs = search needs
 
 root-numbers-requires : tie.Need-root-numbers-requires
-root-numbers-requires c κs = parents-accepted _ _ (c .before .before .pre .accepted)
+root-numbers-requires c κs = accepted-parents _ _ (c .before .before .pre .accepted)
 
 list-trees-requires : tie.Need-list-trees-requires
 list-trees-requires c κs =
     let roots = c .before .before .before .before .before .before in
     record {
       region = _;
-      planted = planted _ _ (roots .before .prepare .ensures) (roots .root-numbers .ensures);
+      planted = planted _ _ (roots .before .prepare .ensures) (roots .root-numbers .ensures _);
       long = roots .before .before .before .pre .long;
     }
 
@@ -28,7 +29,7 @@ returns c =
     record {
       count = gives .count;
       long = gives .long;
-      list = gives .list _ (planted _ _ (roots .before .prepare .ensures) (roots .root-numbers .ensures));
+      list = gives .list _ (planted _ _ (roots .before .prepare .ensures) (roots .root-numbers .ensures _));
     }
 
 pub list-region-spec : {M : Type 1} → statement M

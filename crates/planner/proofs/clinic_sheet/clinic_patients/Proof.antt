@@ -10,13 +10,13 @@ within-requires : tie.Need-within-requires
 within-requires c κs = search needs
 
 returns : tie.Need-returns
-returns c = nobody-held _ _ (c .before .before .pre .1) (sym (c .before .within .ensures) ∙ not-true _ (c .if1 .taken))
+returns c = nobody-held _ _ (c .before .before .pre) (sym (c .before .within .ensures) ∙ not-true _ (c .if1 .taken))
 
 cast-clinic-set : tie.Need-cast-clinic-set
 cast-clinic-set c = omega (arith, clinic-narrow _ (sym (c .before .within .ensures) ∙ not-false _ (c .if1 .left)))
 
 clinic-set-requires : tie.Need-clinic-set-requires
-clinic-set-requires c κs = c .before .before .pre .0
+clinic-set-requires c κs = c .before .before .pre .places
 
 returns-2 : tie.Need-returns-2
 returns-2 c = c .clinic-set .ensures

@@ -1,14 +1,15 @@
 use borrow.Author.Needs.{needs}
 use denote.Ref.{now}
 use borrow.Author.Tests.{not-true, not-false}
+use Rattle.held_region.specs.Sound.{accepted-sound}
 use Rattle.planner.specs.Counts.{counts-few}
 use Rattle.planner.proofs.Areas.{asks-list}
-use Rattle.planner.proofs.Sheets.{patients-accepted, sheeted-absent, sheeted-short, sheeted-nothing, asks-sheet, sheeted-rows}
+use Rattle.planner.proofs.Sheets.{sheeted-absent, sheeted-short, sheeted-nothing, asks-sheet, sheeted-rows}
 use Rattle.planner.proofs.clinic_sheet.sheet_loaded.Statement.{statement}
 use Rattle.planner.proofs.clinic_sheet.sheet_loaded.Tie as tie
 
 clinic-patients-requires : tie.Need-clinic-patients-requires
-clinic-patients-requires c κs = patients-accepted _ _ (c .before .before .before .pre)
+clinic-patients-requires c κs = accepted-sound _ _ (c .before .before .before .pre)
 
 is-empty-requires : tie.Need-is-empty-requires
 is-empty-requires c κs = search needs
@@ -19,7 +20,7 @@ returns c =
     let clinic = asked .before in
     let start = clinic .before .before .before .before in
     let a = start .args in
-    sheeted-absent _ _ (start .pre) (a .clinic) (clinic .clinic-patients .result .0) (clinic .clinic-patients .ensures) (now (a .beds)) (now (a .costs)) (now (a .work)) (asked .is-empty .ensures) (c .if1 .taken)
+    sheeted-absent _ _ (start .pre) (a .clinic) (clinic .clinic-patients .result .0) (clinic .clinic-patients .ensures _) (now (a .beds)) (now (a .costs)) (now (a .work)) (asked .is-empty .ensures) (c .if1 .taken)
 
 long-enough-requires : tie.Need-long-enough-requires
 long-enough-requires c κs = counts-few _ _ (c .before .before .before .before .before .before .pre)
@@ -30,7 +31,7 @@ returns-2 c =
     let clinic = asked .before in
     let start = clinic .before .before .before .before in
     let a = start .args in
-    sheeted-short _ _ (start .pre) (a .clinic) (clinic .clinic-patients .result .0) (clinic .clinic-patients .ensures) (now (a .beds)) (now (a .costs)) (now (a .work)) (asked .is-empty .ensures) (c .before .before .if1 .left) (c .before .long-enough .ensures) (not-true _ (c .if2 .taken))
+    sheeted-short _ _ (start .pre) (a .clinic) (clinic .clinic-patients .result .0) (clinic .clinic-patients .ensures _) (now (a .beds)) (now (a .costs)) (now (a .work)) (asked .is-empty .ensures) (c .before .before .if1 .left) (c .before .long-enough .ensures) (not-true _ (c .if2 .taken))
 
 list-region-requires : tie.Need-list-region-requires
 list-region-requires c κs =
@@ -45,7 +46,7 @@ write-sheet-requires c κs =
     let clinic = asked .before in
     let start = clinic .before .before .before .before in
     let a = start .args in
-    asks-sheet _ _ (start .pre) (a .clinic) (clinic .clinic-patients .result .0) (clinic .clinic-patients .ensures) (now (a .beds)) (now (a .costs)) (now (a .work)) (asked .is-empty .ensures) (listed .before .before .before .before .if1 .left) (listed .before .before .before .long-enough .ensures) (not-false _ (listed .before .before .if2 .left))
+    asks-sheet _ _ (start .pre) (a .clinic) (clinic .clinic-patients .result .0) (clinic .clinic-patients .ensures _) (now (a .beds)) (now (a .costs)) (now (a .work)) (asked .is-empty .ensures) (listed .before .before .before .before .if1 .left) (listed .before .before .before .long-enough .ensures) (not-false _ (listed .before .before .if2 .left))
     (listed .list-region .ensures)
 
 same-length : tie.Need-same-length
@@ -64,7 +65,7 @@ returns-3 c =
     let clinic = asked .before in
     let start = clinic .before .before .before .before in
     let a = start .args in
-    sheeted-nothing _ _ (start .pre) (a .clinic) (clinic .clinic-patients .result .0) (clinic .clinic-patients .ensures) (now (a .beds)) (now (a .costs)) (now (a .work)) (asked .is-empty .ensures) (listed .before .before .before .before .if1 .left) (listed .before .before .before .long-enough .ensures) (not-false _ (listed .before .before .if2 .left))
+    sheeted-nothing _ _ (start .pre) (a .clinic) (clinic .clinic-patients .result .0) (clinic .clinic-patients .ensures _) (now (a .beds)) (now (a .costs)) (now (a .work)) (asked .is-empty .ensures) (listed .before .before .before .before .if1 .left) (listed .before .before .before .long-enough .ensures) (not-false _ (listed .before .before .if2 .left))
     (listed .list-region .ensures) (c .before .before .before .before .before .before .before .write-sheet .ensures) (c .if3 .taken)
 
 same-length-4 : tie.Need-same-length-4
@@ -83,7 +84,7 @@ returns-4 c =
     let clinic = asked .before in
     let start = clinic .before .before .before .before in
     let a = start .args in
-    sheeted-rows _ _ (start .pre) (a .clinic) (clinic .clinic-patients .result .0) (clinic .clinic-patients .ensures) (now (a .beds)) (now (a .costs)) (now (a .work)) (asked .is-empty .ensures) (listed .before .before .before .before .if1 .left) (listed .before .before .before .long-enough .ensures) (not-false _ (listed .before .before .if2 .left))
+    sheeted-rows _ _ (start .pre) (a .clinic) (clinic .clinic-patients .result .0) (clinic .clinic-patients .ensures _) (now (a .beds)) (now (a .costs)) (now (a .work)) (asked .is-empty .ensures) (listed .before .before .before .before .if1 .left) (listed .before .before .before .long-enough .ensures) (not-false _ (listed .before .before .if2 .left))
     (listed .list-region .ensures) (c .before .before .before .before .before .before .before .write-sheet .ensures) (c .if3 .left)
 
 pub sheet-loaded-spec : {M : Type 1} → statement M
