@@ -114,6 +114,7 @@ pub fn checksum_before(s: &[u8], end: usize) -> u32
 // The mark of a hyphen among the values of fields: more than any number of a file.
 const HYPHEN: u32 = 4_294_967_295;
 
+// The value of a field that may be a hyphen.
 fn value_of(field: Optional) -> u32
     ensures { λ r. ⌜ r ≡ valueOf (optional field) ⌝ }
 {
@@ -123,6 +124,7 @@ fn value_of(field: Optional) -> u32
     }
 }
 
+// What such a value says.
 fn said_by(value: u32) -> Optional
     ensures { λ r. ⌜ optional r ≡ saidBy value ⌝ }
 {
@@ -152,12 +154,12 @@ fn field_at(line: &[u8], at: usize, hyphen: bool) -> Number
     }
 }
 
-// Is a line this name, fields of these kinds, one space before each, and the end of a form? Then the values are theirs.
-fn read_form(line: &[u8], name: &[u8], kinds: &[bool], values: &mut [u32]) -> bool
+// Is a line this opening word, fields of these kinds, one space before each, and the end of a form? Then the values are theirs.
+fn read_form(line: &[u8], opening: &[u8], kinds: &[bool], values: &mut [u32]) -> bool
     requires { ⌜ length (now values) ≡ length (now kinds) ⌝ }
-    ensures { λ r. ⌜ valuesIf r (now (values .exit)) ≡ fieldValues (now (name .entry)) (now (kinds .entry)) (now (line .entry)) ⌝ }
+    ensures { λ r. ⌜ valuesIf r (now (values .exit)) ≡ fieldValues (now (opening .entry)) (now (kinds .entry)) (now (line .entry)) ⌝ }
 {
-    let Passed::At(start) = word_at(line, 0, name) else {
+    let Passed::At(start) = word_at(line, 0, opening) else {
         return false;
     };
     let mut at = start;

@@ -3,15 +3,15 @@ use Prim.Native.Nat.{_-_}
 use lib.ListN.{length}
 use borrow.Author.Needs.{needs}
 use Rattle.scanner.specs.Answers.{passed, numberRead}
-use Rattle.line_reader.proofs.Forms.{FieldsRead, name-there, name-missing, space-missing, field-missing, field-there, end-missing, form-there}
+use Rattle.line_reader.proofs.Forms.{FieldsRead, opening-there, opening-missing, space-missing, field-missing, field-there, end-missing, form-there}
 use Rattle.line_reader.proofs.read_form.Statement.{statement}
 use Rattle.line_reader.proofs.read_form.Tie as tie
 
 abbrev Inv-loop : tie.InvT-loop
-Inv-loop line name kinds values₀ start at₀ k₀ t12 t13 values at k = FieldsRead line name kinds values at k
+Inv-loop line opening kinds values₀ start at₀ k₀ t12 t13 values at k = FieldsRead line opening kinds values at k
 
 abbrev μ-loop : tie.MeasureT-loop
-μ-loop line name kinds values₀ start at₀ k₀ t12 t13 values at k = length kinds - k
+μ-loop line opening kinds values₀ start at₀ k₀ t12 t13 values at k = length kinds - k
 
 word-at-requires : tie.Need-word-at-requires Inv-loop μ-loop
 word-at-requires c κs = search needs
@@ -23,12 +23,12 @@ enum-told : tie.Need-enum-told Inv-loop μ-loop
 enum-told c = search needs
 
 returns : tie.Need-returns Inv-loop μ-loop
-returns c = name-missing _ _ (c .before .before .word-at .ensures) (ap passed (c .enum-told .given .1))
+returns c = opening-missing _ _ (c .before .before .word-at .ensures) (ap passed (c .enum-told .given .1))
 
 loop-holds : tie.Need-loop-holds Inv-loop μ-loop
 loop-holds c =
     let known = c .before .before .before in
-    name-there _ _ (known .word-at .ensures) (known .before .before .before .before .before .pre) (ap passed (c .before .start .given .1))
+    opening-there _ _ (known .word-at .ensures) (known .before .before .before .before .before .pre) (ap passed (c .before .start .given .1))
 
 slice-aggregate-word-at : tie.Need-slice-aggregate-word-at Inv-loop μ-loop
 slice-aggregate-word-at c = search needs
