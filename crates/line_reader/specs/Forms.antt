@@ -4,7 +4,7 @@ use native.Mathlib.Omega.{arith}
 use borrow.Author.Tests.{ltb-true, ne-eqb}
 use Rattle.theorems.specs.Numbers.{hyphen-reads}
 use Rattle.scanner.specs.Parts.{Form, part, gives, read}
-use Rattle.definitions.specs.Basics.{ℕ, _≡_, refl, Bool, true, false, cond, Option, none, some, Option·map, bind, List, [], _∷_, _++_, getD, eqb, text, isEmpty, noneOr}
+use Rattle.definitions.specs.Basics.{ℕ, _≡_, refl, Bool, true, false, cond, Option, none, some, Option·map, bind, List, [], _∷_, _++_, getD, eqb, text, noneOr}
 use Rattle.definitions.specs.Limits.{limits}
 use Rattle.definitions.specs.Spelling.{spellable}
 use Rattle.definitions.specs.Syntax.{Patient}
