@@ -190,9 +190,8 @@ pub enum RegionLine {
 pub fn region_line(line: &[u8]) -> RegionLine
     ensures { λ r. ⌜ regionRead r ≡ whole regionLine (now (line .entry)) ⌝ }
 {
-    let kinds = [NUMBER, NUMBER, NUMBER];
     let mut values = [0; 3];
-    if read_form(line, b"(region", &kinds, &mut values) {
+    if read_form(line, b"(region", &[NUMBER, NUMBER, NUMBER], &mut values) {
         RegionLine::Is(values[0], values[1], values[2])
     } else {
         RegionLine::Other
@@ -208,9 +207,13 @@ pub enum PatientLine {
 pub fn patient_line(line: &[u8]) -> PatientLine
     ensures { λ r. ⌜ patientRead r ≡ whole patientLine (now (line .entry)) ⌝ }
 {
-    let kinds = [NUMBER, NUMBER, HYPHEN_OR_NUMBER];
     let mut values = [0; 3];
-    if read_form(line, b"(patient", &kinds, &mut values) {
+    if read_form(
+        line,
+        b"(patient",
+        &[NUMBER, NUMBER, HYPHEN_OR_NUMBER],
+        &mut values,
+    ) {
         PatientLine::Is(values[0], values[1], said_by(values[2]))
     } else {
         PatientLine::Other
@@ -226,9 +229,8 @@ pub enum EndLine {
 pub fn end_line(line: &[u8]) -> EndLine
     ensures { λ r. ⌜ endRead r ≡ whole endLine (now (line .entry)) ⌝ }
 {
-    let kinds = [NUMBER];
     let mut values = [0; 1];
-    if read_form(line, b"(end", &kinds, &mut values) {
+    if read_form(line, b"(end", &[NUMBER], &mut values) {
         EndLine::Is(values[0])
     } else {
         EndLine::Other
