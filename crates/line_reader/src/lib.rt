@@ -138,7 +138,7 @@ fn said_by(value: u32) -> Optional
 // A field's kind: may it be a hyphen?
 const NUMBER: bool = false;
 
-const HYPHEN_OR_NUMBER: bool = true;
+const OPTIONAL: bool = true;
 
 // The value of a field of this kind, and the place after it.
 fn field_at(line: &[u8], at: usize, hyphen: bool) -> Number
@@ -208,12 +208,7 @@ pub fn patient_line(line: &[u8]) -> PatientLine
     ensures { λ r. ⌜ patientRead r ≡ whole patientLine (now (line .entry)) ⌝ }
 {
     let mut values = [0; 3];
-    if read_form(
-        line,
-        b"(patient",
-        &[NUMBER, NUMBER, HYPHEN_OR_NUMBER],
-        &mut values,
-    ) {
+    if read_form(line, b"(patient", &[NUMBER, NUMBER, OPTIONAL], &mut values) {
         PatientLine::Is(values[0], values[1], said_by(values[2]))
     } else {
         PatientLine::Other
