@@ -1,9 +1,9 @@
 -- What each answer says of a line, in the terms of the definition's readers.
-use Prim.Native.Nat.{_+_, _-_, _≤_, _<_, min, max}
+use Prim.Native.Nat.{_+_, _-_, _≤_, _<_, min}
 use lib.ListN.{take, drop}
-use Rattle.definitions.specs.Basics.{ℕ, _≡_, Bool, true, false, Option, none, some, Option·map, List, _∷_, length}
+use Rattle.definitions.specs.Basics.{ℕ, _≡_, Option, none, some, List, _∷_, length}
 use Rattle.definitions.specs.Syntax.{Patient}
-use Rattle.definitions.specs.Layout.{Reader, lines}
+use Rattle.definitions.specs.Layout.{lines}
 use Rattle.scanner.specs.Answers.{optional}
 use Rattle.line_reader.specs.declared.RegionLine.{RegionLine}
 use Rattle.line_reader.specs.declared.RegionLine.the-variants.{Is as IsRegion, Other as NoRegion}

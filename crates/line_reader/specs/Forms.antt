@@ -1,50 +1,107 @@
--- The forms without lists as their parts, one number and what ends it at a time. Assumes nothing.
-use mathlib.Core.Path.{ap, fun-ext, _∙_}
-use Rattle.scanner.specs.Forms.{numberThen, then-on}
-use Rattle.scanner.specs.Parts.{part, gives, Left}
-use Rattle.definitions.specs.Basics.{ℕ, _≡_, refl, Option, none, some, bind, List, text}
+-- A form without lists: its opening word, its fields by their kinds, one space before each, and its end. Assumes nothing.
+use mathlib.Core.Path.{sym, ap}
+use native.Mathlib.Omega.{arith}
+use borrow.Author.Tests.{ltb-true, ne-eqb}
+use Rattle.theorems.specs.Numbers.{hyphen-reads}
+use Rattle.scanner.specs.Parts.{Form, part, gives, read}
+use Rattle.definitions.specs.Basics.{ℕ, _≡_, refl, Bool, true, false, cond, Option, none, some, Option·map, bind, List, [], _∷_, _++_, getD, eqb, text, noneOr}
+use Rattle.definitions.specs.Limits.{limits}
+use Rattle.definitions.specs.Spelling.{spellable}
+use Rattle.definitions.specs.Syntax.{Patient}
 use Rattle.definitions.specs.Layout.{Reader, _>>=_, _>>_, give, whole, exactly, word, number, hyphenOrNumber, regionLine, patientLine, endLine}
 
--- Readers that go on alike give the same.
-on-alike : {A B : Type 0} (first : Reader ℕ A) {next other : A → Reader ℕ B} (xs : List ℕ) → ((a : A) (ys : List ℕ) → next a ys ≡ other a ys) → (first >>= next) xs ≡ (first >>= other) xs
-on-alike first xs h = ap (bind (first xs)) (fun-ext (λ r. h (r .0) (r .1)))
+-- The value of a field: a number, or the mark of a hyphen, which is more than any number of a file.
+abbrev pub hyphenMark : ℕ
+hyphenMark = 4_294_967_295
 
--- The three forms so read.
+abbrev pub valueOf : Option ℕ → ℕ
+valueOf none = hyphenMark
+valueOf (some n) = n
+
+abbrev pub saidBy : ℕ → Option ℕ
+saidBy v = cond (eqb v hyphenMark) none (some v)
+
+-- A field by its kind: may it be a hyphen?
+unfoldable pub field : Bool → Reader ℕ ℕ
+field true = do o ← hyphenOrNumber; give (valueOf o)
+field false = number
+
+-- The fields that are left, after those of these values.
+abbrev pub fieldsLeft : List Bool → List ℕ → Form (List ℕ)
+fieldsLeft [] values = part (word ")\n") λ _. gives values
+fieldsLeft (k ∷ ks) values = part (word " ") λ _. part (field k) λ v. fieldsLeft ks (values ++ v ∷ [])
+
+abbrev pub form : List ℕ → List Bool → Form (List ℕ)
+form opening kinds = part (exactly opening) λ _. fieldsLeft kinds []
+
+-- The values of the fields of a line that has the form and nothing behind it.
+unfoldable pub fieldValues : List ℕ → List Bool → List ℕ → Option (List ℕ)
+fieldValues opening kinds line = whole (read (form opening kinds)) line
+
+abbrev pub valuesIf : Bool → List ℕ → Option (List ℕ)
+valuesIf there values = cond there (some values) none
+
+-- One reader after another, and what is made of what the last one gives.
+module _ {A B C : Type 0} where
+  bind-bind : (o : Option A) (f : A → Option B) (g : B → Option C) → bind (bind o f) g ≡ bind o (λ a. bind (f a) g)
+  unfolding bind
+  bind-bind none f g = refl
+  bind-bind (some a) f g = refl
+
+  map-bind : (f : B → C) (o : Option A) (g : A → Option B) → Option·map f (bind o g) ≡ bind o (λ a. Option·map f (g a))
+  unfolding bind
+  map-bind f none g = refl
+  map-bind f (some a) g = refl
+
+module _ {A B : Type 0} where
+  bind-some : (a : A) (f : A → Option B) → bind (some a) f ≡ f a
+  unfolding bind
+  bind-some a f = refl
+
+  map-cond : (f : A → B) (t : Bool) (a : A) → Option·map f (cond t (some a) none) ≡ cond t (some (f a)) none
+  map-cond f true a = refl
+  map-cond f false a = refl
+
+-- The mark tells a hyphen from every number that a file can say.
+said-by : (o : Option ℕ) → noneOr spellable o ≡ true → saidBy (valueOf o) ≡ o
+unfolding limits
+said-by none h = refl
+said-by (some n) h = let l = ltb-true n 10_000_000 h in rw (ne-eqb n hyphenMark (λ e. omega arith))
+
 module _ (xs : List ℕ) where
-  end-then : endLine xs ≡ (do word "(end "; n ← numberThen (text ")\n"); give n) xs
-  unfolding endLine
-  end-then = on-alike (word "(end ") xs (λ _ ys. then-on (text ")\n") (λ n. give n) ys)
+  -- What the definition reads, by the value of the field.
+  number-by-value : number xs ≡ field false xs
+  unfolding field
+  number-by-value = refl
 
-  region-then : regionLine xs ≡ (do word "(region "; v ← numberThen (text " "); t ← numberThen (text " "); m ← numberThen (text ")\n"); give (v, t, m)) xs
-  unfolding regionLine
-  region-then =
-      on-alike (word "(region ") xs
-      (λ _ ys. then-on (text " ") (λ v. do t ← number; word " "; m ← number; word ")\n"; give (v, t, m)) ys
-      ∙ on-alike (numberThen (text " ")) ys
-      (λ v zs. then-on (text " ") (λ t. do m ← number; word ")\n"; give (v, t, m)) zs
-      ∙ on-alike (numberThen (text " ")) zs (λ t. then-on (text ")\n") (λ m. give (v, t, m)))))
+  hyphen-by-value : hyphenOrNumber xs ≡ (do v ← field true; give (saidBy v)) xs
+  unfolding field bind
+  hyphen-by-value = go (hyphenOrNumber xs) (λ p ys e. hyphen-reads .only e .0)
+    where
+      go : (o : Option (Option ℕ × List ℕ)) → ((p : Option ℕ) (ys : List ℕ) → o ≡ some (p, ys) → noneOr spellable p ≡ true)
+          → o ≡ bind (bind {B = ℕ × List ℕ} o (λ r. some (valueOf (r .0), r .1))) (λ r. some (saidBy (r .0), r .1))
+      go none h = refl
+      go (some r) h = ap (λ p. some (p, r .1)) (sym (said-by (r .0) (h (r .0) (r .1) refl)))
 
-  patient-then : patientLine xs
-      ≡ (do word "(patient "; c ← numberThen (text " "); d ← numberThen (text " "); p ← hyphenOrNumber; word ")\n"; give (record { clinic = c; bedCount = d; parent = p })) xs
-  unfolding patientLine
-  patient-then =
-      on-alike (word "(patient ") xs
-      (λ _ ys. then-on (text " ") (λ c. do d ← number; word " "; p ← hyphenOrNumber; word ")\n"; give (record { clinic = c; bedCount = d; parent = p })) ys
-      ∙ on-alike (numberThen (text " ")) ys
-      (λ c zs. then-on (text " ") (λ d. do p ← hyphenOrNumber; word ")\n"; give (record { clinic = c; bedCount = d; parent = p })) zs))
+-- The three forms, and what the values of their fields say.
+abbrev pub regionOf : List ℕ → ℕ × ℕ × ℕ
+regionOf values = (getD values 0 0, getD values 1 0, getD values 2 0)
 
-  -- The same as parts, none of them read yet.
-  pub end-form : Left xs (whole endLine xs) (part (word "(end ") λ _. part (numberThen (text ")\n")) λ n. gives n) 0
-  unfolding bind
-  end-form = record { says = rw end-then }
+abbrev pub patientOf : List ℕ → Patient
+patientOf values = record { clinic = getD values 0 0; bedCount = getD values 1 0; parent = saidBy (getD values 2 0) }
 
-  pub region-form : Left xs (whole regionLine xs)
-      (part (word "(region ") λ _. part (numberThen (text " ")) λ v. part (numberThen (text " ")) λ t. part (numberThen (text ")\n")) λ m. gives (v, t, m)) 0
-  unfolding bind
-  region-form = record { says = rw region-then }
+abbrev pub endOf : List ℕ → ℕ
+endOf values = getD values 0 0
 
-  pub patient-form : Left xs (whole patientLine xs)
-      (part (word "(patient ") λ _. part (numberThen (text " ")) λ c. part (numberThen (text " ")) λ d. part hyphenOrNumber λ p. part (word ")\n") λ _.
-      gives (record { clinic = c; bedCount = d; parent = p })) 0
-  unfolding bind
-  patient-form = record { says = rw patient-then }
+module _ (xs : List ℕ) where
+  pub region-form : whole regionLine xs ≡ Option·map regionOf (fieldValues (text "(region") (false ∷ false ∷ false ∷ []) xs)
+  unfolding regionLine fieldValues
+  region-form = simp (number-by-value, bind-bind, bind-some, map-bind, map-cond)
+
+  pub patient-form : whole patientLine xs ≡ Option·map patientOf (fieldValues (text "(patient") (false ∷ false ∷ true ∷ []) xs)
+  unfolding patientLine fieldValues
+  patient-form = simp (hyphen-by-value, number-by-value, bind-bind, bind-some, map-bind, map-cond)
+
+  pub end-form : whole endLine xs ≡ Option·map endOf (fieldValues (text "(end") (false ∷ []) xs)
+  unfolding endLine fieldValues
+  end-form = simp (number-by-value, bind-bind, bind-some, map-bind, map-cond)

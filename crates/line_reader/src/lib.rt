@@ -4,7 +4,7 @@ use scanner::Number;
 use scanner::Optional;
 use scanner::Passed;
 use scanner::hyphen_or_number_at;
-use scanner::number_then;
+use scanner::number_at;
 use scanner::word_at;
 ghost use mathlib.Core.Path.{_≡_};
 ghost use Prim.Native.Nat.{_+_, _≤_};
@@ -12,7 +12,9 @@ ghost use lib.ListN.{length, take};
 ghost use Rattle.definitions.specs.Basics.{sum};
 ghost use Rattle.definitions.specs.Layout.{whole, regionLine, patientLine, endLine};
 ghost use Rattle.definitions.specs.Questions.{checksum};
+ghost use Rattle.scanner.specs.Answers.{ReadAt, numberRead, optional};
 ghost use Rattle.line_reader.specs.Answers.{LineEnd, regionRead, patientRead, endRead};
+ghost use Rattle.line_reader.specs.Forms.{valueOf, saidBy, field, fieldValues, valuesIf};
 ghost use Rattle.line_reader.specs.Lines.{Seeking, fourGoOn};
 
 // Are the four bytes from a place on no line ends?
@@ -109,6 +111,76 @@ pub fn checksum_before(s: &[u8], end: usize) -> u32
     }
 }
 
+// The mark of a hyphen among the values of fields: more than any number of a file.
+const HYPHEN: u32 = 4_294_967_295;
+
+// The value of a field that may be a hyphen.
+fn value_of(field: Optional) -> u32
+    ensures { λ r. ⌜ r ≡ valueOf (optional field) ⌝ }
+{
+    match field {
+        Optional::Hyphen => HYPHEN,
+        Optional::Number(n) => n,
+    }
+}
+
+// What such a value says.
+fn said_by(value: u32) -> Optional
+    ensures { λ r. ⌜ optional r ≡ saidBy value ⌝ }
+{
+    if value == HYPHEN {
+        Optional::Hyphen
+    } else {
+        Optional::Number(value)
+    }
+}
+
+// A field's kind: may it be a hyphen?
+const NUMBER: bool = false;
+
+const OPTIONAL: bool = true;
+
+// The value of a field of this kind, and the place after it.
+fn field_at(line: &[u8], at: usize, hyphen: bool) -> Number
+    ensures { λ r. ⌜ ReadAt (field hyphen) (now (line .entry)) at (numberRead r) ⌝ }
+{
+    if hyphen {
+        match hyphen_or_number_at(line, at) {
+            Entry::Is(field, next) => Number::Value(value_of(field), next),
+            Entry::Nothing => Number::Nothing,
+        }
+    } else {
+        number_at(line, at)
+    }
+}
+
+// Is a line this opening word, fields of these kinds, one space before each, and the end of a form? Then the values are theirs.
+fn read_form(line: &[u8], opening: &[u8], kinds: &[bool], values: &mut [u32]) -> bool
+    requires { ⌜ length (now values) ≡ length (now kinds) ⌝ }
+    ensures { λ r. ⌜ valuesIf r (now (values .exit)) ≡ fieldValues (now (opening .entry)) (now (kinds .entry)) (now (line .entry)) ⌝ }
+{
+    let Passed::At(start) = word_at(line, 0, opening) else {
+        return false;
+    };
+    let mut at = start;
+    let mut k = 0;
+    while k < kinds.len() {
+        let Passed::At(begin) = word_at(line, at, b" ") else {
+            return false;
+        };
+        let Number::Value(value, next) = field_at(line, begin, kinds[k]) else {
+            return false;
+        };
+        values[k] = value;
+        at = next;
+        k += 1;
+    }
+    let Passed::At(end) = word_at(line, at, b")\n") else {
+        return false;
+    };
+    line.len() <= end
+}
+
 // The region line's counts of patients and tables, and the number of plans wanted.
 pub enum RegionLine {
     Is(u32, u32, u32),
@@ -118,22 +190,12 @@ pub enum RegionLine {
 pub fn region_line(line: &[u8]) -> RegionLine
     ensures { λ r. ⌜ regionRead r ≡ whole regionLine (now (line .entry)) ⌝ }
 {
-    let Passed::At(a) = word_at(line, 0, b"(region ") else {
-        return RegionLine::Other;
-    };
-    let Number::Value(patients, b) = number_then(line, a, b" ") else {
-        return RegionLine::Other;
-    };
-    let Number::Value(tables, c) = number_then(line, b, b" ") else {
-        return RegionLine::Other;
-    };
-    let Number::Value(plans, end) = number_then(line, c, b")\n") else {
-        return RegionLine::Other;
-    };
-    if end < line.len() {
-        return RegionLine::Other;
+    let mut values = [0; 3];
+    if read_form(line, b"(region", &[NUMBER, NUMBER, NUMBER], &mut values) {
+        RegionLine::Is(values[0], values[1], values[2])
+    } else {
+        RegionLine::Other
     }
-    RegionLine::Is(patients, tables, plans)
 }
 
 // A patient's clinic, count of beds and parent, which is none at a root.
@@ -145,25 +207,12 @@ pub enum PatientLine {
 pub fn patient_line(line: &[u8]) -> PatientLine
     ensures { λ r. ⌜ patientRead r ≡ whole patientLine (now (line .entry)) ⌝ }
 {
-    let Passed::At(a) = word_at(line, 0, b"(patient ") else {
-        return PatientLine::Other;
-    };
-    let Number::Value(clinic, b) = number_then(line, a, b" ") else {
-        return PatientLine::Other;
-    };
-    let Number::Value(beds, c) = number_then(line, b, b" ") else {
-        return PatientLine::Other;
-    };
-    let Entry::Is(parent, d) = hyphen_or_number_at(line, c) else {
-        return PatientLine::Other;
-    };
-    let Passed::At(end) = word_at(line, d, b")\n") else {
-        return PatientLine::Other;
-    };
-    if end < line.len() {
-        return PatientLine::Other;
+    let mut values = [0; 3];
+    if read_form(line, b"(patient", &[NUMBER, NUMBER, OPTIONAL], &mut values) {
+        PatientLine::Is(values[0], values[1], said_by(values[2]))
+    } else {
+        PatientLine::Other
     }
-    PatientLine::Is(clinic, beds, parent)
 }
 
 // The end line's sum.
@@ -175,14 +224,10 @@ pub enum EndLine {
 pub fn end_line(line: &[u8]) -> EndLine
     ensures { λ r. ⌜ endRead r ≡ whole endLine (now (line .entry)) ⌝ }
 {
-    let Passed::At(a) = word_at(line, 0, b"(end ") else {
-        return EndLine::Other;
-    };
-    let Number::Value(sum, end) = number_then(line, a, b")\n") else {
-        return EndLine::Other;
-    };
-    if end < line.len() {
-        return EndLine::Other;
+    let mut values = [0; 1];
+    if read_form(line, b"(end", &[NUMBER], &mut values) {
+        EndLine::Is(values[0])
+    } else {
+        EndLine::Other
     }
-    EndLine::Is(sum)
 }

@@ -2,4 +2,3 @@ pub mod Classes
 pub mod Words
 pub mod Numbers
 pub mod Steps
-pub mod Forms

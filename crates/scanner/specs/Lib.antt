@@ -7,5 +7,4 @@ pub mod Numbers
 pub mod Separators
 pub mod Items
 pub mod Bounds
-pub mod Forms
 pub mod Parts

@@ -6,7 +6,6 @@ ghost use Rattle.definitions.specs.Layout.{exactly, number, hyphenOrNumber};
 ghost use Rattle.scanner.specs.Classes.{classOf, firstClass};
 ghost use Rattle.scanner.specs.Answers.{ReadAt, passed, numberRead, entryRead, stepRead};
 ghost use Rattle.scanner.specs.Separators.{separator};
-ghost use Rattle.scanner.specs.Forms.{numberThen};
 
 // The reader's class of a byte; a digit comes with its value.
 pub enum Class {
@@ -110,19 +109,6 @@ pub fn number_at(s: &[u8], at: usize) -> Number
             }
         }
     }
-}
-
-// A number with exactly this word after it, and the place after that.
-pub fn number_then(s: &[u8], at: usize, word: &[u8]) -> Number
-    ensures { λ r. ⌜ ReadAt (numberThen (now (word .entry))) (now (s .entry)) at (numberRead r) ⌝ }
-{
-    let Number::Value(value, end) = number_at(s, at) else {
-        return Number::Nothing;
-    };
-    let Passed::At(next) = word_at(s, end, word) else {
-        return Number::Nothing;
-    };
-    Number::Value(value, next)
 }
 
 // A hyphen, which says that there is none, or a number.
