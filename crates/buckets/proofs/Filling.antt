@@ -7,56 +7,56 @@ use native.Mathlib.Omega.{arith}
 use borrow.Author.Tests.{eq-eqb, ne-eqb}
 use lib.ListN.{drop, replicate, drop-of-length-le}
 use lib.Seq.{drop-cons}
-use Rattle.definitions.specs.Basics.{ℕ, suc, _+_, _-_, _*_, _<_, Bool, true, false, cond, List, [], _∷_, map, length, getD, eqb, sum, every, keep}
+use Rattle.definitions.specs.Basics.{ℕ, suc, _+_, _-_, _*_, _<_, Bool, true, false, cond, List, [], _∷_, map, length, getD, eqb, sum, keep}
 use Rattle.definitions.specs.Syntax as Said
 use Rattle.definitions.specs.Syntax.{patientAt}
 use Rattle.definitions.specs.Plans.{constraints}
-use Rattle.theorems.specs.Accepted.{Accepted, patients-few, tables-few, entries-few, beds-few}
+use Rattle.theorems.specs.Accepted.{Accepted, member-at, patients-few, tables-few, entries-few, beds-few}
 use Rattle.partial_rows.specs.Rows.{decidedTables}
 use Rattle.partial_rows.specs.Bounds.{leastEntry}
 use Rattle.held_region.specs.declared.Table.{Table}
 use Rattle.held_region.specs.declared.Region.{Region}
 use Rattle.held_region.specs.Stores.{tableAt, startOf, start-next, start-most}
-use Rattle.held_region.specs.Meaning.{tableIn, membersOf, startIn, said}
+use Rattle.held_region.specs.Meaning.{tableIn, startIn, said}
 use Rattle.held_region.specs.Asked.{patients-said, patient-said, starts-said, stands}
 use Rattle.held_region.specs.Sound.{accepted-sound}
 use Rattle.held_region.specs.Entries.{CountsSmall, counts-match, counts-small}
 use Rattle.buckets.specs.Terms.{Term, Chain, Prepared, highest, bucketOf, leastIn, bedsAt, leastAt, firstAt}
 use Rattle.buckets.specs.Least.{leastNumber}
 use Rattle.buckets.specs.Places.{strideOf, stride-same}
-use Rattle.buckets.specs.Right.{in-bucket}
+use Rattle.buckets.specs.Highest.{in-bucket}
 use Rattle.buckets.specs.Chains.{term-right, chain-kept, chain-lower}
-use Rattle.buckets.specs.Among.{allAmong, among, accepted-among, term-among}
+use Rattle.buckets.specs.WithTables.{withTables, accepted-with, term-with}
 use Rattle.buckets.specs.Written.{PatientsWritten, lastOf, TermKnown, TermAdded}
 use Rattle.buckets.proofs.Writing.{zeros}
-use Rattle.buckets.proofs.Held.{held-lines, least-fits, held-place, held-right, held-known, members-same, entries-same, count-same}
+use Rattle.buckets.proofs.Held.{held-lines, least-fits, held-place, held-right, members-same, entries-same, count-same}
 use Rattle.buckets.proofs.Held.{first-same, last-same, last-known, least-told, least-one}
 
--- The tables among some patients, from place i on, of which s is the highest member.
-abbrev pub bucketFrom : (ℕ → Bool) → Said.Region → ℕ → ℕ → List Said.Table
-bucketFrom P r i s = keep (highest s) (keep (allAmong P) (drop i (r .tables)))
+-- The tables that pass a test, from place i on, of which s is the highest member.
+abbrev pub bucketFrom : (Said.Table → Bool) → Said.Region → ℕ → ℕ → List Said.Table
+bucketFrom test r i s = keep (highest s) (keep test (drop i (r .tables)))
 
--- The words say the buckets of the tables among some patients from place i on.
-pub record Filled (P : ℕ → Bool) (r : Said.Region) (store : List ℕ) (i start : ℕ) (patients terms : List ℕ) : Type 0 where
+-- The words say the buckets of the tables that pass a test from place i on.
+pub record Filled (test : Said.Table → Bool) (r : Said.Region) (store : List ℕ) (i start : ℕ) (patients terms : List ℕ) : Type 0 where
   pub starts : start ≡ startOf (r .tables) i
   pub beds : (s : ℕ) → s < length (r .patients) → bedsAt patients s ≡ patientAt r s .bedCount
-  pub least : (s : ℕ) → s < length (r .patients) → leastAt patients s ≡ sum (map leastEntry (bucketFrom P r i s))
-  pub bucket : (s : ℕ) → s < length (r .patients) → Chain (among r P) store terms i (firstAt patients s) (bucketFrom P r i s)
+  pub least : (s : ℕ) → s < length (r .patients) → leastAt patients s ≡ sum (map leastEntry (bucketFrom test r i s))
+  pub bucket : (s : ℕ) → s < length (r .patients) → Chain (withTables r test) store terms i (firstAt patients s) (bucketFrom test r i s)
 
-module _ (h : Region) (store : List ℕ) (P : ℕ → Bool) (a : Accepted (said h store)) where
+module _ (h : Region) (store : List ℕ) (test : Said.Table → Bool) (a : Accepted (said h store)) where
   abbrev r : Said.Region
   r = said h store
 
   -- No table yet.
   pub filled-none : (start : ℕ) (words terms : List ℕ) → PatientsWritten (h .patients) (h .v) words → start ≡ startIn h (h .t)
-      → Filled P r store (h .t) start words terms
+      → Filled test r store (h .t) start words terms
   unfolding Chain
   filled-none start words terms w total =
       record {
         starts = total ∙ sym (starts-said h store (h .t) (omega arith));
         beds = λ s l. w .beds s (known s l) ∙ ap (λ p. p .bedCount) (sym (patient-said h store s (known s l)));
-        least = λ s l. w .least s ∙ sym (ap (λ ts. sum (map leastEntry (keep (highest s) (keep (allAmong P) ts)))) none-left);
-        bucket = λ s l. subst (λ ts. Chain (among r P) store terms (h .t) (firstAt words s) (keep (highest s) (keep (allAmong P) ts))) (sym none-left) (w .first s (known s l));
+        least = λ s l. w .least s ∙ sym (ap (λ ts. sum (map leastEntry (keep (highest s) (keep test ts)))) none-left);
+        bucket = λ s l. subst (λ ts. Chain (withTables r test) store terms (h .t) (firstAt words s) (keep (highest s) (keep test ts))) (sym none-left) (w .first s (known s l));
       }
     where
       known : (s : ℕ) → s < length (r .patients) → s < h .v
@@ -66,12 +66,12 @@ module _ (h : Region) (store : List ℕ) (P : ℕ → Bool) (a : Accepted (said 
       none-left = drop-of-length-le (r .tables) {i = h .t} (omega (arith, held-lines h store a))
 
   -- All tables.
-  pub filled-all : (start : ℕ) (patients terms : List ℕ) → Filled P r store 0 start patients terms → Prepared (among r P) store patients terms
+  pub filled-all : (start : ℕ) (patients terms : List ℕ) → Filled test r store 0 start patients terms → Prepared (withTables r test) store patients terms
   unfolding bucketOf leastIn decidedTables constraints patientAt
-  filled-all start patients terms f = record { accepted = accepted-among r P a; beds = f .beds; least = f .least; bucket = f .bucket }
+  filled-all start patients terms f = record { accepted = accepted-with r test a; beds = f .beds; least = f .least; bucket = f .bucket }
 
   -- One more table.
-  module _ (i : ℕ) (l : i < h .t) (start : ℕ) (patients terms : List ℕ) (f : Filled P r store (suc i) start patients terms) where
+  module _ (i : ℕ) (l : i < h .t) (start : ℕ) (patients terms : List ℕ) (f : Filled test r store (suc i) start patients terms) where
     abbrev table : Table
     table = tableIn h i
 
@@ -93,13 +93,13 @@ module _ (h : Region) (store : List ℕ) (P : ℕ → Bool) (a : Accepted (said 
     least-is : leastNumber store from (from + table .entries) ≡ leastEntry t
     least-is = ap (λ n. leastNumber store n (n + table .entries)) from-is ∙ least-told h store a i l
 
-    next-table : (s : ℕ) → bucketFrom P r i s
-        ≡ keep (highest s) (cond (allAmong P t) (t ∷ keep (allAmong P) (drop (suc i) (r .tables))) (keep (allAmong P) (drop (suc i) (r .tables))))
-    next-table s = ap (λ ts. keep (highest s) (keep (allAmong P) ts)) (drop-cons (r .tables) i (record { members = []; entries = [] }) (held-place h store a i l))
+    next-table : (s : ℕ) → bucketFrom test r i s
+        ≡ keep (highest s) (cond (test t) (t ∷ keep test (drop (suc i) (r .tables))) (keep test (drop (suc i) (r .tables))))
+    next-table s = ap (λ ts. keep (highest s) (keep test ts)) (drop-cons (r .tables) i (record { members = []; entries = [] }) (held-place h store a i l))
 
     member-known : (j : ℕ) → j < table .members → getD (table .first) j 0 < length (r .patients)
     member-known j m =
-        omega (arith, first-same h store a i l j m, held-known h store a i l j (omega (arith, count-same h store a i l)))
+        omega (arith, first-same h store a i l j m, member-at (held-right h store a i l) j (omega (arith, count-same h store a i l)))
 
     pub term-known : length patients ≡ 96 → length terms ≡ 640 → TermKnown store table i from patients terms
     term-known wide termsWide =
@@ -125,79 +125,79 @@ module _ (h : Region) (store : List ℕ) (P : ℕ → Bool) (a : Accepted (said 
                 arith,
                 least-is,
                 least-one h store a i l,
-                least-fits h store a _ (allAmong P) (suc i) _ (f .least (lastOf table) (last-known h store a i l)),
+                least-fits h store a _ test (suc i) _ (f .least (lastOf table) (last-known h store a i l)),
               );
         }
 
-    -- A table that is not among the patients is passed over.
-    pub filled-over : every P (t .members) ≡ false → Filled P r store i from patients terms
+    -- A table that does not pass is passed over.
+    pub filled-over : test t ≡ false → Filled test r store i from patients terms
     filled-over out =
         record {
           starts = from-is;
           beds = f .beds;
           least = λ s m. f .least s m ∙ sym (ap (λ ts. sum (map leastEntry ts)) (over s));
           bucket = λ s m.
-              subst (λ ts. Chain (among r P) store terms i (firstAt patients s) ts) (sym (over s))
-              (chain-lower (among r P) store terms (suc i) i (firstAt patients s) (bucketFrom P r (suc i) s) (omega arith) (f .bucket s m));
+              subst (λ ts. Chain (withTables r test) store terms i (firstAt patients s) ts) (sym (over s))
+              (chain-lower (withTables r test) store terms (suc i) i (firstAt patients s) (bucketFrom test r (suc i) s) (omega arith) (f .bucket s m));
         }
       where
-        over : (s : ℕ) → bucketFrom P r i s ≡ bucketFrom P r (suc i) s
-        over s = next-table s ∙ ap (λ b. keep (highest s) (cond b (t ∷ keep (allAmong P) (drop (suc i) (r .tables))) (keep (allAmong P) (drop (suc i) (r .tables))))) out
+        over : (s : ℕ) → bucketFrom test r i s ≡ bucketFrom test r (suc i) s
+        over s = next-table s ∙ ap (λ b. keep (highest s) (cond b (t ∷ keep test (drop (suc i) (r .tables))) (keep test (drop (suc i) (r .tables))))) out
 
-    module _ (own : every P (t .members) ≡ true) (blank : (p : ℕ) → p < suc i * 10 → getD terms p 0 ≡ 0) {counted after : List ℕ} (w : TermAdded store table i from patients counted terms after) where
-      term-there : Term (among r P) store after i t
+    module _ (own : test t ≡ true) (blank : (p : ℕ) → p < suc i * 10 → getD terms p 0 ≡ 0) {counted after : List ℕ} (w : TermAdded store table i from patients counted terms after) where
+      term-there : Term (withTables r test) store after i t
       term-there =
-          (term-among r P store after i t
+          (term-with r test store after i t
           (term-right r a i (held-place h store a i l) after (w .starts ∙ from-is)
           (λ j m. w .members .members (λ q n. blank _ (omega arith)) j m ∙ ap (λ ms. getD ms j 0) (members-same h store a i l))
           (λ j m.
           w .members .strides (λ q n. blank _ (omega arith)) j m ∙ ap (λ ms. strideOf (bedsAt patients) ms j) (members-same h store a i l)
-          ∙ stride-same (bedsAt patients) (λ s. patientAt r s .bedCount) (t .members) (λ q n. f .beds _ (held-known h store a i l q n)) j) store (stands h store)))
+          ∙ stride-same (bedsAt patients) (λ s. patientAt r s .bedCount) (t .members) (λ q n. f .beds _ (member-at (held-right h store a i l) q n)) j) store (stands h store)))
 
-      kept : (s : ℕ) → s < length (r .patients) → Chain (among r P) store after (suc i) (firstAt patients s) (bucketFrom P r (suc i) s)
-      kept s m = chain-kept (among r P) store terms after (suc i) (firstAt patients s) (bucketFrom P r (suc i) s) (λ q n. w .members .others .higher q (omega arith)) (f .bucket s m)
+      kept : (s : ℕ) → s < length (r .patients) → Chain (withTables r test) store after (suc i) (firstAt patients s) (bucketFrom test r (suc i) s)
+      kept s m = chain-kept (withTables r test) store terms after (suc i) (firstAt patients s) (bucketFrom test r (suc i) s) (λ q n. w .members .others .higher q (omega arith)) (f .bucket s m)
 
-      one-more : (s : ℕ) → bucketFrom P r i s ≡ cond (eqb s (lastOf table)) (t ∷ bucketFrom P r (suc i) s) (bucketFrom P r (suc i) s)
+      one-more : (s : ℕ) → bucketFrom test r i s ≡ cond (eqb s (lastOf table)) (t ∷ bucketFrom test r (suc i) s) (bucketFrom test r (suc i) s)
       one-more s =
-          next-table s ∙ ap (λ b. keep (highest s) (cond b (t ∷ keep (allAmong P) (drop (suc i) (r .tables))) (keep (allAmong P) (drop (suc i) (r .tables))))) own
-          ∙ ap (λ b. cond b (t ∷ bucketFrom P r (suc i) s) (bucketFrom P r (suc i) s))
+          next-table s ∙ ap (λ b. keep (highest s) (cond b (t ∷ keep test (drop (suc i) (r .tables))) (keep test (drop (suc i) (r .tables))))) own
+          ∙ ap (λ b. cond b (t ∷ bucketFrom test r (suc i) s) (bucketFrom test r (suc i) s))
           (in-bucket s t (held-right h store a i l .some) (held-right h store a i l .rising) ∙ ap (eqb s) (sym (last-same h store a i l)))
 
-      put : (s : ℕ) → s ≡ lastOf table → bucketFrom P r i s ≡ t ∷ bucketFrom P r (suc i) s
-      put s e = one-more s ∙ ap (λ b. cond b (t ∷ bucketFrom P r (suc i) s) (bucketFrom P r (suc i) s)) (eq-eqb s (lastOf table) e)
+      put : (s : ℕ) → s ≡ lastOf table → bucketFrom test r i s ≡ t ∷ bucketFrom test r (suc i) s
+      put s e = one-more s ∙ ap (λ b. cond b (t ∷ bucketFrom test r (suc i) s) (bucketFrom test r (suc i) s)) (eq-eqb s (lastOf table) e)
 
-      passed : (s : ℕ) → (s ≡ lastOf table → ⊥) → bucketFrom P r i s ≡ bucketFrom P r (suc i) s
-      passed s n = one-more s ∙ ap (λ b. cond b (t ∷ bucketFrom P r (suc i) s) (bucketFrom P r (suc i) s)) (ne-eqb s (lastOf table) n)
+      passed : (s : ℕ) → (s ≡ lastOf table → ⊥) → bucketFrom test r i s ≡ bucketFrom test r (suc i) s
+      passed s n = one-more s ∙ ap (λ b. cond b (t ∷ bucketFrom test r (suc i) s) (bucketFrom test r (suc i) s)) (ne-eqb s (lastOf table) n)
 
       -- The bucket of the table's last member, and the others.
-      least-last : leastAt counted (lastOf table) ≡ sum (map leastEntry (bucketFrom P r i (lastOf table)))
+      least-last : leastAt counted (lastOf table) ≡ sum (map leastEntry (bucketFrom test r i (lastOf table)))
       least-last =
           w .least ∙ ap₂ (λ x y. x + y) (f .least (lastOf table) (last-known h store a i l)) least-is ∙ add-comm _ _
           ∙ sym (ap (λ ts. sum (map leastEntry ts)) (put (lastOf table) refl))
 
-      bucket-last : Chain (among r P) store after i (firstAt counted (lastOf table)) (bucketFrom P r i (lastOf table))
+      bucket-last : Chain (withTables r test) store after i (firstAt counted (lastOf table)) (bucketFrom test r i (lastOf table))
       unfolding Chain
       bucket-last =
-          subst (λ ts. Chain (among r P) store after i (firstAt counted (lastOf table)) ts) (sym (put (lastOf table) refl))
-          (subst (λ p. Chain (among r P) store after i p (t ∷ bucketFrom P r (suc i) (lastOf table))) (sym (w .first)) (
+          subst (λ ts. Chain (withTables r test) store after i (firstAt counted (lastOf table)) ts) (sym (put (lastOf table) refl))
+          (subst (λ p. Chain (withTables r test) store after i p (t ∷ bucketFrom test r (suc i) (lastOf table))) (sym (w .first)) (
             le-refl i,
             omega (arith, held-place h store a i l, tables-few r a),
             term-there,
-            subst (λ p. Chain (among r P) store after (suc i) p (bucketFrom P r (suc i) (lastOf table))) (sym (w .next)) (kept (lastOf table) (last-known h store a i l)),
+            subst (λ p. Chain (withTables r test) store after (suc i) p (bucketFrom test r (suc i) (lastOf table))) (sym (w .next)) (kept (lastOf table) (last-known h store a i l)),
           ))
 
-      least-of : (s : ℕ) → s < length (r .patients) → Dec (s ≡ lastOf table) → leastAt counted s ≡ sum (map leastEntry (bucketFrom P r i s))
+      least-of : (s : ℕ) → s < length (r .patients) → Dec (s ≡ lastOf table) → leastAt counted s ≡ sum (map leastEntry (bucketFrom test r i s))
       least-of s m (yes e) = rw e least-last
       least-of s m (no n) = w .otherLeast s n ∙ f .least s m ∙ sym (ap (λ ts. sum (map leastEntry ts)) (passed s n))
 
-      bucket-of : (s : ℕ) → s < length (r .patients) → Dec (s ≡ lastOf table) → Chain (among r P) store after i (firstAt counted s) (bucketFrom P r i s)
+      bucket-of : (s : ℕ) → s < length (r .patients) → Dec (s ≡ lastOf table) → Chain (withTables r test) store after i (firstAt counted s) (bucketFrom test r i s)
       bucket-of s m (yes e) = rw e bucket-last
       bucket-of s m (no n) =
-          subst (λ ts. Chain (among r P) store after i (firstAt counted s) ts) (sym (passed s n))
-          (subst (λ p. Chain (among r P) store after i p (bucketFrom P r (suc i) s)) (sym (w .otherFirst s n))
-          (chain-lower (among r P) store after (suc i) i (firstAt patients s) (bucketFrom P r (suc i) s) (omega arith) (kept s m)))
+          subst (λ ts. Chain (withTables r test) store after i (firstAt counted s) ts) (sym (passed s n))
+          (subst (λ p. Chain (withTables r test) store after i p (bucketFrom test r (suc i) s)) (sym (w .otherFirst s n))
+          (chain-lower (withTables r test) store after (suc i) i (firstAt patients s) (bucketFrom test r (suc i) s) (omega arith) (kept s m)))
 
-      pub filled-more : Filled P r store i from counted after
+      pub filled-more : Filled test r store i from counted after
       filled-more =
           record {
             starts = from-is;
@@ -208,23 +208,23 @@ module _ (h : Region) (store : List ℕ) (P : ℕ → Bool) (a : Accepted (said 
 
 -- ---- the loop
 
--- At place i: the terms below it are blank, and the tables among the patients from it on are in their buckets.
-pub record Filling (h : Region) (store : List ℕ) (P : ℕ → Bool) (i start : ℕ) (patients terms : List ℕ) : Type 0 where
+-- At place i: the terms below it are blank, and the tables that pass from it on are in their buckets.
+pub record Filling (h : Region) (store : List ℕ) (test : Said.Table → Bool) (i start : ℕ) (patients terms : List ℕ) : Type 0 where
   pub wide : length patients ≡ 96
   pub termsWide : length terms ≡ 640
   pub left : i ≤ h .t
   pub few : i ≤ 64
   pub blank : (p : ℕ) → p < i * 10 → getD terms p 0 ≡ 0
-  pub filled : Filled P (said h store) store i start patients terms
+  pub filled : Filled test (said h store) store i start patients terms
 
 module _ (h : Region) (store : List ℕ) (a : Accepted (said h store)) where
   -- What the sum of all entry counts asks for.
   pub counts-held : CountsSmall h
   counts-held = counts-small h (accepted-sound h store a) store (counts-match (said h store) (a .entryCountsFit))
 
-  module _ (P : ℕ → Bool) where
+  module _ (test : Said.Table → Bool) where
     pub filling-none : (start : ℕ) (words : List ℕ) → h .t ≤ 64
-        → PatientsWritten (h .patients) (h .v) words → start ≡ startIn h (h .t) → Filling h store P (h .t) start words (replicate 640 0)
+        → PatientsWritten (h .patients) (h .v) words → start ≡ startIn h (h .t) → Filling h store test (h .t) start words (replicate 640 0)
     filling-none start words few w total =
         record {
           wide = w .wide;
@@ -232,15 +232,15 @@ module _ (h : Region) (store : List ℕ) (a : Accepted (said h store)) where
           left = omega arith;
           few = few;
           blank = λ p l. zeros 640 p;
-          filled = filled-none h store P a start words (replicate 640 0) w total;
+          filled = filled-none h store test a start words (replicate 640 0) w total;
         }
 
-    pub filling-all : (start i : ℕ) (patients terms : List ℕ) → i ≤ 0 → Filling h store P i start patients terms → Prepared (among (said h store) P) store patients terms
+    pub filling-all : (start i : ℕ) (patients terms : List ℕ) → i ≤ 0 → Filling h store test i start patients terms → Prepared (withTables (said h store) test) store patients terms
     filling-all start i patients terms done f =
         let none-left : i ≡ 0 = omega arith in
-        filled-all h store P a start patients terms (rw none-left at (f .filled))
+        filled-all h store test a start patients terms (rw none-left at (f .filled))
 
-    module _ (i start : ℕ) (patients terms : List ℕ) (more : 0 < i) (f : Filling h store P i start patients terms) where
+    module _ (i start : ℕ) (patients terms : List ℕ) (more : 0 < i) (f : Filling h store test i start patients terms) where
       abbrev k : ℕ
       k = i - 1
 
@@ -250,20 +250,16 @@ module _ (h : Region) (store : List ℕ) (a : Accepted (said h store)) where
       next-place : i ≡ suc k
       next-place = omega arith
 
-      filled-next : Filled P (said h store) store (suc k) start patients terms
-      filled-next = subst (λ n. Filled P (said h store) store n start patients terms) next-place (f .filled)
+      filled-next : Filled test (said h store) store (suc k) start patients terms
+      filled-next = subst (λ n. Filled test (said h store) store n start patients terms) next-place (f .filled)
 
       pub filling-start : tableIn h k .entries ≤ start
-      filling-start = start-enough h store P a k filling-place start patients terms filled-next
+      filling-start = start-enough h store test a k filling-place start patients terms filled-next
 
       pub filling-known : TermKnown store (tableIn h k) k (start - tableIn h k .entries) patients terms
-      filling-known = term-known h store P a k filling-place start patients terms filled-next (f .wide) (f .termsWide)
+      filling-known = term-known h store test a k filling-place start patients terms filled-next (f .wide) (f .termsWide)
 
-      -- The test of the held table is that of the table said.
-      asked-said : {b : Bool} → b ≡ every P (membersOf (tableIn h k)) → every P (tableAt (said h store) k .members) ≡ b
-      asked-said e = sym (e ∙ ap (every P) (members-same h store a k filling-place))
-
-      pub filling-over : {b : Bool} → b ≡ every P (membersOf (tableIn h k)) → b ≡ false → Filling h store P k (start - tableIn h k .entries) patients terms
+      pub filling-over : {b : Bool} → b ≡ test (tableAt (said h store) k) → b ≡ false → Filling h store test k (start - tableIn h k .entries) patients terms
       filling-over e out =
           record {
             wide = f .wide;
@@ -271,12 +267,12 @@ module _ (h : Region) (store : List ℕ) (a : Accepted (said h store)) where
             left = omega (arith, f .left);
             few = omega (arith, f .few);
             blank = λ p l. f .blank p (omega arith);
-            filled = filled-over h store P a k filling-place start patients terms filled-next (asked-said e ∙ out);
+            filled = filled-over h store test a k filling-place start patients terms filled-next (sym e ∙ out);
           }
 
-      pub filling-more : {b : Bool} → b ≡ every P (membersOf (tableIn h k)) → b ≡ true → {counted after : List ℕ}
+      pub filling-more : {b : Bool} → b ≡ test (tableAt (said h store) k) → b ≡ true → {counted after : List ℕ}
           → TermAdded store (tableIn h k) k (start - tableIn h k .entries) patients counted terms after
-          → Filling h store P k (start - tableIn h k .entries) counted after
+          → Filling h store test k (start - tableIn h k .entries) counted after
       filling-more e own {counted} {after} w =
           record {
             wide = w .wide;
@@ -284,5 +280,5 @@ module _ (h : Region) (store : List ℕ) (a : Accepted (said h store)) where
             left = omega (arith, f .left);
             few = omega (arith, f .few);
             blank = λ p l. w .members .others .lower p l ∙ f .blank p (omega arith);
-            filled = filled-more h store P a k filling-place start patients terms filled-next (asked-said e ∙ own) (λ p l. f .blank p (omega arith)) w;
+            filled = filled-more h store test a k filling-place start patients terms filled-next (sym e ∙ own) (λ p l. f .blank p (omega arith)) w;
           }

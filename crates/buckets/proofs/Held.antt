@@ -11,7 +11,7 @@ use Rattle.definitions.specs.Syntax as Said
 use Rattle.theorems.specs.Tests.{both}
 use Rattle.theorems.specs.Every.{every-weaken}
 use Rattle.ranking.specs.Members.{getD-in}
-use Rattle.theorems.specs.Accepted.{Accepted, at-most, TableRight, table-right, tables-few}
+use Rattle.theorems.specs.Accepted.{Accepted, at-most, TableRight, member-at, table-right, tables-few}
 use Rattle.patient_set.specs.Lists.{length-keep, every-keep}
 use Rattle.partial_rows.specs.Bounds.{smaller, leastOf, leastEntry}
 use Rattle.held_region.specs.declared.Table.{Table}
@@ -95,11 +95,12 @@ module _ (h : Region) (store : List ℕ) (a : Accepted (said h store)) where
     pub held-right : TableRight r t
     held-right = table-right r a (getD-in (r .tables) i _ held-place)
 
-    pub held-known : (j : ℕ) → j < length (t .members) → getD (t .members) j 0 < length (r .patients)
-    held-known j m = held-right .known (getD-in (t .members) j 0 m)
-
     pub members-same : membersOf table ≡ t .members
     members-same = members-said h store i l
+
+    -- A test of the held members is one of those said.
+    pub members-asked : (test : List ℕ → Bool) {b : Bool} → b ≡ test (membersOf table) → b ≡ test (t .members)
+    members-asked test e = e ∙ ap test members-same
 
     pub entries-same : table .entries ≡ length (t .entries)
     entries-same = entries-said h store i l
@@ -114,7 +115,7 @@ module _ (h : Region) (store : List ℕ) (a : Accepted (said h store)) where
     last-same = first-same (table .members - 1) (omega (arith, count-same, held-right .some)) ∙ ap (λ n. getD (t .members) (n - 1) 0) count-same
 
     pub last-known : lastOf table < length (r .patients)
-    last-known = omega (arith, last-same, held-known (length (t .members) - 1) (omega (arith, held-right .some)))
+    last-known = omega (arith, last-same, member-at held-right (length (t .members) - 1) (omega (arith, held-right .some)))
 
     pub least-told : leastNumber store (startOf (r .tables) i) (startOf (r .tables) i + table .entries) ≡ leastEntry t
     unfolding leastEntry

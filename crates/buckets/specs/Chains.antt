@@ -10,11 +10,11 @@ use Rattle.definitions.specs.Basics.{ℕ, zero, suc, _+_, _-_, _*_, _<_, _≡_,
 use Rattle.definitions.specs.Syntax.{Table, Region, patientAt}
 use Rattle.definitions.specs.Plans.{Plan, bedOf, entryFor}
 use Rattle.ranking.specs.Members.{_∈_, getD-in}
-use Rattle.theorems.specs.Accepted.{Accepted, TableRight, table-right, patients-few, entries-few, beds-some, entry-small}
+use Rattle.theorems.specs.Accepted.{Accepted, TableRight, member-at, table-right, patients-few, entries-few, beds-some, entry-small}
 use Rattle.held_region.specs.Stores.{tableAt, startOf, start-next, start-most, Stands}
 use Rattle.buckets.specs.Terms.{Fitting, highest, startAt, nextAt, memberAt, strideAt, placeAt, Term, Chain}
 use Rattle.buckets.specs.Places.{strideOf, placeOf, place-strides, place-bound, place-last}
-use Rattle.buckets.specs.Right.{in-bucket}
+use Rattle.buckets.specs.Highest.{in-bucket}
 
 sum-same : (f g : ℕ → ℕ) (a n : ℕ) → ((j : ℕ) → j < a + n → f j ≡ g j) → sum (map f (numbersFrom a n)) ≡ sum (map g (numbersFrom a n))
 sum-same f g a zero same = refl
@@ -48,9 +48,6 @@ module _ (r : Region) (a : Accepted r) (i : ℕ) (h : i < length (r .tables)) (t
   right : TableRight r t
   right = table-right r a there
 
-  known : (j : ℕ) → j < length (t .members) → getD (t .members) j 0 < length (r .patients)
-  known j l = right .known (getD-in (t .members) j 0 l)
-
   -- The entries begin and end in the store.
   ends : startOf (r .tables) i + length (t .entries) ≤ 4096
   ends = omega (arith, start-next (r .tables) i, start-most (r .tables) (suc i), entries-few r a)
@@ -66,14 +63,14 @@ module _ (r : Region) (a : Accepted r) (i : ℕ) (h : i < length (r .tables)) (t
         ∙ sym (place-strides count (bedOf plan) (t .members) 4 (right .few)))
 
     bounded : (plan : Plan) → Fitting r plan → placeOf count (bedOf plan) (t .members) < length (t .entries)
-    bounded plan fits = omega (arith, right .counted, place-bound count (bedOf plan) (t .members) (λ j l. fits _ (known j l)))
+    bounded plan fits = omega (arith, right .counted, place-bound count (bedOf plan) (t .members) (λ j l. fits _ (member-at right j l)))
 
     pub term-right : (store : List ℕ) → Stands store (r .tables) → Term r store terms i t
     unfolding entryFor
     term-right store stands =
         record {
           known = λ j l. omega (arith, members j l, member-small j (decLt j (length (t .members))));
-          near = λ j l. omega (arith, strides j l, stride-most count (t .members) (λ q m. beds-some r a _ (known q m)) j, right .counted, ends);
+          near = λ j l. omega (arith, strides j l, stride-most count (t .members) (λ q m. beds-some r a _ (member-at right q m)) j, right .counted, ends);
           starts = omega (arith, starts, ends);
           inside = λ plan fits. omega (arith, places plan, bounded plan fits, ends);
           finds = λ plan fits. ap (λ n. getD store n 0) (places plan) ∙ stands i _ h (bounded plan fits);
@@ -85,7 +82,7 @@ module _ (r : Region) (a : Accepted r) (i : ℕ) (h : i < length (r .tables)) (t
         top-last s top = eqb-true _ _ (sym (in-bucket s t (right .some) (right .rising)) ∙ top)
 
         member-small : (j : ℕ) → Dec (j < length (t .members)) → getD (t .members) j 0 < 32
-        member-small j (yes l) = omega (arith, known j l, patients-few r a)
+        member-small j (yes l) = omega (arith, member-at right j l, patients-few r a)
         member-small j (no l) = omega (arith, List·getD-eq-default (t .members) 0 {n = j} (omega arith))
 
 -- Words that are the same from a place on leave the terms there as they are.

@@ -2,6 +2,7 @@ pub mod Terms
 pub mod Places
 pub mod Least
 pub mod Written
-pub mod Right
+pub mod Highest
 pub mod Chains
+pub mod WithTables
 pub mod Among

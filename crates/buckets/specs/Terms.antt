@@ -1,10 +1,11 @@
 -- Buckets of tables: what the words say, and when they say it of a region.
 use Prim.Native.Nat.{_≤_}
+use native.Mathlib.Omega.{arith}
 use lib.ListN.{set}
 use Rattle.definitions.specs.Basics.{ℕ, suc, _+_, _*_, _<_, _≡_, Bool, true, not, _&&_, some, List, [], _∷_, map, length, getD, ltb, sum, below}
 use Rattle.definitions.specs.Syntax.{Table, Region, patientAt}
 use Rattle.definitions.specs.Plans.{Plan, bedOf, entryFor}
-use Rattle.theorems.specs.Accepted.{Accepted}
+use Rattle.theorems.specs.Accepted.{Accepted, beds-few}
 use Rattle.partial_rows.specs.Sets.{only}
 use Rattle.partial_rows.specs.Rows.{holds, decidedTables}
 use Rattle.partial_rows.specs.Bounds.{leastEntry}
@@ -13,6 +14,10 @@ use Rattle.held_region.specs.Meaning.{codeOf}
 -- A plan with each bed below its patient's count.
 abbrev pub Fitting : Region → Plan → Type 0
 Fitting r plan = (s : ℕ) → s < length (r .patients) → bedOf plan s < patientAt r s .bedCount
+
+-- Four bits hold each of its beds.
+pub fitting-low : (r : Region) → Accepted r → (plan : Plan) → Fitting r plan → (s : ℕ) → s < length (r .patients) → bedOf plan s < 16
+fitting-low r a plan fits s h = omega (arith, fits s h, beds-few r a s h)
 
 -- Is this patient the highest member of the table?
 abbrev pub highest : ℕ → Table → Bool

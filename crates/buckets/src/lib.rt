@@ -1,4 +1,6 @@
 // The tables by their highest members, in a form in which a walk finds an entry at once.
+pub mod words;
+
 use entry_questions::entry_total;
 use held_region::FORBIDDEN;
 use held_region::Patient;
@@ -8,12 +10,11 @@ use patient_set::PatientSet;
 use region_sets::member_set;
 ghost use mathlib.Core.Path.{_≡_};
 ghost use Prim.Native.Nat.{_≤_, _<_};
-ghost use Rattle.definitions.specs.Basics.{every, contains};
 ghost use Rattle.theorems.specs.Accepted.{Accepted};
-ghost use Rattle.patient_set.specs.Sets.{members};
 ghost use Rattle.held_region.specs.Meaning.{membersOf, said};
 ghost use Rattle.held_region.specs.Related as Related;
-ghost use Rattle.buckets.specs.Among.{among};
+ghost use Rattle.buckets.specs.WithTables.{withTables};
+ghost use Rattle.buckets.specs.Among.{allIn, isAmong};
 ghost use Rattle.buckets.specs.Terms.{Prepared};
 ghost use Rattle.buckets.specs.Least.{leastNumber};
 ghost use Rattle.buckets.specs.Written.{PatientsWritten, MembersKnown, MembersWritten, LastKnown, lastOf, TermKnown, TermAdded};
@@ -111,7 +112,7 @@ fn add_term(
 // Are all members of a table in the set?
 fn is_among(table: Table, of: PatientSet) -> bool
     requires { ⌜ Related.MembersKnown table ⌝ }
-    ensures { λ a. ⌜ a ≡ every (contains (members (of .0))) (membersOf table) ⌝ }
+    ensures { λ a. ⌜ a ≡ allIn (of .0) (membersOf table) ⌝ }
 {
     member_set(table).minus(of).is_empty()
 }
@@ -120,7 +121,7 @@ fn is_among(table: Table, of: PatientSet) -> bool
 // From the last table on, so that each bucket has the order of the file.
 pub fn prepare_within(region: Region, store: &[u32; 4096], of: PatientSet) -> Buckets
     requires { ⌜ Accepted (said region (now store)) ⌝ }
-    ensures { λ b. ⌜ Prepared (among (said region (now (store .entry))) (contains (members (of .0)))) (now (store .entry)) (b .patients) (b .terms) ⌝ }
+    ensures { λ b. ⌜ Prepared (withTables (said region (now (store .entry))) (isAmong (of .0))) (now (store .entry)) (b .patients) (b .terms) ⌝ }
 {
     let held = region.patients;
     let mut patients = patient_words(held, region.v);

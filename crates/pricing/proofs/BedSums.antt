@@ -12,7 +12,7 @@ use Rattle.buckets.specs.Terms.{Fitting, firstAt, nextAt, placeAt, Prepared}
 use Rattle.pricing.specs.Pricing.{sumIn, entryIn, Reads}
 use Rattle.pricing.specs.Costs.{fitting-set}
 use Rattle.pricing.specs.BedCosts.{Small, AsksEntries, GivesEntries, Asks, Gives}
-use Rattle.pricing.proofs.Chains.{Left, chain-most, left-start, left-most, left-reads, left-later, left-next-most, left-beside, left-inside, left-small, left-next, left-done}
+use Rattle.pricing.proofs.Chains.{Left, left-start, left-most, left-reads, left-later, left-next-most, left-beside, left-inside, left-small, left-next, left-done}
 
 -- Where the loop stands: for each bed, the sum so far and the tables that are left, whose terms begin at k.
 pub record Sums (store patients terms : List ℕ) (s count : ℕ) (beds sums : List ℕ) (k : ℕ) : Type 0 where
@@ -22,9 +22,6 @@ pub record Sums (store patients terms : List ℕ) (s count : ℕ) (beds sums : L
       → (bed : ℕ) → bed < patientAt r s .bedCount → Left r store terms s (set beds s bed) (sumIn (getD sums bed 0)) k
 
 module _ {store patients terms : List ℕ} {s count : ℕ} {beds zeros : List ℕ} (asks : Asks store patients terms s count beds zeros) where
-  pub first-most : firstAt patients s ≤ 64
-  first-most = chain-most (asks .region) store terms 0 _ _ (asks .prepared .bucket s (asks .known))
-
   -- In every region that the words are prepared for, the patient has this count of beds.
   counted : (r : Region) → Prepared r store patients terms → s < length (r .patients) → count ≡ patientAt r s .bedCount
   counted r prepared known = asks .counts ∙ prepared .beds s known

@@ -37,7 +37,7 @@ left-start r store terms s beds chain = record {
 }
 
 -- A chain goes no further than 64.
-pub chain-most : (r : Region) (store terms : List ℕ) (low k : ℕ) (tables : List Table) → Chain r store terms low k tables → k ≤ 64
+chain-most : (r : Region) (store terms : List ℕ) (low k : ℕ) (tables : List Table) → Chain r store terms low k tables → k ≤ 64
 unfolding Chain
 chain-most r store terms low k [] h = omega arith
 chain-most r store terms low k (t ∷ tables) h = omega (arith, h .1)
@@ -130,9 +130,6 @@ pub record Goes (store patients terms : List ℕ) (s : ℕ) (beds : Plan) (sum k
   pub left : (r : Region) → Prepared r store patients terms → Fitting r beds → s < length (r .patients) → Left r store terms s beds (some sum) k
 
 module _ {store patients terms : List ℕ} {s : ℕ} {beds : Plan} (asks : Asks store patients terms s beds) where
-  pub first-most : firstAt patients s ≤ 64
-  first-most = chain-most (asks .region) store terms 0 _ _ (asks .prepared .bucket s (asks .known))
-
   pub goes-start : Goes store patients terms s beds 0 (firstAt patients s)
   goes-start = record { few = omega arith; left = λ r prepared fits known. left-start r store terms s beds (prepared .bucket s known) }
 

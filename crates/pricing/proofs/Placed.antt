@@ -1,5 +1,5 @@
 -- Beds that are read one by one. Assumes nothing.
-use mathlib.Core.Path.{_≡_, refl, sym, ap, ap₂, _∙_}
+use mathlib.Core.Path.{_≡_, sym, ap, ap₂, _∙_}
 use Prim.Native.Nat.{_≤_}
 use native.Mathlib.Decide.{decLt}
 use native.Mathlib.Omega.{arith}

@@ -1,7 +1,6 @@
 -- What pricing asks for and gives.
 use Prim.Native.Nat.{_≤_}
-use lib.ListN.{set}
-use Rattle.definitions.specs.Basics.{ℕ, _+_, _*_, _<_, _≡_, Bool, cond, Option, none, some, List, length, getD, take, eqb}
+use Rattle.definitions.specs.Basics.{ℕ, _<_, _≡_, Bool, cond, Option, none, some, List, length, take, eqb}
 use Rattle.definitions.specs.Syntax.{Region, patientAt}
 use Rattle.definitions.specs.Questions.{planFits}
 use Rattle.definitions.specs.Plans.{costOver, total}

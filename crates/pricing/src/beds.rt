@@ -7,6 +7,8 @@ ghost use Rattle.pricing.specs.Pricing.{costIn, sumIn, entryIn};
 ghost use Rattle.pricing.specs.BedCosts.{Small, AsksEntries, GivesEntries, Asks, Gives};
 use crate::Cost;
 use crate::entry_place;
+use buckets::words::first_term;
+use buckets::words::next_term;
 use held_region::FORBIDDEN;
 
 // The word for a sum that is no number, since one of its entries is forbidden.
@@ -52,11 +54,11 @@ pub fn bed_costs(
     requires { ⌜ Asks (now entries) (now patients) (now terms) s count (now beds) (now sums) ⌝ }
     ensures { λ _. ⌜ Gives (now (entries .entry)) (now (patients .entry)) (now (terms .entry)) s count (now (beds .entry)) (now (sums .exit)) ⌝ }
 {
-    let mut k = patients[s * 3 + 2] as usize;
+    let mut k = first_term(patients, s);
     while k < 64 {
         let from = entry_place(terms, k, beds);
         add_entries(sums, entries, from, count);
-        k = terms[k * 10 + 1] as usize;
+        k = next_term(terms, k);
     }
 }
 

@@ -2,11 +2,17 @@
 pub mod beds;
 
 ghost use mathlib.Core.Path.{_≡_};
-ghost use Prim.Native.Nat.{ℕ, _+_, _<_, _≤_};
+ghost use Prim.Native.Nat.{_+_, _<_, _≤_};
 ghost use lib.ListN.{set, length, take};
 ghost use Rattle.definitions.specs.Basics.{replicate};
-ghost use Rattle.buckets.specs.Terms.{placeAt, bedsAt, leastAt};
+ghost use Rattle.buckets.specs.Terms.{placeAt};
 ghost use Rattle.pricing.specs.Pricing.{Reads, Asks, Gives, AsksAll, GivesAll, PlanAsked};
+use buckets::words::bed_count;
+use buckets::words::entry_start;
+use buckets::words::first_term;
+use buckets::words::member;
+use buckets::words::next_term;
+use buckets::words::stride;
 use held_region::FORBIDDEN;
 
 // A plan, step by step: the beds of the patients placed so far, bed 0 for all others, and how many are placed.
@@ -54,13 +60,11 @@ fn entry_place(terms: &[u32; 640], k: usize, beds: &[u8; 32]) -> usize
     requires { ⌜ Reads (now terms) k ⌝ }
     ensures { λ at. ⌜ at ≡ placeAt (now (terms .entry)) k (now (beds .entry)) ⌝ }
 {
-    let start = k * 10;
-    let mut place = terms[start] as usize;
+    let mut place = entry_start(terms, k);
     let mut j = 0;
     while j < 4 {
-        let s = terms[start + 2 + j] as usize;
-        let stride = terms[start + 6 + j] as usize;
-        place += wide(beds[s]) * stride;
+        let s = member(terms, k, j);
+        place += wide(beds[s]) * stride(terms, k, j);
         j += 1;
     }
     place
@@ -78,7 +82,7 @@ pub fn bucket_cost(
     ensures { λ c. ⌜ Gives (now (entries .entry)) (now (patients .entry)) (now (terms .entry)) s (now (beds .entry)) c ⌝ }
 {
     let mut sum: u64 = 0;
-    let mut k = patients[s * 3 + 2] as usize;
+    let mut k = first_term(patients, s);
     while k < 64 {
         let at = entry_place(terms, k, beds);
         let entry = entries[at];
@@ -86,7 +90,7 @@ pub fn bucket_cost(
             return Cost::Forbidden;
         }
         sum += entry as u64;
-        k = terms[k * 10 + 1] as usize;
+        k = next_term(terms, k);
     }
     Cost::Of(sum)
 }
@@ -117,28 +121,6 @@ pub fn total(
         s += 1;
     }
     Cost::Of(sum)
-}
-
-fn as_count(word: u32) -> usize
-    ensures { λ n. ⌜ (n ≡ word) × (n < 4_294_967_296) ⌝ }
-{
-    word as usize
-}
-
-// How many beds a patient has.
-pub fn bed_count(patients: &[u32; 96], s: usize) -> usize
-    requires { ⌜ s < 32 ⌝ }
-    ensures { λ n. ⌜ n ≡ bedsAt (now (patients .entry)) s ⌝ }
-{
-    as_count(patients[s * 3])
-}
-
-// The sum of the least numbers of a patient's bucket.
-pub fn least_cost(patients: &[u32; 96], s: usize) -> usize
-    requires { ⌜ s < 32 ⌝ }
-    ensures { λ n. ⌜ (n ≡ leastAt (now (patients .entry)) s) × (n < 4_294_967_296) ⌝ }
-{
-    as_count(patients[s * 3 + 1])
 }
 
 // 14. Are there exactly v beds, each below its patient's count?

@@ -1,10 +1,9 @@
 -- A loop that adds up the least numbers of the buckets of a set, the lowest patient first. Assumes nothing.
-use mathlib.Core.Path.{_≡_, refl, sym, ap, _∙_}
-use mathlib.Core.Bool.{false≢true}
+use mathlib.Core.Path.{_≡_, refl, ap}
 use Prim.Native.Nat.{_≤_}
 use native.Mathlib.Nat.{zero-add}
 use native.Mathlib.Omega.{arith}
-use Rattle.definitions.specs.Basics.{ℕ, _+_, _*_, _<_, not, _&&_, true, false, List, [], _∷_, map, length, sum, eqb, isEmpty}
+use Rattle.definitions.specs.Basics.{ℕ, _+_, _*_, _<_, not, _&&_, false, List, [], _∷_, map, length, sum, eqb, isEmpty}
 use Rattle.patient_set.specs.Sets.{inSet, members, first}
 use Rattle.patient_set.specs.Laws.{size-most, lowest-patient, lowest-and-rest}
 use Rattle.buckets.specs.Terms.{leastAt}

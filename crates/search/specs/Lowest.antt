@@ -1,19 +1,19 @@
 -- A walk that places the lowest patient of a set first: the tables that a bed decides are the patient's bucket, and the buckets' least numbers bound the cost.
 use mathlib.Core.Path.{_≡_, refl, sym, ap, _∙_}
-use mathlib.Core.Bool.{true≢false, false≢true, and-eq-true-iff}
+use mathlib.Core.Bool.{true≢false}
 use Prim.Native.Nat.{_≤_}
 use native.Mathlib.Omega.{arith}
 use borrow.Author.Tests.{ltb-true, lt-ltb, eqb-true, eqb-false, eq-eqb, ne-eqb}
-use Rattle.definitions.specs.Basics.{ℕ, _+_, _<_, Bool, true, false, not, _&&_, _||_, List, [], _∷_, map, sum, eqb, ltb, any, every, everyTwo, contains}
+use Rattle.definitions.specs.Basics.{ℕ, _+_, _<_, Bool, true, false, not, _&&_, _||_, List, [], _∷_, map, sum, eqb, ltb, every, everyTwo, contains}
 use Rattle.definitions.specs.Syntax.{Table, Region}
 use Rattle.definitions.specs.Plans.{Plan, costOver, constraints, Row}
 use Rattle.ranking.specs.Members.{_∈_}
 use Rattle.theorems.specs.Tests.{both, same-answer}
 use Rattle.theorems.specs.Kept.{any-in, any-out}
 use Rattle.partial_rows.specs.Sets.{Patients, only, Part, first, second, neither, Splits, splits-one, in-first, not-both, swap-parts}
-use Rattle.partial_rows.specs.Rows.{holds, decidedTables, RowOf, LowerBound}
+use Rattle.partial_rows.specs.Rows.{holds, decidedTables, LowerBound}
 use Rattle.partial_rows.specs.Costs.{keep-same}
-use Rattle.partial_rows.specs.Bounds.{leastEntry, least-sum, bound-zero}
+use Rattle.partial_rows.specs.Bounds.{least-sum, bound-zero}
 use Rattle.partial_rows.specs.Adding.{addBeds}
 use Rattle.partial_rows.specs.Splitting.{row-apart}
 use Rattle.patient_set.specs.Lists.{every-at}

@@ -2,13 +2,13 @@
 pub mod walk;
 
 use buckets::prepare;
+use buckets::words::least_cost;
 use forest::root_numbers;
 use forest::tree;
 use held_region::Region;
 use packed_rows::pack;
 use patient_set::PatientSet;
 use pricing::Plan;
-use pricing::least_cost;
 use row_list::set_row;
 use row_sums::SECOND;
 use row_sums::THIRD;

@@ -1,12 +1,12 @@
 // Depth-first branch and bound over the patients of a set, the lowest first, beds rising.
+use buckets::words::bed_count;
+use buckets::words::least_cost;
 use packed_rows::pack;
 use patient_set::PatientSet;
 use pricing::Cost;
 use pricing::Plan;
-use pricing::bed_count;
 use pricing::beds::bed_cost;
 use pricing::beds::bed_costs;
-use pricing::least_cost;
 use row_list::cost_at;
 use row_list::insert;
 use row_list::is_past;

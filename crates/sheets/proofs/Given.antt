@@ -1,20 +1,20 @@
 -- What a walk along the list asks for, from what a sheet is given. Assumes nothing.
 use mathlib.Core.Path.{sym, ap}
 use native.Mathlib.Omega.{arith}
-use Rattle.definitions.specs.Basics.{ℕ, List, contains}
+use Rattle.definitions.specs.Basics.{ℕ, List}
 use Rattle.theorems.specs.Accepted.{patients-few}
-use Rattle.patient_set.specs.Sets.{members}
 use Rattle.held_region.specs.declared.Region.{Region}
 use Rattle.held_region.specs.Meaning.{said}
 use Rattle.held_region.specs.Asked.{patients-said}
 use Rattle.buckets.specs.Terms.{Prepared}
-use Rattle.buckets.specs.Among.{among}
+use Rattle.buckets.specs.WithTables.{withTables}
+use Rattle.buckets.specs.Among.{isAmong}
 use Rattle.row_list.specs.Rows.{rowsIn}
 use Rattle.sheets.specs.Steps.{Listed, AsksList, GivesList}
 use Rattle.sheets.specs.Sheets.{Given, Asks, Gives}
 
 module _ (h : Region) (store : List ℕ) (n set : ℕ) (work patients terms : List ℕ)
-    (prepared : Prepared (among (said h store) (contains (members set))) store patients terms) where
+    (prepared : Prepared (withTables (said h store) (isAmong set)) store patients terms) where
   given-listed : (clinic : ℕ) → Given h store clinic n set work → Listed (said h store) clinic store patients terms (h .v) n set work
   given-listed clinic g =
       record {

@@ -18,9 +18,9 @@ use Rattle.patient_set.specs.Lists.{every-keep}
 use Rattle.partial_rows.specs.Beds.{inside, fits-beds}
 use Rattle.partial_rows.specs.Padding.{cut}
 use Rattle.held_region.specs.Places.{same-maps}
-use Rattle.buckets.specs.Terms.{Fitting}
-use Rattle.buckets.specs.Among.{among, allAmong}
-use Rattle.buckets.specs.Right.{fitting-low}
+use Rattle.buckets.specs.Terms.{Fitting, fitting-low}
+use Rattle.buckets.specs.WithTables.{withTables}
+use Rattle.buckets.specs.Among.{isAmong}
 use Rattle.pricing.specs.Pricing.{AsksAll}
 use Rattle.packed_rows.specs.declared.Row.{Row}
 use Rattle.packed_rows.specs.Packed.{rowOf, packable}
@@ -36,12 +36,12 @@ listed-fits r w beds a e s h =
 
 module _ {r : Region} {clinic : ℕ} {store patients terms : List ℕ} {v set : ℕ} (own : Own r clinic store patients terms v set) where
   -- The region with only the own tables has the same patients, so its price may be asked.
-  among-fits : (beds : List ℕ) → Fitting r beds → Fitting (among r (contains (members set))) beds
+  with-fits : (beds : List ℕ) → Fitting r beds → Fitting (withTables r (isAmong set)) beds
   unfolding patientAt
-  among-fits beds fits s h = fits s h
+  with-fits beds fits s h = fits s h
 
   pub own-asks : (beds : List ℕ) → v ≤ 32 → Fitting r beds → AsksAll store patients terms v beds
-  own-asks beds few fits = record { region = among r (contains (members set)); prepared = own .prepared; fits = among-fits beds fits; all = own .all; few = few }
+  own-asks beds few fits = record { region = withTables r (isAmong set); prepared = own .prepared; fits = with-fits beds fits; all = own .all; few = few }
 
   -- The patients of the clinic are patients.
   patients-known : every (λ s. ltb s v) (patientsOf r clinic) ≡ true
@@ -57,7 +57,7 @@ module _ {r : Region} {clinic : ℕ} {store patients terms : List ℕ} {v set : 
       let inside = getD-in (take n taken) s 0 (omega (arith, length-take-le n taken (omega (arith, size-most set)))) in
       let (q, i, e) = in-map-cases (bedOf beds) (members set) (subst (λ (l : List ℕ). getD (take n taken) s 0 ∈ l) is inside) in
       let known = ltb-true q v (every-in (λ t. ltb t v) (patientsOf r clinic) patients-known (subst (λ (l : List ℕ). q ∈ l) (own .ofClinic) i)) in
-      let low = fitting-low (among r (contains (members set))) (own .prepared .accepted) beds (among-fits beds fits) q (omega (arith, own .all)) in
+      let low = fitting-low (withTables r (isAmong set)) (own .prepared .accepted) beds (with-fits beds fits) q (omega (arith, own .all)) in
       omega (arith, e, low, getD-take n taken s 0 h)
 
   -- The beds and the cost.
@@ -70,8 +70,8 @@ module _ {r : Region} {clinic : ℕ} {store patients terms : List ℕ} {v set : 
   own-cost : (beds : List ℕ) (cost first : ℕ) → Fitting r beds → Priced store patients terms v beds first → first ≡ ownCost r clinic (record { cost = cost; beds = take v beds })
   unfolding ownCost ownTables total constraints costOver entryFor patientAt
   own-cost beds cost first fits priced =
-      priced (among r (contains (members set))) (own .prepared) (among-fits beds fits) (own .all)
-      ∙ ap (λ l. Option·getD (costOver (keep (allAmong (contains l)) (r .tables)) r (take v beds)) 0) (own .ofClinic)
+      priced (withTables r (isAmong set)) (own .prepared) (with-fits beds fits) (own .all)
+      ∙ ap (λ l. Option·getD (costOver (keep (λ t. every (contains l) (t .members)) (r .tables)) r (take v beds)) 0) (own .ofClinic)
 
 -- The row that is packed.
 pub own-made : {store patients terms : List ℕ} {v : ℕ} (row : Row) (set : ℕ) (result : Row) (beds taken : List ℕ) (k first : ℕ)

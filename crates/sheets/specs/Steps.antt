@@ -1,13 +1,14 @@
 -- What the steps of a sheet ask for and give: a clinic's part, its own cost, its own row, and the rows kept.
 use Prim.Native.Nat.{_≤_}
-use Rattle.definitions.specs.Basics.{ℕ, _+_, _<_, _≡_, cond, Option·getD, List, [], _∷_, _++_, map, length, take, any, contains}
+use Rattle.definitions.specs.Basics.{ℕ, _+_, _<_, _≡_, cond, Option·getD, List, [], _∷_, _++_, map, length, take, any}
 use Rattle.definitions.specs.Syntax.{Region, patientsOf}
 use Rattle.definitions.specs.Plans as Said
 use Rattle.definitions.specs.Plans.{bedOf, total, listOf}
 use Rattle.definitions.specs.Sheets.{ownRow, sameBeds, sheetOf}
 use Rattle.patient_set.specs.Sets.{members}
 use Rattle.buckets.specs.Terms.{Fitting, Prepared}
-use Rattle.buckets.specs.Among.{among}
+use Rattle.buckets.specs.WithTables.{withTables}
+use Rattle.buckets.specs.Among.{isAmong}
 use Rattle.partial_rows.specs.Padding.{cut, Padded}
 use Rattle.packed_rows.specs.declared.Row as Code
 use Rattle.packed_rows.specs.Packed.{rowOf}
@@ -27,7 +28,7 @@ Priced store patients terms v beds n =
 
 -- The words are the buckets of a clinic's own tables, and the set holds its patients.
 pub record Own (r : Region) (clinic : ℕ) (store patients terms : List ℕ) (v set : ℕ) : Type 0 where
-  pub prepared : Prepared (among r (contains (members set))) store patients terms
+  pub prepared : Prepared (withTables r (isAmong set)) store patients terms
   pub ofClinic : members set ≡ patientsOf r clinic
   pub all : v ≡ length (r .patients)
 

@@ -101,6 +101,9 @@ pub record TableRight (r : Region) (t : Table) : Type 0 where
   pub counted : length (t .entries) ≡ product (bedCounts r (t .members))
   pub within : every (noneOr (within entry)) (t .entries) ≡ true
 
+pub member-at : {r : Region} {t : Table} → TableRight r t → (j : ℕ) → j < length (t .members) → getD (t .members) j 0 < length (r .patients)
+member-at {t} right j h = right .known (getD-in (t .members) j 0 h)
+
 -- An entry that all tests pass at.
 entry-passes : (p : Option ℕ → Bool) (es : List (Option ℕ)) (i e : ℕ) → every p es ≡ true → getD es i none ≡ some e → p (some e) ≡ true
 entry-passes p [] i e h k = absurd (Option·none-ne-some e k)
@@ -117,28 +120,28 @@ module _ (r : Region) (a : Accepted r) where
   unfolding countsTrue
   tables-counted = eqb-true _ _ (both (eqb (length (r .patients)) (r .patientCount)) (a .counted) .1)
 
-  counts : (within patientCount (r .patientCount) ≡ true) × (within tableCount (r .tableCount) ≡ true) × (within plansWanted (r .plansWanted) ≡ true)
+  pub counts-within : (within patientCount (r .patientCount) ≡ true) × (within tableCount (r .tableCount) ≡ true) × (within plansWanted (r .plansWanted) ≡ true)
   unfolding countsWithin
-  counts =
+  counts-within =
       let (two, plans) = both (within patientCount (r .patientCount) && within tableCount (r .tableCount)) (a .countsFit) in
       let (patients, tables) = both (within patientCount (r .patientCount)) two in
       (patients, tables, plans)
 
   pub patients-some : 1 ≤ length (r .patients)
   unfolding limits
-  patients-some = omega (arith, patients-counted, at-least patientCount (r .patientCount) (counts .0))
+  patients-some = omega (arith, patients-counted, at-least patientCount (r .patientCount) (counts-within .0))
 
   pub patients-few : length (r .patients) ≤ 32
   unfolding limits
-  patients-few = omega (arith, patients-counted, at-most patientCount (r .patientCount) (counts .0))
+  patients-few = omega (arith, patients-counted, at-most patientCount (r .patientCount) (counts-within .0))
 
   pub tables-few : length (r .tables) ≤ 64
   unfolding limits
-  tables-few = omega (arith, tables-counted, at-most tableCount (r .tableCount) (counts .1))
+  tables-few = omega (arith, tables-counted, at-most tableCount (r .tableCount) (counts-within .1))
 
   pub plans-wanted : (0 < r .plansWanted) × (r .plansWanted ≤ 64)
   unfolding limits
-  plans-wanted = (at-least plansWanted (r .plansWanted) (counts .2), at-most plansWanted (r .plansWanted) (counts .2))
+  plans-wanted = (at-least plansWanted (r .plansWanted) (counts-within .2), at-most plansWanted (r .plansWanted) (counts-within .2))
 
   -- A patient has from 1 to 16 beds, and a parent with a smaller number. (And only patients have parents.)
   pub beds-within : {p : Patient} → p ∈ r .patients → (1 ≤ p .bedCount) × (p .bedCount ≤ 16)

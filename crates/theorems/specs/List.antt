@@ -1,7 +1,7 @@
 -- Demand 2: the list is the one that the plans, their totals and their order determine.
 use mathlib.Core.Path.{sym, ap, _∙_}
 use mathlib.Core.Logic.{_⊎_, inl, inr, _↔_}
-use mathlib.Core.Bool.{true≢false, false≢true}
+use mathlib.Core.Bool.{true≢false}
 use mathlib.Core.List.{head-eq-of-cons-eq, tail-eq-of-cons-eq}
 use mathlib.Core.Option.{Option·none-ne-some}
 use native.Mathlib.Omega.{arith}
@@ -9,8 +9,8 @@ use native.Mathlib.Nat.{eq-or-lt-of-le}
 use lib.Dec.{eqb·suc-suc, eqb·suc-zero, eqb·zero-suc}
 use borrow.Author.Tests.{ltb-true, lt-ltb}
 use Prim.Native.Nat.{_≤_}
-use Rattle.definitions.specs.Basics.{ℕ, zero, suc, _+_, _<_, min, Ordering, _≡_, refl, Bool, true, false, Option, none, some, Option·map}
-use Rattle.definitions.specs.Basics.{Option·elim, List, [], _∷_, map, length, filterMap, take, numbersFrom, below, isSome, any, every, keep, getD, cond, _&&_, _||_, eqb, ltb}
+use Rattle.definitions.specs.Basics.{ℕ, zero, suc, _+_, _<_, min, _≡_, refl, Bool, true, false, Option, none, some, Option·map}
+use Rattle.definitions.specs.Basics.{Option·elim, List, [], _∷_, map, length, filterMap, numbersFrom, below, isSome, any, every, keep, getD, cond, _&&_, _||_, eqb, ltb}
 use Rattle.definitions.specs.Syntax.{Patient, Region, patientAt}
 use Rattle.definitions.specs.Plans.{Plan, plansFor, plans, total, allowed, Row, rowOf, compareRows, listOf}
 use Rattle.definitions.specs.Questions.{planAllowed, planFits}

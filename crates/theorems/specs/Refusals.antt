@@ -5,14 +5,13 @@ use native.Mathlib.Omega.{arith}
 use lib.ListN.{drop, length-replicate, replicate-append-replicate}
 use borrow.Author.Tests.{ne-eqb, lt-leb, le-leb}
 use Prim.Native.Nat.{_≤_}
-use Rattle.definitions.specs.Basics.{ℕ, zero, suc, _+_, _*_, _<_, Bool, true, false, cond, Option, none, some, List, [], _∷_, _++_, flatMap, length, replicate, leb}
+use Rattle.definitions.specs.Basics.{ℕ, zero, suc, _+_, _*_, _<_, Bool, true, false, Option, none, some, List, [], _∷_, _++_, flatMap, length, replicate}
 use Rattle.definitions.specs.Plans.{Plan, Row, total, listOf}
 use Rattle.definitions.specs.Sheets.{sheetOf}
-use Rattle.definitions.specs.Questions.{Asked, firstNo, regionOf, areasLongEnough, askedByCheck, checkOf, askedByList, askedBySheet, askedByPrice}
-use Rattle.definitions.specs.Outcomes.{Found, rowsUnlessRefused, foundBy, listFound, sheetFound, written, workAfter}
+use Rattle.definitions.specs.Questions.{firstNo, regionOf, areasLongEnough, askedByCheck, checkOf, askedByList, askedBySheet, askedByPrice}
+use Rattle.definitions.specs.Outcomes.{Found, rowsUnlessRefused, listFound, sheetFound, written, workAfter}
 use Rattle.definitions.specs.Outcomes.{ListOutcome, outcomeOf, listOutcome, sheetOutcome, PriceOutcome, priced, priceFound, priceOutcome}
-use Rattle.definitions.specs.Boundary.{bytesOf, roomForNumbers, resultAfter, callAreasLongEnough, ListCall, callOf, checkCall, listCall, sheetCall, PriceCall, priceCallOf, priceCall}
-use Rattle.ranking.specs.Members.{_∈_}
+use Rattle.definitions.specs.Boundary.{bytesOf, roomForNumbers, resultAfter, callAreasLongEnough, ListCall, callOf, checkCall, listCall, sheetCall, priceCallOf, priceCall}
 use Rattle.theorems.specs.Answers.{numbers, Says, says}
 use Rattle.theorems.specs.Writing.{written-is}
 

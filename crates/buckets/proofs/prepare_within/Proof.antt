@@ -1,14 +1,14 @@
 use borrow.Author.Needs.{needs}
-use Rattle.definitions.specs.Basics.{contains}
-use Rattle.patient_set.specs.Sets.{members}
 use Rattle.held_region.specs.Sound.{accepted-sound}
 use Rattle.held_region.specs.Related.{members-known}
+use Rattle.buckets.specs.Among.{allIn, isAmong}
+use Rattle.buckets.proofs.Held.{members-asked}
 use Rattle.buckets.proofs.Filling.{Filling, counts-held, filling-none, filling-all, filling-start, filling-known, filling-place, filling-over, filling-more}
 use Rattle.buckets.proofs.prepare_within.Statement.{statement}
 use Rattle.buckets.proofs.prepare_within.Tie as tie
 
 abbrev Inv-loop : tie.InvT-loop
-Inv-loop store of region patients₀ terms₀ start₀ i₀ patients terms start i = Filling region store (contains (members (of .0))) i start patients terms
+Inv-loop store of region patients₀ terms₀ start₀ i₀ patients terms start i = Filling region store (isAmong (of .0)) i start patients terms
 
 abbrev μ-loop : tie.MeasureT-loop
 μ-loop store of region patients₀ terms₀ start₀ i₀ patients terms start i = i
@@ -54,7 +54,9 @@ loop-again : tie.Need-loop-again Inv-loop μ-loop
 loop-again c =
     let asked = c .before .before .before .before in
     let turn = asked .before .before .before in
-    filling-more _ _ (turn .before .before .before .before .before .pre) _ _ _ _ _ (turn .loop-test .taken) (turn .before .loop .inv) (asked .is-among .ensures) (c .before .before .before .if1 .taken) (c .add-term .ensures)
+    let pre = turn .before .before .before .before .before .pre in
+    let place = filling-place _ _ pre _ _ _ _ _ (turn .loop-test .taken) (turn .before .loop .inv) in
+    filling-more _ _ pre _ _ _ _ _ (turn .loop-test .taken) (turn .before .loop .inv) (members-asked _ _ pre _ place (allIn _) (asked .is-among .ensures)) (c .before .before .before .if1 .taken) (c .add-term .ensures)
 
 loop-less-2 : tie.Need-loop-less-2 Inv-loop μ-loop
 loop-less-2 c = search needs
@@ -62,7 +64,9 @@ loop-less-2 c = search needs
 loop-again-2 : tie.Need-loop-again-2 Inv-loop μ-loop
 loop-again-2 c =
     let turn = c .before .before .before .before in
-    filling-over _ _ (turn .before .before .before .before .before .pre) _ _ _ _ _ (turn .loop-test .taken) (turn .before .loop .inv) (c .before .is-among .ensures) (c .if1 .left)
+    let pre = turn .before .before .before .before .before .pre in
+    let place = filling-place _ _ pre _ _ _ _ _ (turn .loop-test .taken) (turn .before .loop .inv) in
+    filling-over _ _ pre _ _ _ _ _ (turn .loop-test .taken) (turn .before .loop .inv) (members-asked _ _ pre _ place (allIn _) (c .before .is-among .ensures)) (c .if1 .left)
 
 returns : tie.Need-returns Inv-loop μ-loop
 returns c = filling-all _ _ (c .before .before .before .before .before .pre) _ _ _ _ _ (c .loop-test .left) (c .before .loop .inv)

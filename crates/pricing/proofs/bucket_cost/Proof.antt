@@ -4,7 +4,7 @@ use Prim.Native.Nat.{_-_}
 use lib.ListN.{getD}
 use denote.Ref.{now}
 use native.Mathlib.Omega.{arith}
-use Rattle.pricing.proofs.Chains.{Goes, first-most, goes-start, goes-done, goes-reads, goes-inside, goes-forbidden, goes-later, goes-small, goes-next}
+use Rattle.pricing.proofs.Chains.{Goes, goes-start, goes-done, goes-reads, goes-inside, goes-forbidden, goes-later, goes-small, goes-next}
 use Rattle.pricing.proofs.bucket_cost.Statement.{statement}
 use Rattle.pricing.proofs.bucket_cost.Tie as tie
 
@@ -14,23 +14,11 @@ Inv-loop patients terms entries s beds sum₀ k₀ sum k = Goes entries patients
 abbrev μ-loop : tie.MeasureT-loop
 μ-loop patients terms entries s beds sum₀ k₀ sum k = 64 - k
 
-mul-k : tie.Need-mul-k Inv-loop μ-loop
-mul-k c = search needs
-
-add-k : tie.Need-add-k Inv-loop μ-loop
-add-k c = search needs
-
-mul-k-2 : tie.Need-mul-k-2 Inv-loop μ-loop
-mul-k-2 c = search needs
-
-element-copy-out-k : tie.Need-element-copy-out-k Inv-loop μ-loop
-element-copy-out-k c = search needs
-
-cast-k : tie.Need-cast-k Inv-loop μ-loop
-cast-k c = omega (arith, first-most (c .before .pre))
+first-term-requires : tie.Need-first-term-requires Inv-loop μ-loop
+first-term-requires c κs = search needs
 
 loop-holds : tie.Need-loop-holds Inv-loop μ-loop
-loop-holds c = goes-start (c .before .pre)
+loop-holds c = rw (c .first-term .ensures) (goes-start (c .before .pre))
 
 entry-place-requires : tie.Need-entry-place-requires Inv-loop μ-loop
 entry-place-requires c κs = goes-reads (c .before .before .before .pre) (c .before .loop .inv) (c .loop-test .taken)
@@ -50,26 +38,16 @@ cast-sum c = omega (arith, goes-small (c .before .before .before .before .before
 add-sum : tie.Need-add-sum Inv-loop μ-loop
 add-sum c = omega (arith, goes-small (c .before .before .before .before .before .before .pre) (c .before .before .before .before .loop .inv) (c .before .before .before .loop-test .taken) _ (ap (λ at. getD (now (c .before .before .before .before .before .before .args .entries)) at 0) (c .before .before .entry-place .ensures)) (c .if1 .left), c .before .before .before .before .loop .inv .few)
 
-mul-k-3 : tie.Need-mul-k-3 Inv-loop μ-loop
-mul-k-3 c = search needs
-
-add-k-2 : tie.Need-add-k-2 Inv-loop μ-loop
-add-k-2 c = search needs
-
-mul-k-4 : tie.Need-mul-k-4 Inv-loop μ-loop
-mul-k-4 c = search needs
-
-element-copy-out-k-2 : tie.Need-element-copy-out-k-2 Inv-loop μ-loop
-element-copy-out-k-2 c = search needs
-
-cast-k-2 : tie.Need-cast-k-2 Inv-loop μ-loop
-cast-k-2 c = omega (arith, goes-later (c .before .before .before .before .before .before .before .pre) (c .before .before .before .before .before .loop .inv) (c .before .before .before .before .loop-test .taken) .1)
+next-term-requires : tie.Need-next-term-requires Inv-loop μ-loop
+next-term-requires c κs = search needs
 
 loop-less : tie.Need-loop-less Inv-loop μ-loop
-loop-less c = omega (arith, goes-later (c .before .before .before .before .before .before .before .pre) (c .before .before .before .before .before .loop .inv) (c .before .before .before .before .loop-test .taken) .0, goes-later (c .before .before .before .before .before .before .before .pre) (c .before .before .before .before .before .loop .inv) (c .before .before .before .before .loop-test .taken) .1)
+loop-less c =
+    let later = goes-later (c .before .before .before .before .before .before .before .pre) (c .before .before .before .before .before .loop .inv) (c .before .before .before .before .loop-test .taken) in
+    omega (arith, later .0, later .1, c .next-term .ensures)
 
 loop-again : tie.Need-loop-again Inv-loop μ-loop
-loop-again c = goes-next (c .before .before .before .before .before .before .before .pre) (c .before .before .before .before .before .loop .inv) (c .before .before .before .before .loop-test .taken) _ (ap (λ at. getD (now (c .before .before .before .before .before .before .before .args .entries)) at 0) (c .before .before .before .entry-place .ensures)) (c .before .if1 .left)
+loop-again c = rw (c .next-term .ensures) (goes-next (c .before .before .before .before .before .before .before .pre) (c .before .before .before .before .before .loop .inv) (c .before .before .before .before .loop-test .taken) _ (ap (λ at. getD (now (c .before .before .before .before .before .before .before .args .entries)) at 0) (c .before .before .before .entry-place .ensures)) (c .before .if1 .left))
 
 returns-2 : tie.Need-returns-2 Inv-loop μ-loop
 returns-2 c = goes-done (c .before .before .before .pre) (c .before .loop .inv) (c .loop-test .left)
@@ -80,11 +58,7 @@ bucket-cost-spec =
     (tie.spec
     Inv-loop
     μ-loop
-    mul-k
-    add-k
-    mul-k-2
-    element-copy-out-k
-    cast-k
+    first-term-requires
     loop-holds
     entry-place-requires
     mul-entry
@@ -92,11 +66,7 @@ bucket-cost-spec =
     returns
     cast-sum
     add-sum
-    mul-k-3
-    add-k-2
-    mul-k-4
-    element-copy-out-k-2
-    cast-k-2
+    next-term-requires
     loop-less
     loop-again
     returns-2)

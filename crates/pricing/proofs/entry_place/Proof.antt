@@ -1,83 +1,45 @@
 use borrow.Author.Needs.{needs}
-use mathlib.Core.Path.{_≡_, sym, ap, _∙_}
-use Prim.Native.Nat.{ℕ, _+_, _-_, _*_, _≤_}
+use Prim.Native.Nat.{_-_}
 use native.Mathlib.Omega.{arith}
-use Rattle.definitions.specs.Basics.{List}
-use Rattle.definitions.specs.Plans.{bedOf}
-use Rattle.buckets.specs.Terms.{startAt, memberAt, strideAt, placeAt}
-use Rattle.pricing.proofs.Sums.{bedAt, leftFrom, left-all, left-next, left-done, bed-most}
-use denote.Ref.{now}
+use Rattle.pricing.proofs.Sums.{Placing, placing-start, bed-most, placing-next, placing-done}
 use Rattle.pricing.proofs.entry_place.Statement.{statement}
 use Rattle.pricing.proofs.entry_place.Tie as tie
 
 abbrev Inv-loop : tie.InvT-loop
-Inv-loop terms k beds start place₀ j₀ place j =
-    (place ≤ 4096 + j * 1_048_576) × (place + leftFrom (bedAt terms k beds) 4 j ≡ placeAt terms k beds)
+Inv-loop terms k beds place₀ j₀ place j = Placing terms k beds place j
 
 abbrev μ-loop : tie.MeasureT-loop
-μ-loop terms k beds start place₀ j₀ place j = 4 - j
+μ-loop terms k beds place₀ j₀ place j = 4 - j
 
-mul-start : tie.Need-mul-start Inv-loop μ-loop
-mul-start c = search needs
-
-mul-place : tie.Need-mul-place Inv-loop μ-loop
-mul-place c = search needs
-
-element-copy-out-place : tie.Need-element-copy-out-place Inv-loop μ-loop
-element-copy-out-place c = search needs
-
-cast-place : tie.Need-cast-place Inv-loop μ-loop
-cast-place c = search needs
+entry-start-requires : tie.Need-entry-start-requires Inv-loop μ-loop
+entry-start-requires c κs = search needs
 
 loop-holds : tie.Need-loop-holds Inv-loop μ-loop
-unfolding placeAt
-loop-holds c = (search needs, ap (λ n. startAt (now (c .before .args .terms)) (c .before .args .k) + n) (left-all _ 4))
+loop-holds c = placing-start (c .before .pre) (c .entry-start .ensures)
 
-add-s : tie.Need-add-s Inv-loop μ-loop
-add-s c = search needs
-
-add-s-2 : tie.Need-add-s-2 Inv-loop μ-loop
-add-s-2 c = search needs
-
-mul-s : tie.Need-mul-s Inv-loop μ-loop
-mul-s c = search needs
-
-element-copy-out-s : tie.Need-element-copy-out-s Inv-loop μ-loop
-element-copy-out-s c = search needs
-
-cast-s : tie.Need-cast-s Inv-loop μ-loop
-cast-s c = omega (arith, c .before .before .before .before .pre .known _ (c .before .loop-test .taken))
-
-add-stride : tie.Need-add-stride Inv-loop μ-loop
-add-stride c = search needs
-
-add-stride-2 : tie.Need-add-stride-2 Inv-loop μ-loop
-add-stride-2 c = search needs
-
-mul-stride : tie.Need-mul-stride Inv-loop μ-loop
-mul-stride c = search needs
-
-element-copy-out-stride : tie.Need-element-copy-out-stride Inv-loop μ-loop
-element-copy-out-stride c = search needs
-
-cast-stride : tie.Need-cast-stride Inv-loop μ-loop
-cast-stride c = omega (arith, c .before .before .before .before .before .pre .near _ (c .before .before .loop-test .taken))
+member-requires : tie.Need-member-requires Inv-loop μ-loop
+member-requires c κs = search needs
 
 element-copy-out-wide : tie.Need-element-copy-out-wide Inv-loop μ-loop
-element-copy-out-wide c = c .before .before .before .before .before .pre .known _ (c .before .before .loop-test .taken)
+element-copy-out-wide c = omega (arith, c .before .before .before .before .pre .known _ (c .before .loop-test .taken), c .member .ensures)
 
 wide-requires : tie.Need-wide-requires Inv-loop μ-loop
 wide-requires c κs = search needs
 
-mul-place-2 : tie.Need-mul-place-2 Inv-loop μ-loop
-mul-place-2 c =
-    let most = bed-most (c .wide .result) _ (c .wide .ensures .1) (c .before .before .before .before .before .before .before .pre .near _ (c .before .before .before .before .loop-test .taken)) in
-    omega (arith, most)
+stride-requires : tie.Need-stride-requires Inv-loop μ-loop
+stride-requires c κs = search needs
+
+mul-place : tie.Need-mul-place Inv-loop μ-loop
+mul-place c =
+    let loop = c .before .before .before .before .before in
+    let wide = c .before .wide .ensures in
+    omega (arith, bed-most (loop .before .before .pre) (loop .loop .inv) (c .before .before .before .before .loop-test .taken) (c .before .before .before .member .ensures) (wide .0) (wide .1) (c .stride .ensures))
 
 add-place : tie.Need-add-place Inv-loop μ-loop
 add-place c =
-    let most = bed-most (c .wide .result) _ (c .wide .ensures .1) (c .before .before .before .before .before .before .before .pre .near _ (c .before .before .before .before .loop-test .taken)) in
-    omega (arith, most)
+    let loop = c .before .before .before .before .before in
+    let wide = c .before .wide .ensures in
+    omega (arith, loop .loop .inv .most, bed-most (loop .before .before .pre) (loop .loop .inv) (c .before .before .before .before .loop-test .taken) (c .before .before .before .member .ensures) (wide .0) (wide .1) (c .stride .ensures))
 
 add-j : tie.Need-add-j Inv-loop μ-loop
 add-j c = search needs
@@ -87,14 +49,12 @@ loop-less c = search needs
 
 loop-again : tie.Need-loop-again Inv-loop μ-loop
 loop-again c =
-    let most = bed-most (c .wide .result) _ (c .wide .ensures .1) (c .before .before .before .before .before .before .before .pre .near _ (c .before .before .before .before .loop-test .taken)) in
     let loop = c .before .before .before .before .before in
-    let a = loop .before .before .args in
-    let known = ap (λ b. loop .loop .place + b * strideAt (now (a .terms)) (a .k) (loop .loop .j) + leftFrom (bedAt (now (a .terms)) (a .k) (now (a .beds))) 4 (loop .loop .j + 1)) (c .wide .ensures .0) in
-    (omega (arith, most), known ∙ left-next _ 4 _ _ (c .before .before .before .before .loop-test .taken) ∙ loop .loop .inv .1)
+    let wide = c .before .wide .ensures in
+    placing-next (loop .before .before .pre) (loop .loop .inv) (c .before .before .before .before .loop-test .taken) (c .before .before .before .member .ensures) (wide .0) (wide .1) (c .stride .ensures)
 
 returns : tie.Need-returns Inv-loop μ-loop
-returns c = sym (left-done _ 4 _ _ (c .loop-test .left)) ∙ c .before .loop .inv .1
+returns c = placing-done (c .before .before .before .pre) (c .loop-test .left) (c .before .loop .inv)
 
 pub entry-place-spec : {M : Type 1} → statement M
 entry-place-spec =
@@ -102,24 +62,13 @@ entry-place-spec =
     (tie.spec
     Inv-loop
     μ-loop
-    mul-start
-    mul-place
-    element-copy-out-place
-    cast-place
+    entry-start-requires
     loop-holds
-    add-s
-    add-s-2
-    mul-s
-    element-copy-out-s
-    cast-s
-    add-stride
-    add-stride-2
-    mul-stride
-    element-copy-out-stride
-    cast-stride
+    member-requires
     element-copy-out-wide
     wide-requires
-    mul-place-2
+    stride-requires
+    mul-place
     add-place
     add-j
     loop-less

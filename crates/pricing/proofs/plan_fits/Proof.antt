@@ -2,7 +2,6 @@ use borrow.Author.Needs.{needs}
 use mathlib.Core.Path.{_≡_, refl}
 use Prim.Native.Nat.{_-_}
 use denote.Ref.{now}
-use native.Mathlib.Omega.{arith}
 use Rattle.definitions.specs.Basics.{below, every}
 use Rattle.held_region.specs.Places.{askedFrom, ask-all, ask-yes, ask-no, ask-done}
 use Rattle.pricing.proofs.Placed.{bedFits, not-counted, counted, bed-no, bed-yes}

@@ -18,7 +18,7 @@ use Rattle.search.proofs.walk.walk.Kinds as walk-kinds
 use Rattle.search.proofs.walk.+walk.Lts-walk as walk-lts
 use Rattle.patient_set.proofs.PatientSet.is_empty.Reads as is-empty-reads
 use Rattle.patient_set.proofs.PatientSet.lowest.Reads as lowest-reads
-use Rattle.pricing.proofs.bed_count.Reads as bed-count-reads
+use Rattle.buckets.proofs.words.bed_count.Reads as bed-count-reads
 use Rattle.pricing.proofs.beds.bed_cost.Reads as bed-cost-reads
 use Rattle.pricing.proofs.beds.bed_costs.Reads as bed-costs-reads
 use Rattle.packed_rows.proofs.pack.Reads as pack-reads

@@ -1,21 +1,15 @@
--- Beds that fit are small, and a table is in the bucket of its last member. Assumes nothing.
+-- A table is in the bucket of its last member. Assumes nothing.
 use mathlib.Core.Path.{sym, ap, _∙_}
 use mathlib.Core.Bool.{and-false}
 use native.Mathlib.Omega.{arith}
 use borrow.Author.Tests.{ltb-true, lt-ltb, le-ltb, eqb-true}
 use Rattle.definitions.specs.Basics.{ℕ, suc, _-_, _<_, _≡_, refl, Bool, true, false, not, _&&_, _||_, List, [], _∷_, length, getD, eqb, ltb, every, everyTwo, any}
-use Rattle.definitions.specs.Syntax.{Table, Region}
-use Rattle.definitions.specs.Plans.{Plan, bedOf}
+use Rattle.definitions.specs.Syntax.{Table}
 use Rattle.theorems.specs.Tests.{both}
-use Rattle.theorems.specs.Accepted.{Accepted, beds-few}
 use Rattle.partial_rows.specs.Sets.{only}
-use Rattle.buckets.specs.Terms.{Fitting, highest}
+use Rattle.buckets.specs.Terms.{highest}
 
--- Four bits hold each bed of a plan that fits.
-pub fitting-low : (r : Region) → Accepted r → (plan : Plan) → Fitting r plan → (s : ℕ) → s < length (r .patients) → bedOf plan s < 16
-fitting-low r a plan fits s h = omega (arith, fits s h, beds-few r a s h)
-
--- The bucket of a table is that of its last member: members rise.
+-- Members rise, so the last is the highest.
 module _ (s : ℕ) where
   last-member : (x : ℕ) (l : List ℕ) → everyTwo ltb (x ∷ l) ≡ true
       → (any (only s) (x ∷ l) && not (any (ltb s) (x ∷ l))) ≡ eqb s (getD (x ∷ l) (length l) 0)
