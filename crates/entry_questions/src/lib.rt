@@ -7,11 +7,11 @@ use held_region::limits::Field;
 use held_region::limits::within;
 ghost use mathlib.Core.Path.{_≡_};
 ghost use Prim.Native.Nat.{_≤_};
-ghost use Rattle.definitions.specs.Basics.{ℕ, List, product, map};
-ghost use Rattle.definitions.specs.Questions.{entryCountsRight};
-ghost use Rattle.held_region.specs.Entries.{codeFits, storeFits, BedsRead, CountsSmall, countsMatch};
+ghost use Rattle.definitions.specs.Basics.{product, map};
+ghost use Rattle.held_region.specs.Entries.{codeFits, storeFits, BedsRead, CountsSmall};
 ghost use Rattle.held_region.specs.Sound.{Sound, bedsIn};
-ghost use Rattle.held_region.specs.Meaning.{membersOf, startIn, said};
+ghost use Rattle.entry_questions.specs.Counting.{EntriesCounted};
+ghost use Rattle.held_region.specs.Meaning.{membersOf, startIn};
 
 // How many beds the members of a table have together: the product.
 fn bed_product(patients: [Patient; 32], table: Table) -> usize
@@ -29,44 +29,50 @@ fn bed_product(patients: [Patient; 32], table: Table) -> usize
     n
 }
 
-// Has each table as many entries as the product of its members' bed counts?
-fn counts_match(region: Region) -> bool
-    requires { ⌜ Sound region ⌝ }
-    ensures { λ a. ⌜ ((store : List ℕ) → a ≡ countsMatch (said region store)) ⌝ }
-{
-    let patients = region.patients;
-    let mut i = 0;
-    while i < region.t {
-        let table = region.tables[i];
-        if table.entries != bed_product(patients, table) {
-            return false;
-        }
-        i += 1;
-    }
-    true
-}
-
 // How many entries all tables have together: where those of a table behind the last would begin.
 pub fn entry_total(region: Region) -> usize
     requires { ⌜ CountsSmall region ⌝ }
     ensures { λ n. ⌜ n ≡ startIn region (region .t) ⌝ }
 {
+    let mut total: usize = 0;
+    let mut i = 0;
+    while i < region.t {
+        let table = region.tables[i];
+        total += table.entries;
+        i += 1;
+    }
+    total
+}
+
+// Whether question 8 is answered yes, and then how many entries there are.
+pub struct Counts {
+    pub right: bool,
+    pub total: usize,
+}
+
+// 8. Has each table as many entries as the product of its members' bed counts, and have all together their place?
+pub fn entry_counts(region: Region) -> Counts
+    requires { ⌜ Sound region ⌝ }
+    ensures { λ c. ⌜ EntriesCounted region c ⌝ }
+{
+    let patients = region.patients;
     let mut n: usize = 0;
     let mut i = 0;
     while i < region.t {
         let table = region.tables[i];
+        if table.entries != bed_product(patients, table) {
+            return Counts {
+                right: false,
+                total: 0,
+            };
+        }
         n += table.entries;
         i += 1;
     }
-    n
-}
-
-// 8. Has each table its entries, and have all together their place?
-pub fn entry_counts_right(region: Region) -> bool
-    requires { ⌜ Sound region ⌝ }
-    ensures { λ a. ⌜ ((store : List ℕ) → a ≡ entryCountsRight (said region store)) ⌝ }
-{
-    counts_match(region) && within(Field::EntryCount, entry_total(region))
+    Counts {
+        right: within(Field::EntryCount, n),
+        total: n,
+    }
 }
 
 fn entry_fits(entry: u32) -> bool

@@ -30,9 +30,10 @@ pub fn root_numbers(region: Region) -> [u32; 32]
     ensures { λ roots. ⌜ ((store : List ℕ) → Rooted (said region store) roots) ⌝ }
 {
     let mut roots = [0u32; 32];
+    let patients = region.patients;
     let mut s = 0;
     while s < region.v {
-        let patient = region.patients[s];
+        let patient = patients[s];
         let parent = patient.parent;
         let root = root_number(roots, s, parent);
         roots[s] = root;

@@ -81,7 +81,7 @@ module _ (h : Region) (sound : Sound h) where
     same-beds store =
         same-maps (λ s. ltb s (h .v)) _ _ (λ s m. ap (λ p. p .bedCount) (patient-said h store s (ltb-true s (h .v) m))) (membersOf table) (members-fit h sound i l .1)
 
-    product-small : product (map (bedsIn (h .patients)) (membersOf table)) ≤ 65_536
+    pub product-small : product (map (bedsIn (h .patients)) (membersOf table)) ≤ 65_536
     product-small =
         le-trans
         (product-most 16 (bedsIn (h .patients)) (membersOf table)

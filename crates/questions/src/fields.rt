@@ -33,9 +33,10 @@ pub fn patients_fit(region: Region) -> bool
     requires { ⌜ HasPlaces region ⌝ }
     ensures { λ a. ⌜ ((store : List ℕ) → a ≡ patientsWithin (said region store)) ⌝ }
 {
+    let patients = region.patients;
     let mut s = 0;
     while s < region.v {
-        let patient = region.patients[s];
+        let patient = patients[s];
         if !patient_fits(patient) {
             return false;
         }
@@ -58,9 +59,10 @@ pub fn parents_smaller(region: Region) -> bool
     requires { ⌜ HasPlaces region ⌝ }
     ensures { λ a. ⌜ ((store : List ℕ) → a ≡ parentsSmaller (said region store)) ⌝ }
 {
+    let patients = region.patients;
     let mut s = 0;
     while s < region.v {
-        let patient = region.patients[s];
+        let patient = patients[s];
         let parent = patient.parent;
         if !parent_smaller(parent, s) {
             return false;

@@ -2,8 +2,7 @@
 pub mod fields;
 
 use entry_questions::entries_fit;
-use entry_questions::entry_counts_right;
-use entry_questions::entry_total;
+use entry_questions::entry_counts;
 use fields::counts_fit;
 use fields::members_right;
 use fields::patients_right;
@@ -23,11 +22,11 @@ fn judge_entries(region: Region, store: &[u32; 4096], parents: bool) -> Judged
     requires { ⌜ (Sound region) × (parents ≡ true → ParentsFirst region) ⌝ }
     ensures { λ a. ⌜ numberOf a ≡ firstNo (lastAsked parents (said region (now (store .entry)))) ⌝ }
 {
-    if !entry_counts_right(region) {
+    let counts = entry_counts(region);
+    if !counts.right {
         return Judged::Refused(Refusal::EntryCounts);
     }
-    let total = entry_total(region);
-    if !entries_fit(store, total) {
+    if !entries_fit(store, counts.total) {
         return Judged::Refused(Refusal::Entries);
     }
     if !parents {

@@ -19,9 +19,10 @@ pub fn clinic_set(region: Region, clinic: u32) -> PatientSet
     ensures { λ set. ⌜ ((store : List ℕ) → members (set .0) ≡ patientsOf (said region store) clinic) ⌝ }
 {
     let mut set = PatientSet::EMPTY;
+    let patients = region.patients;
     let mut s = 0;
     while s < region.v {
-        let patient = region.patients[s];
+        let patient = patients[s];
         if patient.clinic == clinic {
             set = set.add(s);
         }
@@ -67,9 +68,10 @@ pub fn ancestor_sets(region: Region) -> [PatientSet; 32]
 {
     let nobody = PatientSet::EMPTY;
     let mut sets = [nobody; 32];
+    let patients = region.patients;
     let mut child = 0;
     while child < region.v {
-        let patient = region.patients[child];
+        let patient = patients[child];
         let parent = patient.parent;
         let set = above(sets, parent);
         sets[child] = set;

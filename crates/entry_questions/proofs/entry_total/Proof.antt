@@ -8,10 +8,10 @@ use Rattle.entry_questions.proofs.entry_total.Statement.{statement}
 use Rattle.entry_questions.proofs.entry_total.Tie as tie
 
 abbrev Inv-loop : tie.InvT-loop
-Inv-loop region n₀ i₀ n i = (n ≤ i * 65_536) × (i ≤ region .t) × (n ≡ startIn region i)
+Inv-loop region total₀ i₀ total i = (total ≤ i * 65_536) × (i ≤ region .t) × (total ≡ startIn region i)
 
 abbrev μ-loop : tie.MeasureT-loop
-μ-loop region n₀ i₀ n i = region .t - i
+μ-loop region total₀ i₀ total i = region .t - i
 
 loop-holds : tie.Need-loop-holds Inv-loop μ-loop
 loop-holds c = search needs
@@ -22,8 +22,8 @@ mul-table c = search needs
 element-copy-out-table : tie.Need-element-copy-out-table Inv-loop μ-loop
 element-copy-out-table c = search needs
 
-add-n : tie.Need-add-n Inv-loop μ-loop
-add-n c = omega (arith, c .before .before .before .before .pre .entries _ (c .before .before .loop-test .taken))
+add-total : tie.Need-add-total Inv-loop μ-loop
+add-total c = omega (arith, c .before .before .before .before .pre .entries _ (c .before .before .loop-test .taken))
 
 add-i : tie.Need-add-i Inv-loop μ-loop
 add-i c = search needs
@@ -54,7 +54,7 @@ entry-total-spec =
     loop-holds
     mul-table
     element-copy-out-table
-    add-n
+    add-total
     add-i
     loop-less
     loop-again

@@ -9,45 +9,49 @@ use Rattle.forest.proofs.root_numbers.Statement.{statement}
 use Rattle.forest.proofs.root_numbers.Tie as tie
 
 abbrev Inv-loop : tie.InvT-loop
-Inv-loop region roots₀ s₀ roots s = (length roots ≡ 32) × RootedTo region s roots
+Inv-loop region roots₀ patients s₀ roots s = (length roots ≡ 32) × RootedTo region s roots
 
 abbrev μ-loop : tie.MeasureT-loop
-μ-loop region roots₀ s₀ roots s = region .v - s
+μ-loop region roots₀ patients s₀ roots s = region .v - s
 
 loop-holds : tie.Need-loop-holds Inv-loop μ-loop
 loop-holds c = (refl, λ store s l. absurd (omega arith))
 
 mul-patient : tie.Need-mul-patient Inv-loop μ-loop
-mul-patient c = omega (arith, c .before .before .pre .places .patients)
+mul-patient c = omega (arith, c .before .before .before .before .pre .places .patients)
 
-element-copy-out-patient : tie.Need-element-copy-out-patient Inv-loop μ-loop
-element-copy-out-patient c = omega (arith, c .before .before .pre .places .patients)
+array-copy-out-patient : tie.Need-array-copy-out-patient Inv-loop μ-loop
+array-copy-out-patient c = omega (arith, c .before .before .before .before .pre .places .patients)
 
 root-number-requires : tie.Need-root-number-requires Inv-loop μ-loop
 root-number-requires c κs =
-    let first = c .before .before .before .pre in
-    (omega (arith, first .places .patients), parent-known _ first _ (c .before .loop-test .taken))
+    let first = c .before .before .before .before .before .pre in
+    (omega (arith, first .places .patients), parent-known _ first _ (c .before .if1 .taken))
 
 mul-roots : tie.Need-mul-roots Inv-loop μ-loop
-mul-roots c = omega (arith, c .before .before .before .before .pre .places .patients)
+mul-roots c = omega (arith, c .before .before .before .before .before .before .pre .places .patients)
 
 array-write-roots : tie.Need-array-write-roots Inv-loop μ-loop
-array-write-roots c = omega (arith, c .before .before .before .before .pre .places .patients)
+array-write-roots c = omega (arith, c .before .before .before .before .before .before .pre .places .patients)
 
 add-s : tie.Need-add-s Inv-loop μ-loop
-add-s c = omega (arith, c .before .before .before .before .pre .places .patients)
+add-s c = omega (arith, c .before .before .before .before .before .before .pre .places .patients)
 
 loop-less : tie.Need-loop-less Inv-loop μ-loop
 loop-less c = search needs
 
 loop-again : tie.Need-loop-again Inv-loop μ-loop
 loop-again c =
-    let inv = c .before .before .before .loop .inv in
-    let room = c .before .before .before .before .pre .places .patients in
-    (simp length-set (inv .0), rooted-more _ (c .before .before .before .before .pre) _ (c .before .before .loop-test .taken) _ _ (omega (arith, room)) (c .root-number .ensures) (inv .1))
+    let loop = c .before .before .before .before in
+    let first = loop .before .before .pre in
+    let room = first .places .patients in
+    let inv = loop .loop .inv in
+    (simp length-set (inv .0), rooted-more _ first _ (c .before .before .if1 .taken) _ _ (omega (arith, room)) (c .root-number .ensures) (inv .1))
 
 returns : tie.Need-returns Inv-loop μ-loop
-returns c = λ store. record { roots = λ s l. c .before .loop .inv .1 store s (omega (arith, patients-said (c .before .before .args .t1) store)) }
+returns c =
+    let loop = c .before .before in
+    λ store. record { roots = λ s l. loop .loop .inv .1 store s (omega (arith, patients-said (loop .before .before .args .region) store)) }
 
 pub root-numbers-spec : {M : Type 1} → statement M
 root-numbers-spec =
@@ -57,7 +61,7 @@ root-numbers-spec =
     μ-loop
     loop-holds
     mul-patient
-    element-copy-out-patient
+    array-copy-out-patient
     root-number-requires
     mul-roots
     array-write-roots

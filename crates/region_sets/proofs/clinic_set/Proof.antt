@@ -15,19 +15,19 @@ use Rattle.region_sets.proofs.clinic_set.Statement.{statement}
 use Rattle.region_sets.proofs.clinic_set.Tie as tie
 
 abbrev Inv-loop : tie.InvT-loop
-Inv-loop clinic region set₀ s₀ set s = (s ≤ region .v) × ((q : ℕ) → inSet (set .0) q ≡ (ltb q s && eqb (patientIn region q .clinic) clinic))
+Inv-loop region clinic set₀ patients s₀ set s = (s ≤ region .v) × ((q : ℕ) → inSet (set .0) q ≡ (ltb q s && eqb (patientIn region q .clinic) clinic))
 
 abbrev μ-loop : tie.MeasureT-loop
-μ-loop clinic region set₀ s₀ set s = region .v - s
+μ-loop region clinic set₀ patients s₀ set s = region .v - s
 
 loop-holds : tie.Need-loop-holds Inv-loop μ-loop
-loop-holds c = (search needs, λ q. in-none q ∙ sym (ap (λ b. b && eqb (patientIn (c .args .t1) q .clinic) (c .args .clinic)) (le-ltb q 0 (omega arith))))
+loop-holds c = (search needs, λ q. in-none q ∙ sym (ap (λ b. b && eqb (patientIn (c .before .args .region) q .clinic) (c .before .args .clinic)) (le-ltb q 0 (omega arith))))
 
 mul-patient : tie.Need-mul-patient Inv-loop μ-loop
 mul-patient c = search needs
 
-element-copy-out-patient : tie.Need-element-copy-out-patient Inv-loop μ-loop
-element-copy-out-patient c = search needs
+array-copy-out-patient : tie.Need-array-copy-out-patient Inv-loop μ-loop
+array-copy-out-patient c = search needs
 
 add-requires : tie.Need-add-requires Inv-loop μ-loop
 add-requires c κs = search needs
@@ -40,25 +40,27 @@ loop-less c = search needs
 
 loop-again : tie.Need-loop-again Inv-loop μ-loop
 loop-again c =
-    let region = c .before .before .before .before .before .args .t1 in
-    let clinic = c .before .before .before .before .before .args .clinic in
-    let s = c .before .before .before .before .loop .s in
-    let inv = c .before .before .before .before .loop .inv .1 in
+    let loop = c .before .before .before .before .before in
+    let region = loop .before .before .args .region in
+    let clinic = loop .before .before .args .clinic in
+    let s = loop .loop .s in
+    let inv = loop .loop .inv .1 in
     let there : ℕ → Bool = λ q. eqb (patientIn region q .clinic) clinic in (
       search needs,
       λ q. ⊎-elim
           (λ w. ap (λ (x : PatientSet). inSet (x .0) q) (w .2) ∙ w .1 .ensures q ∙ ap (λ b. b || eqb q s) (inv q) ∙ one-place there s q true (eq-eqb _ _ (w .0 .taken)))
           (λ w. ap (λ (x : PatientSet). inSet (x .0) q) (w .1) ∙ inv q ∙ sym (or-false _) ∙ one-place there s q false (ne-eqb _ _ (w .0 .left)))
-          (c .if1 .came),
+          (c .if2 .came),
     )
 
 returns : tie.Need-returns Inv-loop μ-loop
 returns c =
-    let region = c .before .before .args .t1 in
-    let clinic = c .before .before .args .clinic in
-    let last : c .before .loop .s ≡ region .v = omega arith in
-    λ store. clinic-members region store clinic _ (c .before .before .pre .patients)
-    (λ q. c .before .loop .inv .1 q ∙ ap (λ s. ltb q s && eqb (patientIn region q .clinic) clinic) last)
+    let loop = c .before .before in
+    let region = loop .before .before .args .region in
+    let clinic = loop .before .before .args .clinic in
+    let last : loop .loop .s ≡ region .v = omega arith in
+    λ store. clinic-members region store clinic _ (loop .before .before .pre .patients)
+    (λ q. loop .loop .inv .1 q ∙ ap (λ s. ltb q s && eqb (patientIn region q .clinic) clinic) last)
 
 pub clinic-set-spec : {M : Type 1} → statement M
 clinic-set-spec =
@@ -68,7 +70,7 @@ clinic-set-spec =
     μ-loop
     loop-holds
     mul-patient
-    element-copy-out-patient
+    array-copy-out-patient
     add-requires
     add-s
     loop-less

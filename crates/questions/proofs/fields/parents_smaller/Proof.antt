@@ -10,10 +10,10 @@ use Rattle.questions.proofs.fields.parents_smaller.Statement.{statement
 use Rattle.questions.proofs.fields.parents_smaller.Tie as tie
 
 abbrev Inv-loop : tie.InvT-loop
-Inv-loop region s₀ s = (store : List ℕ) → askedFrom (λ i. parentFits (parentOf (patientIn region i .parent)) i) (region .v) s ≡ parentsSmaller (said region store)
+Inv-loop region patients s₀ s = (store : List ℕ) → askedFrom (λ i. parentFits (parentOf (patientIn region i .parent)) i) (region .v) s ≡ parentsSmaller (said region store)
 
 abbrev μ-loop : tie.MeasureT-loop
-μ-loop region s₀ s = region .v - s
+μ-loop region patients s₀ s = region .v - s
 
 loop-holds : tie.Need-loop-holds Inv-loop μ-loop
 loop-holds c = λ store. ask-all _ _ (parents-asked _ store)
@@ -21,14 +21,14 @@ loop-holds c = λ store. ask-all _ _ (parents-asked _ store)
 mul-patient : tie.Need-mul-patient Inv-loop μ-loop
 mul-patient c = search needs
 
-element-copy-out-patient : tie.Need-element-copy-out-patient Inv-loop μ-loop
-element-copy-out-patient c = search needs
+array-copy-out-patient : tie.Need-array-copy-out-patient Inv-loop μ-loop
+array-copy-out-patient c = search needs
 
 parent-smaller-requires : tie.Need-parent-smaller-requires Inv-loop μ-loop
 parent-smaller-requires c κs = search needs
 
 returns : tie.Need-returns Inv-loop μ-loop
-returns c = λ store. ask-no _ _ _ (c .before .before .before .loop-test .taken) (answered-no (c .before .parent-smaller .ensures) (c .if1 .taken)) (c .before .before .before .before .loop .inv store)
+returns c = λ store. ask-no _ _ _ (c .before .before .before .if1 .taken) (answered-no (c .before .parent-smaller .ensures) (c .if2 .taken)) (c .before .before .before .before .before .loop .inv store)
 
 add-s : tie.Need-add-s Inv-loop μ-loop
 add-s c = search needs
@@ -37,10 +37,10 @@ loop-less : tie.Need-loop-less Inv-loop μ-loop
 loop-less c = search needs
 
 loop-again : tie.Need-loop-again Inv-loop μ-loop
-loop-again c = λ store. ask-yes _ _ _ (c .before .before .before .loop-test .taken) (answered-yes (c .before .parent-smaller .ensures) (c .if1 .left)) (c .before .before .before .before .loop .inv store)
+loop-again c = λ store. ask-yes _ _ _ (c .before .before .before .if1 .taken) (answered-yes (c .before .parent-smaller .ensures) (c .if2 .left)) (c .before .before .before .before .before .loop .inv store)
 
 returns-2 : tie.Need-returns-2 Inv-loop μ-loop
-returns-2 c = λ store. ask-done _ _ _ (c .loop-test .left) (c .before .loop .inv store)
+returns-2 c = λ store. ask-done _ _ _ (c .if1 .left) (c .before .before .loop .inv store)
 
 pub parents-smaller-spec : {M : Type 1} → statement M
 parents-smaller-spec =
@@ -50,7 +50,7 @@ parents-smaller-spec =
     μ-loop
     loop-holds
     mul-patient
-    element-copy-out-patient
+    array-copy-out-patient
     parent-smaller-requires
     returns
     add-s
