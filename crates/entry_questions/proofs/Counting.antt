@@ -5,7 +5,7 @@ use Prim.Native.Nat.{_≤_}
 use native.Mathlib.Numerals.{add-one}
 use native.Mathlib.Omega.{arith}
 use borrow.Author.Tests.{eq-eqb, ne-eqb}
-use Rattle.definitions.specs.Basics.{ℕ, suc, _+_, _*_, _<_, Bool, true, false, _&&_, List, map, eqb, product}
+use Rattle.definitions.specs.Basics.{ℕ, _+_, _*_, _<_, Bool, true, false, _&&_, List, map, eqb, product}
 use Rattle.definitions.specs.Limits.{within, entryCount}
 use Rattle.definitions.specs.Questions.{entryCountsRight}
 use Rattle.held_region.specs.declared.Region.{Region}

@@ -1,14 +1,13 @@
 -- What is said, place by place, and question 6 as a loop over the places asks it.
 use mathlib.Core.Path.{_≡_, refl, sym, ap, ap₂, _∙_}
-use mathlib.Core.Bool.{and-eq-true-iff}
 use Prim.Native.Nat.{_≤_}
 use native.Mathlib.Omega.{arith}
-use borrow.Author.Tests.{eqb-true, eq-eqb}
+use borrow.Author.Tests.{eqb-true}
 use Rattle.definitions.specs.Basics.{ℕ, zero, suc, _+_, _<_, Bool, true, false, _&&_, cond, Option, none, some, noneOr, List, [], map, length, getD, eqb, ltb, below, every}
 use Rattle.definitions.specs.Limits.{within, clinic, bedCount}
 use Rattle.definitions.specs.Syntax as Said
 use Rattle.definitions.specs.Syntax.{patientAt}
-use Rattle.definitions.specs.Questions.{countsTrue, patientsWithin, parentsSmaller}
+use Rattle.definitions.specs.Questions.{patientsWithin, parentsSmaller}
 use Rattle.held_region.specs.declared.Region.{Region}
 use Rattle.held_region.specs.Meaning.{parentOf, patientOf, patientIn, mark, entryOf, codeOf, tableIn, membersOf, startIn, tableSaid, said}
 use Rattle.held_region.specs.Places.{length-by-places, at-place, every-map, same-tests}
@@ -89,8 +88,3 @@ module _ (h : Region) (store : List ℕ) where
       ap (λ n. getD store (n + q) 0) (starts-said i (omega arith))
       ∙ sym (code-back (getD store (startIn h i + q) 0))
       ∙ ap codeOf (sym (ap (λ t. getD (t .entries) q none) (table-said i inside) ∙ at-place (λ k. entryOf (getD store (startIn h i + k) 0)) none (tableIn h i .entries) q there))
-
-  -- The counts are the true ones.
-  pub counts-true : countsTrue (said h store) ≡ true
-  unfolding countsTrue said
-  counts-true = and-eq-true-iff _ _ .1 (eq-eqb _ _ patients-said, eq-eqb _ _ tables-said)

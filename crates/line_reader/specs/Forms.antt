@@ -14,16 +14,16 @@ use Rattle.definitions.specs.Layout.{Reader, _>>=_, _>>_, give, whole, exactly,
 abbrev pub hyphenMark : ℕ
 hyphenMark = 4_294_967_295
 
-abbrev pub valueOf : Option ℕ → ℕ
-valueOf none = hyphenMark
-valueOf (some n) = n
+abbrev pub fieldValue : Option ℕ → ℕ
+fieldValue none = hyphenMark
+fieldValue (some n) = n
 
-abbrev pub saidBy : ℕ → Option ℕ
-saidBy v = cond (eqb v hyphenMark) none (some v)
+abbrev pub fieldSaid : ℕ → Option ℕ
+fieldSaid v = cond (eqb v hyphenMark) none (some v)
 
 -- A field by its kind: may it be a hyphen?
 unfoldable pub field : Bool → Reader ℕ ℕ
-field true = do o ← hyphenOrNumber; give (valueOf o)
+field true = do o ← hyphenOrNumber; give (fieldValue o)
 field false = number
 
 -- The fields that are left, after those of these values.
@@ -63,7 +63,7 @@ module _ {A B : Type 0} where
   map-cond f false a = refl
 
 -- The mark tells a hyphen from every number that a file can say.
-said-by : (o : Option ℕ) → noneOr spellable o ≡ true → saidBy (valueOf o) ≡ o
+said-by : (o : Option ℕ) → noneOr spellable o ≡ true → fieldSaid (fieldValue o) ≡ o
 unfolding limits
 said-by none h = refl
 said-by (some n) h = let l = ltb-true n 10_000_000 h in rw (ne-eqb n hyphenMark (λ e. omega arith))
@@ -74,34 +74,34 @@ module _ (xs : List ℕ) where
   unfolding field
   number-by-value = refl
 
-  hyphen-by-value : hyphenOrNumber xs ≡ (do v ← field true; give (saidBy v)) xs
+  hyphen-by-value : hyphenOrNumber xs ≡ (do v ← field true; give (fieldSaid v)) xs
   unfolding field bind
   hyphen-by-value = go (hyphenOrNumber xs) (λ p ys e. hyphen-reads .only e .0)
     where
       go : (o : Option (Option ℕ × List ℕ)) → ((p : Option ℕ) (ys : List ℕ) → o ≡ some (p, ys) → noneOr spellable p ≡ true)
-          → o ≡ bind (bind {B = ℕ × List ℕ} o (λ r. some (valueOf (r .0), r .1))) (λ r. some (saidBy (r .0), r .1))
+          → o ≡ bind (bind {B = ℕ × List ℕ} o (λ r. some (fieldValue (r .0), r .1))) (λ r. some (fieldSaid (r .0), r .1))
       go none h = refl
       go (some r) h = ap (λ p. some (p, r .1)) (sym (said-by (r .0) (h (r .0) (r .1) refl)))
 
 -- The three forms, and what the values of their fields say.
-abbrev pub regionOf : List ℕ → ℕ × ℕ × ℕ
-regionOf values = (getD values 0 0, getD values 1 0, getD values 2 0)
+abbrev pub regionSaid : List ℕ → ℕ × ℕ × ℕ
+regionSaid values = (getD values 0 0, getD values 1 0, getD values 2 0)
 
-abbrev pub patientOf : List ℕ → Patient
-patientOf values = record { clinic = getD values 0 0; bedCount = getD values 1 0; parent = saidBy (getD values 2 0) }
+abbrev pub patientSaid : List ℕ → Patient
+patientSaid values = record { clinic = getD values 0 0; bedCount = getD values 1 0; parent = fieldSaid (getD values 2 0) }
 
-abbrev pub endOf : List ℕ → ℕ
-endOf values = getD values 0 0
+abbrev pub endSaid : List ℕ → ℕ
+endSaid values = getD values 0 0
 
 module _ (xs : List ℕ) where
-  pub region-form : whole regionLine xs ≡ Option·map regionOf (fieldValues (text "(region") (false ∷ false ∷ false ∷ []) xs)
+  pub region-form : whole regionLine xs ≡ Option·map regionSaid (fieldValues (text "(region") (false ∷ false ∷ false ∷ []) xs)
   unfolding regionLine fieldValues
   region-form = simp (number-by-value, bind-bind, bind-some, map-bind, map-cond)
 
-  pub patient-form : whole patientLine xs ≡ Option·map patientOf (fieldValues (text "(patient") (false ∷ false ∷ true ∷ []) xs)
+  pub patient-form : whole patientLine xs ≡ Option·map patientSaid (fieldValues (text "(patient") (false ∷ false ∷ true ∷ []) xs)
   unfolding patientLine fieldValues
   patient-form = simp (hyphen-by-value, number-by-value, bind-bind, bind-some, map-bind, map-cond)
 
-  pub end-form : whole endLine xs ≡ Option·map endOf (fieldValues (text "(end") (false ∷ []) xs)
+  pub end-form : whole endLine xs ≡ Option·map endSaid (fieldValues (text "(end") (false ∷ []) xs)
   unfolding endLine fieldValues
   end-form = simp (number-by-value, bind-bind, bind-some, map-bind, map-cond)

@@ -14,7 +14,7 @@ ghost use Rattle.definitions.specs.Layout.{whole, regionLine, patientLine, endL
 ghost use Rattle.definitions.specs.Questions.{checksum};
 ghost use Rattle.scanner.specs.Answers.{ReadAt, numberRead, optional};
 ghost use Rattle.line_reader.specs.Answers.{LineEnd, regionRead, patientRead, endRead};
-ghost use Rattle.line_reader.specs.Forms.{valueOf, saidBy, field, fieldValues, valuesIf};
+ghost use Rattle.line_reader.specs.Forms.{fieldValue, fieldSaid, field, fieldValues, valuesIf};
 ghost use Rattle.line_reader.specs.Lines.{Seeking, fourGoOn};
 
 // Are the four bytes from a place on no line ends?
@@ -116,7 +116,7 @@ const HYPHEN: u32 = 4_294_967_295;
 
 // The value of a field that may be a hyphen.
 fn value_of(field: Optional) -> u32
-    ensures { λ r. ⌜ r ≡ valueOf (optional field) ⌝ }
+    ensures { λ r. ⌜ r ≡ fieldValue (optional field) ⌝ }
 {
     match field {
         Optional::Hyphen => HYPHEN,
@@ -126,7 +126,7 @@ fn value_of(field: Optional) -> u32
 
 // What such a value says.
 fn said_by(value: u32) -> Optional
-    ensures { λ r. ⌜ optional r ≡ saidBy value ⌝ }
+    ensures { λ r. ⌜ optional r ≡ fieldSaid value ⌝ }
 {
     if value == HYPHEN {
         Optional::Hyphen

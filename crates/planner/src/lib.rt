@@ -38,7 +38,6 @@ pub fn list(file: &[u8], beds: &mut [u8], costs: &mut [u32], work: &mut [u32]) -
     }
 }
 
-// The number of list's answer.
 // Questions 1 to 10, 11, 12 and 13, then the clinic's sheet.
 pub fn sheet(
     file: &[u8],
@@ -58,7 +57,6 @@ pub fn sheet(
     }
 }
 
-// The number of sheet's answer.
 // Questions 1 to 10 and 14, then the plan's total.
 pub fn price(file: &[u8], plan: &[u8]) -> Priced
     ensures { λ r. ⌜ pricedOutcome r ≡ priceOutcome (now (file .entry)) (now (plan .entry)) ⌝ }

@@ -1,13 +1,13 @@
 -- The calls from C, from what the entries give and what is written of it. Assumes nothing.
-use mathlib.Core.Path.{_≡_, sym, ap, ap₂, _∙_}
+use mathlib.Core.Path.{_≡_, sym, ap, _∙_}
 use Prim.Native.Nat.{_≤_, _<_, _-_}
 use native.Mathlib.Omega.{arith}
 use borrow.Author.Tests.{lt-leb, le-leb}
-use Rattle.definitions.specs.Basics.{ℕ, suc, true, false, cond, List, [], _∷_, length}
+use Rattle.definitions.specs.Basics.{ℕ, suc, false, cond, List, [], _∷_, length}
 use Rattle.definitions.specs.Plans.{Plan}
 use Rattle.definitions.specs.Questions.{checkOf}
 use Rattle.definitions.specs.Outcomes.{PriceOutcome, written, priceFound, priceOutcome}
-use Rattle.definitions.specs.Boundary.{bytesOf, resultAfter, PriceCall, priceCallOf, priceCall}
+use Rattle.definitions.specs.Boundary.{bytesOf, resultAfter, priceCallOf, priceCall}
 use Rattle.answers.specs.Answers.{notAllowed}
 use Rattle.planner.specs.Prices.{price-accepted, price-not-accepted}
 

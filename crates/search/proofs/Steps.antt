@@ -69,9 +69,6 @@ module _ {store patients terms : List ℕ} {head : Branching} {s bed : ℕ} (ask
   pub asks-room : head .plan .len < 32
   asks-room = omega (arith, asks .light .placed, ap length (asks .lowest))
 
-  pub asks-least : leastAt patients s ≤ head .bound
-  asks-least = least-most (asks .heads) (asks .lowest)
-
   -- What the bed decides costs as much as the sum for it says.
   pub decides : {count : ℕ} {sums : List ℕ} → Price.Gives store patients terms s count (head .plan .beds) sums → {o : Option ℕ} → sumIn (getD sums bed 0) ≡ o
       → Decides store patients terms head s bed o

@@ -1,4 +1,4 @@
-use Rattle.line_reader.specs.Forms.{endOf, end-form}
+use Rattle.line_reader.specs.Forms.{endSaid, end-form}
 use Rattle.line_reader.proofs.Forms.{said-there, said-missing}
 use borrow.Author.Needs.{needs}
 use Rattle.line_reader.proofs.end_line.Statement.{statement}
@@ -20,10 +20,10 @@ array-read-t15 : tie.Need-array-read-t15
 array-read-t15 c = search needs
 
 returns : tie.Need-returns
-returns c = said-there endOf _ (end-form _) (c .before .before .read-form .ensures) (c .if1 .taken)
+returns c = said-there endSaid _ (end-form _) (c .before .before .read-form .ensures) (c .if1 .taken)
 
 returns-2 : tie.Need-returns-2
-returns-2 c = said-missing endOf _ (end-form _) (c .before .before .read-form .ensures) (c .if1 .left)
+returns-2 c = said-missing endSaid _ (end-form _) (c .before .before .read-form .ensures) (c .if1 .left)
 
 pub end-line-spec : {M : Type 1} → statement M
 end-line-spec =

@@ -1,4 +1,4 @@
-use Rattle.line_reader.specs.Forms.{patientOf, patient-form}
+use Rattle.line_reader.specs.Forms.{patientSaid, patient-form}
 use Rattle.line_reader.proofs.Forms.{said-there, said-missing}
 use borrow.Author.Needs.{needs}
 use Rattle.line_reader.proofs.patient_line.Statement.{statement}
@@ -29,10 +29,10 @@ said-by-requires : tie.Need-said-by-requires
 said-by-requires c κs = search needs
 
 returns : tie.Need-returns
-returns c = rw (c .said-by .ensures) (said-there patientOf _ (patient-form _) (c .before .before .before .read-form .ensures) (c .before .if1 .taken))
+returns c = rw (c .said-by .ensures) (said-there patientSaid _ (patient-form _) (c .before .before .before .read-form .ensures) (c .before .if1 .taken))
 
 returns-2 : tie.Need-returns-2
-returns-2 c = said-missing patientOf _ (patient-form _) (c .before .before .read-form .ensures) (c .if1 .left)
+returns-2 c = said-missing patientSaid _ (patient-form _) (c .before .before .read-form .ensures) (c .if1 .left)
 
 pub patient-line-spec : {M : Type 1} → statement M
 patient-line-spec =

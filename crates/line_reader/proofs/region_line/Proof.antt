@@ -1,4 +1,4 @@
-use Rattle.line_reader.specs.Forms.{regionOf, region-form}
+use Rattle.line_reader.specs.Forms.{regionSaid, region-form}
 use Rattle.line_reader.proofs.Forms.{said-there, said-missing}
 use borrow.Author.Needs.{needs}
 use Rattle.line_reader.proofs.region_line.Statement.{statement}
@@ -26,10 +26,10 @@ array-read-t21 : tie.Need-array-read-t21
 array-read-t21 c = search needs
 
 returns : tie.Need-returns
-returns c = said-there regionOf _ (region-form _) (c .before .before .read-form .ensures) (c .if1 .taken)
+returns c = said-there regionSaid _ (region-form _) (c .before .before .read-form .ensures) (c .if1 .taken)
 
 returns-2 : tie.Need-returns-2
-returns-2 c = said-missing regionOf _ (region-form _) (c .before .before .read-form .ensures) (c .if1 .left)
+returns-2 c = said-missing regionSaid _ (region-form _) (c .before .before .read-form .ensures) (c .if1 .left)
 
 pub region-line-spec : {M : Type 1} → statement M
 region-line-spec =
