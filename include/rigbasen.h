@@ -36,7 +36,7 @@ extern "C" {
 #define RIGBASEN_PRICE_RESULT_BYTES (2 * RIGBASEN_NUMBER_BYTES) /* price: allowed, then the total */
 
 /* Stack that is enough for every call. */
-#define RIGBASEN_STACK_BYTES (256 * 1024)
+#define RIGBASEN_STACK_BYTES (128 * 1024)
 
 /* The number that a call gives: the first question that is answered "no". */
 enum rigbasen_number {
@@ -109,8 +109,8 @@ uint64_t rigbasen_price(const uint8_t *file, size_t file_length,
  *   None is null; for a length of 0 any other pointer will do.
  * - The areas of one call do not overlap each other, the file or the plan, and nobody else writes to any of them meanwhile.
  *   (The library has no variables of its own, so threads may call at once, each with its own areas.)
- * - RIGBASEN_STACK_BYTES of stack are free: the work area is there. By measure, check takes about 120,000 bytes,
- *   price 140,000, list 181,000 and sheet 206,000, whatever the file.
+ * - RIGBASEN_STACK_BYTES of stack are free: the work area is there. By measure, check takes about 33,000 bytes,
+ *   price 39,000, list up to 108,000 and sheet up to 115,000, the most where 32 patients are one tree.
  * - Time. A call always ends, but where one tree holds many patients under many tables it can take very long.
  */
 

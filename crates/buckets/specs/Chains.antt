@@ -11,7 +11,7 @@ use Rattle.definitions.specs.Syntax.{Table, Region, patientAt}
 use Rattle.definitions.specs.Plans.{Plan, bedOf, entryFor}
 use Rattle.ranking.specs.Members.{_∈_, getD-in}
 use Rattle.theorems.specs.Accepted.{Accepted, TableRight, member-at, table-right, patients-few, entries-few, beds-some, entry-small}
-use Rattle.held_region.specs.Stores.{tableAt, startOf, start-next, start-most, Stands}
+use Rattle.held_region.specs.Stores.{tableAt, startOf, start-next, start-most, HasEntries}
 use Rattle.buckets.specs.Terms.{Fitting, highest, startAt, nextAt, memberAt, strideAt, placeAt, Term, Chain}
 use Rattle.buckets.specs.Places.{strideOf, placeOf, place-strides, place-bound, place-last}
 use Rattle.buckets.specs.Highest.{in-bucket}
@@ -65,7 +65,7 @@ module _ (r : Region) (a : Accepted r) (i : ℕ) (h : i < length (r .tables)) (t
     bounded : (plan : Plan) → Fitting r plan → placeOf count (bedOf plan) (t .members) < length (t .entries)
     bounded plan fits = omega (arith, right .counted, place-bound count (bedOf plan) (t .members) (λ j l. fits _ (member-at right j l)))
 
-    pub term-right : (store : List ℕ) → Stands store (r .tables) → Term r store terms i t
+    pub term-right : (store : List ℕ) → HasEntries store (r .tables) → Term r store terms i t
     unfolding entryFor
     term-right store stands =
         record {

@@ -11,7 +11,7 @@ use Rattle.definitions.specs.Questions.{patientsWithin, parentsSmaller}
 use Rattle.held_region.specs.declared.Region.{Region}
 use Rattle.held_region.specs.Meaning.{parentOf, patientOf, patientIn, mark, entryOf, codeOf, tableIn, membersOf, startIn, tableSaid, said}
 use Rattle.held_region.specs.Places.{length-by-places, at-place, every-map, same-tests}
-use Rattle.held_region.specs.Stores.{startOf, tableAt, start-next, Stands}
+use Rattle.held_region.specs.Stores.{startOf, tableAt, start-next, HasEntries}
 
 -- Question 6, of one patient, and of its parent.
 abbrev pub patientFits : Said.Patient → Bool
@@ -81,7 +81,7 @@ module _ (h : Region) (store : List ℕ) where
       ∙ ap₂ (λ a b. a + b) (starts-said i (omega arith)) (sym (entries-said i (omega arith)))
 
   -- .. and there they stand in the store.
-  pub stands : Stands store (said h store .tables)
+  pub stands : HasEntries store (said h store .tables)
   stands i q l m =
       let inside : i < h .t = omega (arith, tables-said) in
       let there : q < tableIn h i .entries = omega (arith, entries-said i inside) in

@@ -5,6 +5,7 @@ use Prim.Native.Nat.{_≤_}
 use native.Mathlib.Nat.{le-trans, mul-le-mul, pow-zero, pow-succ', pow-le-pow-right, zero-lt-suc}
 use native.Mathlib.Omega.{arith}
 use borrow.Author.Tests.{ltb-true, leb-true, le-leb, eqb-true}
+use Rattle.theorems.specs.Accepted.{at-most}
 use Rattle.patient_set.specs.Lists.{every-weaker}
 use Rattle.definitions.specs.Basics.{ℕ, zero, suc, _+_, _<_, _*_, _^_, Bool, true, false, _&&_, _||_, cond, none, some, noneOr, List, [], _∷_, map, length, getD, eqb, leb, ltb, product, numbersFrom, below, every}
 use Rattle.definitions.specs.Limits.{limits, within, entry, entryCount}
@@ -15,7 +16,6 @@ use Rattle.held_region.specs.declared.Patient.{Patient}
 use Rattle.held_region.specs.declared.Table.{Table}
 use Rattle.held_region.specs.declared.Region.{Region}
 use Rattle.held_region.specs.Meaning.{mark, entryOf, tableIn, membersOf, sumBefore, startIn, tableSaid, said}
-use Rattle.held_region.specs.Limits.{within-most}
 use Rattle.held_region.specs.Stores.{startOf, entriesOf, start-all}
 use Rattle.held_region.specs.Places.{every-map, every-place, same-maps, same-tests}
 use Rattle.held_region.specs.Asked.{patient-said, tables-by-places, tables-said, entries-count, starts-said}
@@ -31,7 +31,7 @@ counts-match r yes-eight = and-eq-true-iff (countsMatch r) _ .0 yes-eight .0
 
 pub total-most : (r : Said.Region) → entryCountsRight r ≡ true → entriesOf (r .tables) ≤ 4096
 unfolding entryCountsRight limits
-total-most r yes-eight = within-most entryCount (entriesOf (r .tables)) (and-eq-true-iff (countsMatch r) _ .0 yes-eight .1)
+total-most r yes-eight = at-most entryCount (entriesOf (r .tables)) (and-eq-true-iff (countsMatch r) _ .0 yes-eight .1)
 
 -- What a product of bed counts relies on.
 pub record BedsRead (patients : List Patient) (t : Table) : Type 0 where

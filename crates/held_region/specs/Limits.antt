@@ -1,9 +1,6 @@
 -- The code's fields, as the definitions name them, and their places in the code's table of limits.
 use mathlib.Core.Path.{_≡_, refl}
-use mathlib.Core.Bool.{and-eq-true-iff}
-use Prim.Native.Nat.{_≤_}
-use borrow.Author.Tests.{leb-true}
-use Rattle.definitions.specs.Basics.{ℕ, true, leb, List, [], _∷_, map, getD}
+use Rattle.definitions.specs.Basics.{ℕ, List, [], _∷_, map, getD}
 use Rattle.definitions.specs.Limits as Said
 use Rattle.held_region.specs.declared.limits.Limit.{Limit}
 use Rattle.held_region.specs.declared.limits.Field.{Field}
@@ -45,8 +42,3 @@ table-at BedCount = refl
 table-at MemberCount = refl
 table-at EntryCount = refl
 table-at Entry = refl
-
--- What is within a field's limits is at most the highest.
-pub within-most : (field : Said.Field) (n : ℕ) → Said.within field n ≡ true → n ≤ Said.limits field .highest
-unfolding Said.within
-within-most field n h = leb-true n (Said.limits field .highest) (and-eq-true-iff (leb (Said.limits field .lowest) n) _ .0 h .1)

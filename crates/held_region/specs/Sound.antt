@@ -7,11 +7,10 @@ use borrow.Author.Tests.{ltb-true}
 use Rattle.definitions.specs.Basics.{ℕ, _<_, true, _&&_, List, length, getD, ltb, every, everyTwo}
 use Rattle.definitions.specs.Limits.{limits, within, patientCount, tableCount, clinic, bedCount, memberCount}
 use Rattle.definitions.specs.Questions.{countsWithin, patientsWithin, parentsSmaller, membersRight}
-use Rattle.theorems.specs.Accepted.{Accepted}
+use Rattle.theorems.specs.Accepted.{Accepted, at-most}
 use Rattle.held_region.specs.declared.Patient.{Patient}
 use Rattle.held_region.specs.declared.Region.{Region}
 use Rattle.held_region.specs.Meaning.{noPatient, patientOf, patientIn, tableIn, membersOf, said}
-use Rattle.held_region.specs.Limits.{within-most}
 use Rattle.held_region.specs.Places.{length-by-places, every-place}
 use Rattle.held_region.specs.Asked.{patientFits, patients-asked, parents-asked}
 use Rattle.held_region.specs.Members.{membersFit, members-asked, every-member}
@@ -26,7 +25,7 @@ unfolding countsWithin said limits
 has-places h store yes-five =
     let two = and-eq-true-iff (within patientCount (h .v) && within tableCount (h .t)) _ .0 yes-five in
     let counts = and-eq-true-iff (within patientCount (h .v)) _ .0 (two .0) in
-    record { patients = within-most patientCount (h .v) (counts .0); tables = within-most tableCount (h .t) (counts .1) }
+    record { patients = at-most patientCount (h .v) (counts .0); tables = at-most tableCount (h .t) (counts .1) }
 
 -- What functions that see no store ask for is said with some store: the answers to questions 5 to 8 and 10 do not depend on it.
 -- Questions 5 to 7, but for parents, are answered yes.
@@ -65,7 +64,7 @@ module _ (h : Region) (sound : Sound h) where
   unfolding limits
   beds-most s l =
       let fits : patientFits (patientOf (patientIn h s)) ≡ true = every-place _ (h .v) s (sym (patients-asked h (sound .store)) ∙ sound .patients) l in
-      within-most bedCount _ (and-eq-true-iff (within clinic (patientIn h s .clinic)) _ .0 fits .1)
+      at-most bedCount _ (and-eq-true-iff (within clinic (patientIn h s .clinic)) _ .0 fits .1)
 
   module _ (i : ℕ) (l : i < h .t) where
     abbrev members : List ℕ
@@ -81,7 +80,7 @@ module _ (h : Region) (sound : Sound h) where
 
     pub members-few : length members ≤ 4
     unfolding limits
-    members-few = within-most memberCount _ (members-fit .0)
+    members-few = at-most memberCount _ (members-fit .0)
 
     pub members-held : tableIn h i .members ≤ 4
     members-held = omega (arith, members-few, length-by-places (λ k. getD (tableIn h i .first) k 0) 0 (tableIn h i .members))

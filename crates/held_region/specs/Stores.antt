@@ -47,5 +47,5 @@ start-most [] (suc i) = unfold startOf in none-more i
 start-most (t ∷ tables) (suc i) = omega (arith, start-first t tables i, start-most tables i)
 
 -- The store has the entries of each table from its start on.
-abbrev pub Stands : List ℕ → List Table → Type 0
-Stands store tables = (i q : ℕ) → i < length tables → q < length (at tables i .entries) → getD store (startOf tables i + q) 0 ≡ codeOf (getD (at tables i .entries) q none)
+abbrev pub HasEntries : List ℕ → List Table → Type 0
+HasEntries store tables = (i q : ℕ) → i < length tables → q < length (at tables i .entries) → getD store (startOf tables i + q) 0 ≡ codeOf (getD (at tables i .entries) q none)

@@ -7,7 +7,7 @@ use lib.Seq.{getD-append-add}
 use Rattle.definitions.specs.Basics.{ℕ, zero, suc, _+_, _<_, Option, none, List, [], _∷_, map, flatMap, length, getD}
 use Rattle.definitions.specs.Syntax.{Table}
 use Rattle.held_region.specs.Meaning.{codeOf}
-use Rattle.held_region.specs.Stores.{startOf, entriesOf, at, start-next, start-first, start-most, Stands}
+use Rattle.held_region.specs.Stores.{startOf, entriesOf, at, start-next, start-first, start-most, HasEntries}
 use Rattle.table_reader.specs.TableReading.{Holding}
 use Rattle.layout.specs.TableLines.{codesOf}
 
@@ -35,7 +35,7 @@ code-at (t ∷ tables) (suc i) q h l =
     ∙ getD-append-add (map codeOf (t .entries)) (codesOf tables) (startOf tables i + q) 0 ∙ code-at tables i q (omega arith) l
 
 -- Where all entries have their place in the store, a table's stand from its start on.
-pub stands-held : (store : List ℕ) (tables : List Table) → Holding store (codesOf tables) → entriesOf tables ≤ 4096 → Stands store tables
+pub stands-held : (store : List ℕ) (tables : List Table) → Holding store (codesOf tables) → entriesOf tables ≤ 4096 → HasEntries store tables
 stands-held store tables held most i q h l =
     let inside : startOf tables i + q < entriesOf tables = omega (arith, start-next tables i, start-most tables (suc i)) in
     held .stored .held (startOf tables i + q) (omega (arith, held .wide)) (omega (arith, length-codes tables)) ∙ code-at tables i q h l

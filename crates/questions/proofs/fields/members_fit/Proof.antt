@@ -1,7 +1,7 @@
 use borrow.Author.Needs.{needs}
 use mathlib.Core.Path.{sym, _∙_}
 use Rattle.definitions.specs.Limits.{limits, memberCount}
-use Rattle.held_region.specs.Limits.{within-most}
+use Rattle.theorems.specs.Accepted.{at-most}
 use Rattle.held_region.specs.Members.{fit, unfit}
 use Rattle.questions.proofs.fields.members_fit.Statement.{statement}
 use Rattle.questions.proofs.fields.members_fit.Tie as tie
@@ -11,7 +11,7 @@ within-requires c κs = search needs
 
 members-rise-requires : tie.Need-members-rise-requires
 unfolding limits
-members-rise-requires c κs = within-most memberCount _ (sym (c .before .within .ensures) ∙ c .if1 .taken)
+members-rise-requires c κs = at-most memberCount _ (sym (c .before .within .ensures) ∙ c .if1 .taken)
 
 returns : tie.Need-returns
 returns c =
