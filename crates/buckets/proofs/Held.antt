@@ -1,4 +1,4 @@
--- A held table of a region that can be planned: its words, and the least of its numbers. Assumes nothing.
+-- A held table of an accepted region: its words, and the least of its numbers.
 use mathlib.Core.Path.{_≡_, sym, ap, _∙_}
 use Prim.Native.Nat.{_≤_}
 use native.Mathlib.Omega.{arith}

@@ -1,4 +1,4 @@
--- A plan is priced over the words of a held region as over the file that the region holds. Assumes nothing.
+-- A plan is priced over the words of a held region as over what it says.
 use mathlib.Core.Path.{_≡_, refl, sym, ap, ap₂, _∙_}
 use Prim.Native.Nat.{_≤_}
 use native.Mathlib.Omega.{arith}

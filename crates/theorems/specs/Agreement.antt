@@ -17,9 +17,9 @@ use Rattle.theorems.specs.List.{Allowed}
 use Rattle.theorems.specs.Sums.{sum-same}
 use Rattle.theorems.specs.Sameness.{table-tests}
 use Rattle.theorems.specs.Places.{alone, alone-fits, alone-allowed}
-use Rattle.theorems.specs.Isolation.{MembersPatients, clinicAlone, total-tables, sheet-first}
+use Rattle.theorems.specs.Isolation.{MembersPatients, clinicAlone, total-alone, sheet-first}
 use Rattle.theorems.specs.Yields.{yielding, sheet-some}
-use Rattle.theorems.specs.Accepted.{table-right}
+use Rattle.theorems.specs.Accepted.{constraint-known}
 use Rattle.theorems.specs.SheetAreas.{rowAt, Printed, outcome-rows, outcome-printed, call-rows, call-printed}
 
 -- The same counts of beds and the same tables, each as often, allow the same rows at the same costs.
@@ -27,8 +27,8 @@ module _ (m : ℕ) (ds es : List ℕ) (ts us : List Table) (beds : ds ≡ es) (t
   same-total : (plan : Plan) → total (alone m ds ts) plan ≡ total (alone m es us) plan
   unfolding costOver entryFor patientAt timesIn
   same-total plan =
-      ap (λ (counts : List ℕ). total (alone m counts ts) plan) beds ∙ total-tables (alone m es ts) plan
-      ∙ sum-same table-tests (entryFor (alone m es us) plan) ts us tables ∙ sym (total-tables (alone m es us) plan)
+      ap (λ (counts : List ℕ). total (alone m counts ts) plan) beds ∙ total-alone m es ts plan
+      ∙ sum-same table-tests (entryFor (alone m es us) plan) ts us tables ∙ sym (total-alone m es us plan)
 
   same-allowed : Allowed (alone m ds ts) ⊆ Allowed (alone m es us)
   same-allowed w a = alone-allowed m es us w (rw (← beds) (alone-fits m ds ts w a)) (sym (same-total (w .beds)) ∙ a .priced)
@@ -53,7 +53,7 @@ pub same-beginning : (f g : List ℕ) (c : ℕ) → YieldsList f → YieldsList 
 same-beginning f g c inF inG same = record {
   firstRow = sheet-some f inF c;
   secondRow = sheet-some g inG c;
-  sameRows = sheets-agree (regionOf f) (regionOf g) c (λ t k s i. table-right (regionOf f) (yielding f inF) k .known i) (λ t k s i. table-right (regionOf g) (yielding g inG) k .known i) same;
+  sameRows = sheets-agree (regionOf f) (regionOf g) c (constraint-known (regionOf f) (yielding f inF)) (constraint-known (regionOf g) (yielding g inG)) same;
 }
 
 -- ---- demand 3 of what is printed

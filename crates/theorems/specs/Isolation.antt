@@ -34,18 +34,27 @@ fits-length [] (b ∷ plan) f = absurd f
 fits-length (d ∷ ds) [] f = absurd f
 fits-length (d ∷ ds) (b ∷ plan) f = ap suc (fits-length ds plan (f .1))
 
--- The members of every table are patients.
+-- The members of every constraint are patients.
 abbrev pub MembersPatients : Region → Type 0
-MembersPatients region = (t : Table) → t ∈ region .tables → (s : ℕ) → s ∈ t .members → s < length (region .patients)
+MembersPatients region = (t : Table) → t ∈ constraints region → (s : ℕ) → s ∈ t .members → s < length (region .patients)
 
 -- The clinic alone, for m plans: its patients' counts of beds and the tables among them, by places, and nothing else.
 abbrev pub clinicAlone : ℕ → Region → ℕ → Region
 clinicAlone m region c = alone m (bedCounts region (patientsOf region c)) (tablesAmong region c)
 
--- A plan's total goes over the tables.
-pub total-tables : (region : Region) (plan : Plan) → total region plan ≡ costOver (region .tables) region plan
+-- What the constraints of a region are: those of a clinic alone are its tables, and where no table joins, no constraint does.
+pub total-alone : (m : ℕ) (ds : List ℕ) (tables : List Table) (plan : Plan) → total (alone m ds tables) plan ≡ costOver tables (alone m ds tables) plan
 unfolding total constraints
-total-tables region plan = refl
+total-alone m ds tables plan = refl
+
+module _ (region : Region) (c : ℕ) where
+  own-constraints : keep (λ t. every (contains (patientsOf region c)) (t .members)) (constraints region) ≡ ownTables region c
+  unfolding constraints ownTables
+  own-constraints = refl
+
+  constraints-apart : any (joins region c) (region .tables) ≡ false → any (joins region c) (constraints region) ≡ false
+  unfolding constraints
+  constraints-apart apart = apart
 
 -- ---- a region falls into the clinic and the rest
 
@@ -66,15 +75,15 @@ module _ (region : Region) (c m : ℕ) (members : MembersPatients region) (apart
   abbrev inside : Table → Bool
   inside t = every (contains patients) (t .members)
 
-  abbrev otherTables : List Table
-  otherTables = keep (λ t. not (inside t)) (region .tables)
+  abbrev otherConstraints : List Table
+  otherConstraints = keep (λ t. not (inside t)) (constraints region)
 
   -- The clinic alone; the rest alone, for one plan.
   abbrev own : Region
   own = clinicAlone m region c
 
   abbrev rest : Region
-  rest = alone 1 (bedCounts region others) (map (byPlaces others) otherTables)
+  rest = alone 1 (bedCounts region others) (map (byPlaces others) otherConstraints)
 
   -- The members of the clinic's tables are its patients.
   own-members : (t : Table) → t ∈ ownTables region c → (s : ℕ) → s ∈ t .members → s ∈ patients
@@ -82,7 +91,7 @@ module _ (region : Region) (c m : ℕ) (members : MembersPatients region) (apart
   own-members t k s i = contains-out patients s (every-in (contains patients) (t .members) (keep-out inside (region .tables) k .1) i)
 
   -- Since no table joins, where one member is the clinic's, all are. So the members of the other tables are other patients.
-  all-mine : (t : Table) → t ∈ region .tables → {s : ℕ} → s ∈ t .members → s ∈ patients → inside t ≡ true
+  all-mine : (t : Table) → t ∈ constraints region → {s : ℕ} → s ∈ t .members → s ∈ patients → inside t ≡ true
   unfolding joins
   all-mine t k i j = every-all (contains patients) (t .members) (λ r u. go r u (contains patients r) refl)
     where
@@ -90,31 +99,35 @@ module _ (region : Region) (c m : ℕ) (members : MembersPatients region) (apart
       go r u true e = e
       go r u false e =
           let joined = join (any-in (contains patients) (t .members) i (contains-in patients j)) (any-in (λ s. not (contains patients s)) (t .members) u (ap not e)) in
-          absurd (true≢false (sym (any-in (joins region c) (region .tables) k joined) ∙ apart))
+          absurd (true≢false (sym (any-in (joins region c) (constraints region) k joined) ∙ constraints-apart region c apart))
 
-  other-members : (t : Table) → t ∈ otherTables → (s : ℕ) → s ∈ t .members → s ∈ others
+  other-members : (t : Table) → t ∈ otherConstraints → (s : ℕ) → s ∈ t .members → s ∈ others
   unfolding patientsOf
   other-members t k s i =
-      let (kept, outside) = keep-out (λ t. not (inside t)) (region .tables) k in
+      let (kept, outside) = keep-out (λ t. not (inside t)) (constraints region) k in
       go kept (not-true (inside t) outside) (below-in (length (region .patients)) (members t kept s i)) (mine s) refl
     where
-      go : t ∈ region .tables → inside t ≡ false → s ∈ patientNumbers region → (b : Bool) → mine s ≡ b → s ∈ others
+      go : t ∈ constraints region → inside t ≡ false → s ∈ patientNumbers region → (b : Bool) → mine s ≡ b → s ∈ others
       go kept outside number true e = absurd (true≢false (sym (all-mine t kept i (keep-in mine (patientNumbers region) number e)) ∙ outside))
       go kept outside number false e = keep-in (λ s. not (mine s)) (patientNumbers region) number (ap not e)
 
   -- The total is the clinic's own cost and the cost of the rest.
   own-total : (plan : Plan) → total own (map (bedOf plan) patients) ≡ costOver (ownTables region c) region plan
   unfolding tablesAmong
-  own-total plan = total-tables own (map (bedOf plan) patients) ∙ cost-alone region patients m (tablesAmong region c) plan (ownTables region c) own-members
+  own-total plan = total-alone m (bedCounts region patients) (tablesAmong region c) (map (bedOf plan) patients) ∙ cost-alone region patients m (tablesAmong region c) plan (ownTables region c) own-members
 
-  rest-total : (plan : Plan) → total rest (map (bedOf plan) others) ≡ costOver otherTables region plan
-  rest-total plan = total-tables rest (map (bedOf plan) others) ∙ cost-alone region others 1 (map (byPlaces others) otherTables) plan otherTables other-members
+  rest-total : (plan : Plan) → total rest (map (bedOf plan) others) ≡ costOver otherConstraints region plan
+  rest-total plan = total-alone 1 (bedCounts region others) (map (byPlaces others) otherConstraints) (map (bedOf plan) others)
+      ∙ cost-alone region others 1 (map (byPlaces others) otherConstraints) plan otherConstraints other-members
 
   total-apart : (plan : Plan) → total region plan ≡ plus (total own (map (bedOf plan) patients)) (total rest (map (bedOf plan) others))
   total-apart plan = by-tables ∙ sym (ap₂ plus (own-total plan) (rest-total plan))
     where
-      by-tables : total region plan ≡ plus (costOver (ownTables region c) region plan) (costOver otherTables region plan)
-      by-tables = total-tables region plan ∙ (unfold ownTables costOver in sum-split (entryFor region plan) inside (region .tables))
+      split : total region plan ≡ plus (costOver (keep inside (constraints region)) region plan) (costOver otherConstraints region plan)
+      split = unfold total costOver in sum-split (entryFor region plan) inside (constraints region)
+
+      by-tables : total region plan ≡ plus (costOver (ownTables region c) region plan) (costOver otherConstraints region plan)
+      by-tables = split ∙ ap (λ tables. plus (costOver tables region plan) (costOver otherConstraints region plan)) (own-constraints region c)
 
   -- A plan is the beds of the clinic's patients interleaved with those of the others.
   abbrev counts : List ℕ
