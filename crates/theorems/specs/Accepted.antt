@@ -127,10 +127,6 @@ module _ (r : Region) (a : Accepted r) where
       let (patients, tables) = both (within patientCount (r .patientCount)) two in
       (patients, tables, plans)
 
-  pub patients-some : 1 ≤ length (r .patients)
-  unfolding limits
-  patients-some = omega (arith, patients-counted, at-least patientCount (r .patientCount) (counts-within .0))
-
   pub patients-few : length (r .patients) ≤ 32
   unfolding limits
   patients-few = omega (arith, patients-counted, at-most patientCount (r .patientCount) (counts-within .0))
