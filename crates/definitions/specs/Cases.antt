@@ -3,7 +3,7 @@ use Rattle.definitions.specs.Basics.{ℕ, _≡_, refl, true, false, Opti
 use Rattle.definitions.specs.Syntax.{Region}
 use Rattle.definitions.specs.Layout.{layout}
 use Rattle.definitions.specs.Spelling.{spell}
-use Rattle.definitions.specs.Questions.{checkOf}
+use Rattle.definitions.specs.Questions.{workSize, checkOf}
 use Rattle.definitions.specs.Outcomes.{listOutcome, priceOutcome}
 use Rattle.definitions.specs.Boundary.{listCall, sheetCall, priceCall}
 use Rattle.definitions.specs.Output.{printed}
@@ -38,17 +38,14 @@ pub record NumbersAndText : Type 0 where
   pub number8 : checkOf (fileOf 1 (patient 0 2 none ∷ []) (table (0 ∷ []) (some 0 ∷ []) ∷ [])) ≡ 8
   pub number9 : checkOf (oneEntry 1_000_001) ≡ 9
   pub number10 : checkOf (overOneAndTwo 0) ≡ 10
-  pub number11 : sheet paperFile 1 ≡ refusal 11 (lent 16_384)
+  pub number11 : sheet paperFile 1 ≡ refusal 11 (lent workSize)
   pub number12 :
-      listOutcome paperFile (lent 5) (lent 3) (lent 16_384)
-      ≡ record { number = 12; rows = 0; beds = lent 5; costs = lent 3; work = lent 16_384 }
-  pub number13 : sheet allForbidden 0 ≡ refusal 13 (cleared 16_384)
+      listOutcome paperFile (lent 5) (lent 3) (lent workSize)
+      ≡ record { number = 12; rows = 0; beds = lent 5; costs = lent 3; work = lent workSize }
+  pub number13 : sheet allForbidden 0 ≡ refusal 13 (cleared workSize)
   pub number14 : priceOutcome paperFile (0 ∷ 2 ∷ []) ≡ record { number = 14; allowed = false; total = 0 }
   pub tree : layout paperFile ≡ some paperRegion
   pub spelling : spell paperRegion ≡ paperFile
-  pub text :
-      printed paperFile
-      ≡ textOf ("(list 3)" ∷ "(row 2 (1 0))" ∷ "(row 3 (0 0))" ∷ "(row 5 (0 1))" ∷ "(sheet 0 3)" ∷ "(row 2 (1 0))" ∷ "(row 3 (0 0))" ∷ "(row 5 (0 1))" ∷ [])
   pub twoSheets :
       printed (twoClinics 2 (some 0 ∷ some 12 ∷ []))
       ≡ textOf ("(list 2)" ∷ "(row 0 (1 0))" ∷ "(row 1 (0 0))" ∷ "(sheet 0 2)" ∷ "(row 0 (1))" ∷ "(row 1 (0))" ∷ "(sheet 1 1)" ∷ "(row 0 (0))" ∷ [])
@@ -92,7 +89,6 @@ numbersAndText = record {
   number14 = refl;
   tree = refl;
   spelling = refl;
-  text = refl;
   twoSheets = refl;
   lastClinic = refl;
   refusedText = refl;

@@ -11,7 +11,7 @@ use Rattle.definitions.specs.Questions.{areasLongEnough, planAllowed, pl
 use Rattle.definitions.specs.Sheets.{part, ownTables, ownCost, ownRow, sheetOf}
 use Rattle.definitions.specs.Isolation.{tablesAmong, timesIn, joins}
 use Rattle.definitions.specs.Outcomes.{listFound, sheetFound, outcomeOf, listOutcome, sheetOutcome, priceFound, priceOutcome}
-use Rattle.definitions.specs.Boundary.{resultAfter, callAreasLongEnough, callOf, listCall, sheetCall, priceCallOf, priceCall}
+use Rattle.definitions.specs.Boundary.{resultAfter, callOf, listCall, sheetCall, priceCallOf, priceCall}
 use Rattle.definitions.specs.Output.{printedRow, printedRows, clinicsPresent, printed}
 
 -- The file and its spelling; plans and questions; sheets, what the entries give and what is printed.
@@ -24,7 +24,7 @@ unfolding plansFor place entryFor costOver constraints total listOf shortEnough 
 questions = tt
 
 unfoldable pub answers : Unit {0}
-unfolding part ownTables ownCost ownRow sheetOf tablesAmong timesIn joins listFound sheetFound outcomeOf listOutcome sheetOutcome priceFound priceOutcome resultAfter callAreasLongEnough callOf listCall sheetCall priceCallOf priceCall printedRow printedRows clinicsPresent printed
+unfolding part ownTables ownCost ownRow sheetOf tablesAmong timesIn joins listFound sheetFound outcomeOf listOutcome sheetOutcome priceFound priceOutcome resultAfter callOf listCall sheetCall priceCallOf priceCall printedRow printedRows clinicsPresent printed
 answers = tt
 
 unfoldable pub everything : Unit {0}

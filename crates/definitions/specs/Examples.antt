@@ -4,8 +4,9 @@ use Rattle.definitions.specs.Basics.{ℕ, _-_, _≡_, refl, Option, none
 use Rattle.definitions.specs.Syntax.{Patient, Table, Region}
 use Rattle.definitions.specs.Spelling.{spellBody, spell}
 use Rattle.definitions.specs.Plans.{Row}
-use Rattle.definitions.specs.Questions.{checksum, checkOf}
+use Rattle.definitions.specs.Questions.{checksum, workSize, checkOf}
 use Rattle.definitions.specs.Outcomes.{ListOutcome, listOutcome, sheetOutcome}
+use Rattle.definitions.specs.Output.{printed}
 use Rattle.definitions.specs.Computing.{everything}
 
 -- Lines of text, each ended by byte 10.
@@ -44,16 +45,16 @@ cleared n = replicate n 0
 abbrev pub success : List Row → ListOutcome
 success rows =
     let beds = flatMap (λ w. w .beds) rows in
-    record { number = 0; rows = length rows; beds = beds ++ lent (64 - length beds); costs = map (λ w. w .cost) rows ++ lent (64 - length rows); work = cleared 16_384 }
+    record { number = 0; rows = length rows; beds = beds ++ lent (64 - length beds); costs = map (λ w. w .cost) rows ++ lent (64 - length rows); work = cleared workSize }
 
 abbrev pub refusal : ℕ → List ℕ → ListOutcome
 refusal q work = record { number = q; rows = 0; beds = lent 64; costs = lent 64; work = work }
 
 abbrev pub list : List ℕ → ListOutcome
-list file = listOutcome file (lent 64) (lent 64) (lent 16_384)
+list file = listOutcome file (lent 64) (lent 64) (lent workSize)
 
 abbrev pub sheet : List ℕ → ℕ → ListOutcome
-sheet file clinic = sheetOutcome file clinic (lent 64) (lent 64) (lent 16_384)
+sheet file clinic = sheetOutcome file clinic (lent 64) (lent 64) (lent workSize)
 
 -- Patient 0 at clinic 0 and patient 1 at clinic 1, both roots, with 2 beds each, entries (1 0) and those given.
 abbrev pub twoClinics : ℕ → List (Option ℕ) → List ℕ
@@ -72,11 +73,14 @@ allForbidden = fileOf 1 (patient 0 2 none ∷ []) (table (0 ∷ []) (none ∷ no
 pub record StarredFiles : Type 0 where
   pub paper : list paperFile ≡ success (row 2 (1 ∷ 0 ∷ []) ∷ row 3 (0 ∷ 0 ∷ []) ∷ row 5 (0 ∷ 1 ∷ []) ∷ [])
   pub paperSheet : sheet paperFile 0 ≡ success (row 2 (1 ∷ 0 ∷ []) ∷ row 3 (0 ∷ 0 ∷ []) ∷ row 5 (0 ∷ 1 ∷ []) ∷ [])
+  pub paperPrinted :
+      printed paperFile
+      ≡ textOf ("(list 3)" ∷ "(row 2 (1 0))" ∷ "(row 3 (0 0))" ∷ "(row 5 (0 1))" ∷ "(sheet 0 3)" ∷ "(row 2 (1 0))" ∷ "(row 3 (0 0))" ∷ "(row 5 (0 1))" ∷ [])
   pub oneBed : list (fileOf 64 (patient 0 1 none ∷ []) []) ≡ success (row 0 (0 ∷ []) ∷ [])
   pub equalCosts :
       list (fileOf 2 (patient 0 3 none ∷ []) (table (0 ∷ []) (some 5 ∷ some 5 ∷ some 5 ∷ []) ∷ []))
       ≡ success (row 5 (0 ∷ []) ∷ row 5 (1 ∷ []) ∷ [])
-  pub bothForbidden : list allForbidden ≡ refusal 13 (cleared 16_384)
+  pub bothForbidden : list allForbidden ≡ refusal 13 (cleared workSize)
   pub noTables :
       list (fileOf 3 (patient 0 2 none ∷ patient 0 2 none ∷ []) [])
       ≡ success (row 0 (0 ∷ 0 ∷ []) ∷ row 0 (0 ∷ 1 ∷ []) ∷ row 0 (1 ∷ 0 ∷ []) ∷ [])
@@ -95,6 +99,7 @@ unfolding everything lent cleared
 starredFiles = record {
   paper = refl;
   paperSheet = refl;
+  paperPrinted = refl;
   oneBed = refl;
   equalCosts = refl;
   bothForbidden = refl;

@@ -4,11 +4,11 @@ use Rattle.definitions.specs.Basics.{map, length, take, eqb, any, keep, 
 use Rattle.definitions.specs.Syntax.{Table, Region, bedCounts, patientsOf}
 use Rattle.definitions.specs.Plans.{Row}
 use Rattle.definitions.specs.Sheets.{ownTables}
-use Rattle.definitions.specs.Outcomes.{listFound}
+use Rattle.definitions.specs.Questions.{firstNo, entryAsks, askedByList}
 
--- A file yields a list when questions 1 to 10 and 13 are answered yes: list gives 0 where 12 counts as answered yes.
+-- A file yields a list when questions 1 to 10 and 13 are answered yes: list gives 0 where the areas are long enough.
 abbrev pub yieldNumber : List ℕ → ℕ
-yieldNumber file = listFound file true .number
+yieldNumber file = firstNo (entryAsks (askedByList file true))
 
 abbrev pub YieldsList : List ℕ → Type 0
 YieldsList file = yieldNumber file ≡ 0

@@ -4,7 +4,7 @@ use Rattle.definitions.specs.Basics.{replicate, sets, eqb}
 use Rattle.definitions.specs.Syntax.{Region, patientsOf}
 use Rattle.definitions.specs.Plans.{Plan, Row, total, listOf}
 use Rattle.definitions.specs.Sheets.{sheetOf}
-use Rattle.definitions.specs.Questions.{Asked, firstNo, regionOf, areasLongEnough, askedByList, askedBySheet, askedByPrice}
+use Rattle.definitions.specs.Questions.{Asked, firstNo, entryAsks, regionOf, areasLongEnough, askedByList, askedBySheet, askedByPrice}
 
 -- What list and sheet find: the number, how many beds a row has, and the rows.
 pub record Found : Type 0 where
@@ -20,12 +20,12 @@ rowsUnlessRefused (suc q) rows = []
 abbrev pub foundBy : Asked → ℕ → List Row → Found
 foundBy asked width rows = record { number = firstNo asked; width = width; rows = rowsUnlessRefused (firstNo asked) rows }
 
--- List has rows of V beds, sheet as many as the clinic has patients. The answer to question 12 is handed in.
-unfoldable pub listFound : List ℕ → Bool → Found
-listFound file longEnough = let r = regionOf file in foundBy (askedByList file longEnough) (r .patientCount) (listOf r)
+-- List has rows of V beds, sheet as many as the clinic has patients. What is asked is handed in, since a call from C asks more.
+unfoldable pub listFound : List ℕ → Asked → Found
+listFound file asked = let r = regionOf file in foundBy asked (r .patientCount) (listOf r)
 
-unfoldable pub sheetFound : List ℕ → ℕ → Bool → Found
-sheetFound file c longEnough = let r = regionOf file in foundBy (askedBySheet file c longEnough) (length (patientsOf r c)) (sheetOf r c)
+unfoldable pub sheetFound : List ℕ → ℕ → Asked → Found
+sheetFound file c asked = let r = regionOf file in foundBy asked (length (patientsOf r c)) (sheetOf r c)
 
 -- An area after rows are written to it, from row r on, where row r begins at r × width; all else in it is as it was.
 -- (The kit's `sets area i values` puts the values into the area from place i on.)
@@ -64,10 +64,14 @@ outcomeOf f beds costs work = record {
 
 -- List, over a file and the lent beds, costs and work area; sheet, with the clinic after the file.
 unfoldable pub listOutcome : List ℕ → List ℕ → List ℕ → List ℕ → ListOutcome
-listOutcome file beds costs work = outcomeOf (listFound file (areasLongEnough (regionOf file) beds costs work)) beds costs work
+listOutcome file beds costs work =
+    let asks = askedByList file (areasLongEnough (regionOf file) beds costs work) in
+    outcomeOf (listFound file (entryAsks asks)) beds costs work
 
 unfoldable pub sheetOutcome : List ℕ → ℕ → List ℕ → List ℕ → List ℕ → ListOutcome
-sheetOutcome file clinic beds costs work = outcomeOf (sheetFound file clinic (areasLongEnough (regionOf file) beds costs work)) beds costs work
+sheetOutcome file clinic beds costs work =
+    let asks = askedBySheet file clinic (areasLongEnough (regionOf file) beds costs work) in
+    outcomeOf (sheetFound file clinic (entryAsks asks)) beds costs work
 
 -- What price gives back: the number, whether the plan is allowed, and its total.
 pub record PriceOutcome : Type 0 where
@@ -81,9 +85,8 @@ priced zero (some t) = record { number = 0; allowed = true; total = t }
 priced zero none = record { number = 0; allowed = false; total = 0 }
 priced (suc q) t = record { number = suc q; allowed = false; total = 0 }
 
-unfoldable pub priceFound : List ℕ → Plan → Bool → PriceOutcome
-priceFound file plan longEnough = priced (firstNo (askedByPrice file plan longEnough)) (total (regionOf file) plan)
+unfoldable pub priceFound : List ℕ → Plan → Asked → PriceOutcome
+priceFound file plan asked = priced (firstNo asked) (total (regionOf file) plan)
 
--- Price lends no area, so question 12 counts as answered yes.
 unfoldable pub priceOutcome : List ℕ → Plan → PriceOutcome
-priceOutcome file plan = priceFound file plan true
+priceOutcome file plan = priceFound file plan (entryAsks (askedByPrice file plan))

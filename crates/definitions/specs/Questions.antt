@@ -75,8 +75,11 @@ unfoldable pub roomForRows : Region → ℕ → List ℕ → List ℕ → Bool
 roomForRows r costSize beds costs = leb (r .plansWanted * r .patientCount) (length beds) && leb (r .plansWanted * costSize) (length costs)
 
 -- .. and the work area at least 16,384 numbers? (Here a cost is one number.)
+abbrev pub workSize : ℕ
+workSize = 16_384
+
 unfoldable pub areasLongEnough : Region → List ℕ → List ℕ → List ℕ → Bool
-areasLongEnough r beds costs work = roomForRows r 1 beds costs && leb 16_384 (length work)
+areasLongEnough r beds costs work = roomForRows r 1 beds costs && leb workSize (length work)
 
 -- 13. Is there an allowed plan?
 unfoldable pub planAllowed : Region → Bool
@@ -110,14 +113,28 @@ askedByCheck file =
 unfoldable pub checkOf : List ℕ → ℕ
 checkOf file = firstNo (askedByCheck file)
 
--- List asks 12 and 13 then. The answer to 12 is handed in, since a call from C asks it in its own way.
-unfoldable pub askedByList : List ℕ → Bool → Asked
-askedByList file longEnough = askedByCheck file ++ (12, longEnough) ∷ (13, planAllowed (regionOf file)) ∷ []
+-- What an entry asks: first of what it reads, then later. A call from C asks 12 of its result area between the two.
+pub record Asks : Type 0 where
+  pub first : Asked
+  pub later : Asked
 
--- Sheet asks 11, 12 and 13.
-unfoldable pub askedBySheet : List ℕ → ℕ → Bool → Asked
-askedBySheet file c longEnough = askedByCheck file ++ (11, clinicPresent (regionOf file) c) ∷ (12, longEnough) ∷ (13, planAllowed (regionOf file)) ∷ []
+abbrev pub entryAsks : Asks → Asked
+entryAsks asks = asks .first ++ asks .later
 
--- Price asks 14; a call from C asks 12 before it.
-unfoldable pub askedByPrice : List ℕ → Plan → Bool → Asked
-askedByPrice file plan longEnough = askedByCheck file ++ (12, longEnough) ∷ (14, planFits (regionOf file) plan) ∷ []
+abbrev pub callAsks : Asks → Bool → Asked
+callAsks asks resultLongEnough = asks .first ++ (12, resultLongEnough) ∷ asks .later
+
+-- List asks 1 to 10, then 12 and 13. Whether the lent areas are long enough is handed in, since from C they hold bytes.
+unfoldable pub askedByList : List ℕ → Bool → Asks
+askedByList file longEnough = record { first = askedByCheck file; later = (12, longEnough) ∷ (13, planAllowed (regionOf file)) ∷ [] }
+
+-- Sheet asks 1 to 11, then 12 and 13.
+unfoldable pub askedBySheet : List ℕ → ℕ → Bool → Asks
+askedBySheet file c longEnough = record {
+  first = askedByCheck file ++ (11, clinicPresent (regionOf file) c) ∷ [];
+  later = (12, longEnough) ∷ (13, planAllowed (regionOf file)) ∷ [];
+}
+
+-- Price asks 1 to 10, then 14.
+unfoldable pub askedByPrice : List ℕ → Plan → Asks
+askedByPrice file plan = record { first = askedByCheck file; later = (14, planFits (regionOf file) plan) ∷ [] }

@@ -68,6 +68,17 @@ first-after [] after q e = refl
 first-after ((p, true) ∷ before) after q e = first-after before after q e
 first-after ((p, false) ∷ before) after q e = absurd (let z : _≡_ {A = ℕ} 0 1 = cc in omega arith)
 
+-- Later questions count where all earlier ones are answered yes, and only there.
+pub yes-then : (early late : Asked) → allYes early ≡ true → firstNo (early ++ late) ≡ firstNo late
+yes-then [] late e = refl
+yes-then ((q, true) ∷ early) late e = yes-then early late e
+yes-then ((q, false) ∷ early) late e = absurd (let z : _≡_ {A = ℕ} 0 1 = cc in omega arith)
+
+pub no-then : (early late : Asked) (q : ℕ) → firstNo early ≡ suc q → firstNo (early ++ late) ≡ suc q
+no-then [] late q e = absurd (omega arith)
+no-then ((p, true) ∷ early) late q e = no-then early late q e
+no-then ((p, false) ∷ early) late q e = e
+
 pub says : (asked : Asked) → Numbered asked → Says asked (firstNo asked)
 says asked n = record {
   own = own-number asked;

@@ -3,6 +3,7 @@ pub mod Tests
 pub mod Writing
 pub mod Answers
 pub mod Refusals
+pub mod Refused
 pub mod Every
 pub mod Readers
 pub mod Numbers

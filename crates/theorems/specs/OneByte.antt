@@ -1,4 +1,4 @@
--- A file that check accepts, with one byte changed to another, is refused.
+-- A file that check accepts, with one byte changed to another, is refused by every entry, by every call from C and in print.
 use mathlib.Core.Path.{sym, ap, _∙_}
 use mathlib.Core.Logic.{_≢_}
 use mathlib.Core.Bool.{false≢true}
@@ -16,6 +16,7 @@ use Rattle.definitions.specs.Limits.{limits}
 use Rattle.definitions.specs.Layout.{isDigit, whole, endLine}
 use Rattle.definitions.specs.Spelling.{decimal, spellBody, spell}
 use Rattle.definitions.specs.Questions.{checksum, sumTrue, regionOf, checkOf}
+use Rattle.theorems.specs.Refused.{Refused, refused-alike}
 use Rattle.theorems.specs.Accepted.{accepted, region-said}
 use Rattle.theorems.specs.Every.{every-at, every-append, every-weaken}
 use Rattle.theorems.specs.Numbers.{digit-bounds, decimal-digits}
@@ -202,7 +203,16 @@ module _ (file : List ℕ) (i b : ℕ) (h : i < length file) (F : Summed file) (
   unchanged (yes first) = in-body first
   unchanged (no second) = in-end (omega arith)
 
-pub one-byte : (file : List ℕ) (i b : ℕ) → i < length file → b ≢ getD file i 0 → checkOf file ≡ 0 → checkOf (set file i b) ≢ 0
-one-byte file i b h other e changed =
+check-one-byte : (file : List ℕ) (i b : ℕ) → i < length file → b ≢ getD file i 0 → checkOf file ≡ 0 → checkOf (set file i b) ≢ 0
+check-one-byte file i b h other e changed =
     let F = summed file e in
     other (unchanged file i b h F (summed (set file i b) changed) (decLt i (length (F .body))))
+
+-- Check's number for the changed file is not 0, and it is what every entry, every call and the printed text give.
+pub one-byte : (file : List ℕ) (i b : ℕ) → i < length file → b ≢ getD file i 0 → checkOf file ≡ 0
+    → (checkOf (set file i b) ≢ 0) × Refused (checkOf (set file i b)) (set file i b)
+one-byte file i b h other e = let changed = check-one-byte file i b h other e in (changed, go (checkOf (set file i b)) refl changed)
+  where
+    go : (n : ℕ) → checkOf (set file i b) ≡ n → n ≢ 0 → Refused n (set file i b)
+    go zero same changed = absurd (changed refl)
+    go (suc q) same changed = refused-alike (set file i b) q same

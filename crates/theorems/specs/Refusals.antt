@@ -8,11 +8,13 @@ use Prim.Native.Nat.{_≤_}
 use Rattle.definitions.specs.Basics.{ℕ, zero, suc, _+_, _*_, _<_, Bool, true, false, Option, none, some, List, [], _∷_, _++_, flatMap, length, replicate}
 use Rattle.definitions.specs.Plans.{Plan, Row, total, listOf}
 use Rattle.definitions.specs.Sheets.{sheetOf}
-use Rattle.definitions.specs.Questions.{firstNo, regionOf, areasLongEnough, askedByCheck, checkOf, askedByList, askedBySheet, askedByPrice}
+use Rattle.definitions.specs.Questions.{Asked, firstNo, regionOf, roomForRows, areasLongEnough, askedByCheck, checkOf}
+use Rattle.definitions.specs.Questions.{Asks, entryAsks, callAsks, askedByList, askedBySheet, askedByPrice}
 use Rattle.definitions.specs.Outcomes.{Found, rowsUnlessRefused, listFound, sheetFound, written, workAfter}
 use Rattle.definitions.specs.Outcomes.{ListOutcome, outcomeOf, listOutcome, sheetOutcome, PriceOutcome, priced, priceFound, priceOutcome}
-use Rattle.definitions.specs.Boundary.{bytesOf, roomForNumbers, resultAfter, callAreasLongEnough, ListCall, callOf, checkCall, listCall, sheetCall, priceCallOf, priceCall}
-use Rattle.theorems.specs.Answers.{numbers, Says, says}
+use Rattle.definitions.specs.Boundary.{bytesOf, roomForNumbers, resultAfter, ListCall, callOf, checkCall, listCall, sheetCall, priceCallOf, priceCall}
+use Rattle.definitions.specs.Isolation.{yieldNumber}
+use Rattle.theorems.specs.Answers.{numbers, allYes, Numbered, Says, says, yes-then, no-then}
 use Rattle.theorems.specs.Writing.{written-is}
 
 -- ---- the questions of each entry, by number, whatever the file
@@ -22,69 +24,94 @@ oneToTen = 1 ∷ 2 ∷ 3 ∷ 4 ∷ 5 ∷ 6 ∷ 7 ∷ 8 ∷ 9 ∷ 10 ∷ []
 
 pub record EachAsks : Type 0 where
   pub check : (file : List ℕ) → numbers (askedByCheck file) ≡ oneToTen
-  pub list : (file : List ℕ) (longEnough : Bool) → numbers (askedByList file longEnough) ≡ oneToTen ++ 12 ∷ 13 ∷ []
-  pub sheet : (file : List ℕ) (c : ℕ) (longEnough : Bool) → numbers (askedBySheet file c longEnough) ≡ oneToTen ++ 11 ∷ 12 ∷ 13 ∷ []
-  pub price : (file : List ℕ) (plan : Plan) (longEnough : Bool) → numbers (askedByPrice file plan longEnough) ≡ oneToTen ++ 12 ∷ 14 ∷ []
+  pub list : (file : List ℕ) (longEnough : Bool) → numbers (entryAsks (askedByList file longEnough)) ≡ oneToTen ++ 12 ∷ 13 ∷ []
+  pub sheet : (file : List ℕ) (c : ℕ) (longEnough : Bool) → numbers (entryAsks (askedBySheet file c longEnough)) ≡ oneToTen ++ 11 ∷ 12 ∷ 13 ∷ []
+  pub price : (file : List ℕ) (plan : Plan) → numbers (entryAsks (askedByPrice file plan)) ≡ oneToTen ++ 14 ∷ []
+  -- From C, 12 is asked of the result area first.
+  pub listFromC : (file : List ℕ) (longEnough room : Bool) → numbers (callAsks (askedByList file longEnough) room) ≡ oneToTen ++ 12 ∷ 12 ∷ 13 ∷ []
+  pub sheetFromC : (file : List ℕ) (c : ℕ) (longEnough room : Bool)
+      → numbers (callAsks (askedBySheet file c longEnough) room) ≡ oneToTen ++ 11 ∷ 12 ∷ 12 ∷ 13 ∷ []
+  pub priceFromC : (file : List ℕ) (plan : Plan) (room : Bool) → numbers (callAsks (askedByPrice file plan) room) ≡ oneToTen ++ 12 ∷ 14 ∷ []
 
 pub each-asks : EachAsks
 unfolding askedByCheck askedByList askedBySheet askedByPrice
-each-asks = record { check = λ file. refl; list = λ file l. refl; sheet = λ file c l. refl; price = λ file p l. refl }
+each-asks = record {
+  check = λ file. refl;
+  list = λ file l. refl;
+  sheet = λ file c l. refl;
+  price = λ file p. refl;
+  listFromC = λ file l room. refl;
+  sheetFromC = λ file c l room. refl;
+  priceFromC = λ file p room. refl;
+}
 
 -- ---- what the number of each entry and of each call says
-
-priced-number : (q : ℕ) (t : Option ℕ) → priced q t .number ≡ q
-priced-number zero none = refl
-priced-number zero (some t) = refl
-priced-number (suc q) t = refl
 
 module _ (file : List ℕ) where
   pub check-says : Says (askedByCheck file) (checkOf file)
   unfolding checkOf askedByCheck
   check-says = says (askedByCheck file) tt
 
-  pub list-found : (l : Bool) → Says (askedByList file l) (listFound file l .number)
-  unfolding listFound askedByList askedByCheck
-  list-found l = says (askedByList file l) tt
+  -- List, with areas that are long enough.
+  pub yield-says : Says (entryAsks (askedByList file true)) (yieldNumber file)
+  unfolding askedByList askedByCheck
+  yield-says = says (entryAsks (askedByList file true)) tt
 
-  sheet-found : (c : ℕ) (l : Bool) → Says (askedBySheet file c l) (sheetFound file c l .number)
-  unfolding sheetFound askedBySheet askedByCheck
-  sheet-found c l = says (askedBySheet file c l) tt
-
-  price-found : (plan : Plan) (l : Bool) → Says (askedByPrice file plan l) (priceFound file plan l .number)
-  unfolding priceFound askedByPrice askedByCheck
-  price-found plan l = rw (priced-number (firstNo (askedByPrice file plan l)) (total (regionOf file) plan)) (says (askedByPrice file plan l) tt)
-
-  -- The entries.
-  pub list-says : (beds costs work : List ℕ) → Says (askedByList file (areasLongEnough (regionOf file) beds costs work)) (listOutcome file beds costs work .number)
-  unfolding listOutcome outcomeOf
-  list-says beds costs work = list-found (areasLongEnough (regionOf file) beds costs work)
+  pub list-says : (beds costs work : List ℕ)
+      → Says (entryAsks (askedByList file (areasLongEnough (regionOf file) beds costs work))) (listOutcome file beds costs work .number)
+  unfolding listOutcome outcomeOf listFound askedByList askedByCheck
+  list-says beds costs work = says (entryAsks (askedByList file (areasLongEnough (regionOf file) beds costs work))) tt
 
   pub sheet-says : (c : ℕ) (beds costs work : List ℕ)
-      → Says (askedBySheet file c (areasLongEnough (regionOf file) beds costs work)) (sheetOutcome file c beds costs work .number)
-  unfolding sheetOutcome outcomeOf
-  sheet-says c beds costs work = sheet-found c (areasLongEnough (regionOf file) beds costs work)
+      → Says (entryAsks (askedBySheet file c (areasLongEnough (regionOf file) beds costs work))) (sheetOutcome file c beds costs work .number)
+  unfolding sheetOutcome outcomeOf sheetFound askedBySheet askedByCheck
+  sheet-says c beds costs work = says (entryAsks (askedBySheet file c (areasLongEnough (regionOf file) beds costs work))) tt
 
-  pub price-says : (plan : Plan) → Says (askedByPrice file plan true) (priceOutcome file plan .number)
-  unfolding priceOutcome
-  price-says plan = price-found plan true
-
-  -- The calls from C.
+  -- The calls of check, list and sheet from C.
   pub check-call-says : Says (askedByCheck file) (checkCall file)
   check-call-says = check-says
 
   pub list-call-says : (beds costs result : List ℕ)
-      → Says (askedByList file (callAreasLongEnough (regionOf file) beds costs result)) (listCall file beds costs result .number)
-  unfolding listCall callOf
-  list-call-says beds costs result = list-found (callAreasLongEnough (regionOf file) beds costs result)
+      → Says (callAsks (askedByList file (roomForRows (regionOf file) 8 beds costs)) (roomForNumbers 1 result)) (listCall file beds costs result .number)
+  unfolding listCall callOf listFound askedByList askedByCheck
+  list-call-says beds costs result = says (callAsks (askedByList file (roomForRows (regionOf file) 8 beds costs)) (roomForNumbers 1 result)) tt
 
   pub sheet-call-says : (c : ℕ) (beds costs result : List ℕ)
-      → Says (askedBySheet file c (callAreasLongEnough (regionOf file) beds costs result)) (sheetCall file c beds costs result .number)
-  unfolding sheetCall callOf
-  sheet-call-says c beds costs result = sheet-found c (callAreasLongEnough (regionOf file) beds costs result)
+      → Says (callAsks (askedBySheet file c (roomForRows (regionOf file) 8 beds costs)) (roomForNumbers 1 result)) (sheetCall file c beds costs result .number)
+  unfolding sheetCall callOf sheetFound askedBySheet askedByCheck
+  sheet-call-says c beds costs result = says (callAsks (askedBySheet file c (roomForRows (regionOf file) 8 beds costs)) (roomForNumbers 1 result)) tt
 
-  pub price-call-says : (plan : Plan) (result : List ℕ) → Says (askedByPrice file plan (roomForNumbers 2 result)) (priceCall file plan result .number)
-  unfolding priceCall priceCallOf
-  price-call-says plan result = price-found plan (roomForNumbers 2 result)
+-- Price and its call.
+priced-number : (q : ℕ) (t : Option ℕ) → priced q t .number ≡ q
+priced-number zero none = refl
+priced-number zero (some t) = refl
+priced-number (suc q) t = refl
+
+module _ (file : List ℕ) (plan : Plan) where
+  pub price-number : (asked : Asked) → priceFound file plan asked .number ≡ firstNo asked
+  unfolding priceFound
+  price-number asked = priced-number (firstNo asked) (total (regionOf file) plan)
+
+  price-found : (asked : Asked) → Numbered asked → Says asked (priceFound file plan asked .number)
+  price-found asked n = rw (price-number asked) (says asked n)
+
+  pub price-says : Says (entryAsks (askedByPrice file plan)) (priceOutcome file plan .number)
+  unfolding priceOutcome askedByPrice askedByCheck
+  price-says = price-found (entryAsks (askedByPrice file plan)) tt
+
+  pub price-call-says : (result : List ℕ) → Says (callAsks (askedByPrice file plan) (roomForNumbers 2 result)) (priceCall file plan result .number)
+  unfolding priceCall priceCallOf askedByPrice askedByCheck
+  price-call-says result = price-found (callAsks (askedByPrice file plan) (roomForNumbers 2 result)) tt
+
+-- ---- what is asked after check's questions counts where check gives 0, and only there
+
+module _ (file : List ℕ) (late : Asked) where
+  pub after-check : checkOf file ≡ 0 → firstNo (askedByCheck file ++ late) ≡ firstNo late
+  after-check e = yes-then (askedByCheck file) late (check-says file .accepted .0 e)
+
+  pub refused-before : (q : ℕ) → checkOf file ≡ suc q → firstNo (askedByCheck file ++ late) ≡ suc q
+  unfolding checkOf
+  refused-before q e = no-then (askedByCheck file) late q e
 
 -- ---- what a refusal of list or sheet hands back and leaves
 
@@ -98,13 +125,13 @@ pub record WorkLeft (number : ℕ) (before after : List ℕ) : Type 0 where
   pub untouched : (number ≡ 0 → ⊥) → (number ≡ 13 → ⊥) → after ≡ before
   pub zeroed : (number ≡ 0) ⊎ (number ≡ 13) → after ≡ replicate (length before) 0
 
-list-none : (file : List ℕ) (l : Bool) (q : ℕ) → listFound file l .number ≡ suc q → listFound file l .rows ≡ []
+list-none : (file : List ℕ) (asked : Asked) (q : ℕ) → listFound file asked .number ≡ suc q → listFound file asked .rows ≡ []
 unfolding listFound
-list-none file l q e = ap (λ (n : ℕ). rowsUnlessRefused n (listOf (regionOf file))) e
+list-none file asked q e = ap (λ (n : ℕ). rowsUnlessRefused n (listOf (regionOf file))) e
 
-sheet-none : (file : List ℕ) (c : ℕ) (l : Bool) (q : ℕ) → sheetFound file c l .number ≡ suc q → sheetFound file c l .rows ≡ []
+sheet-none : (file : List ℕ) (c : ℕ) (asked : Asked) (q : ℕ) → sheetFound file c asked .number ≡ suc q → sheetFound file c asked .rows ≡ []
 unfolding sheetFound
-sheet-none file c l q e = ap (λ (n : ℕ). rowsUnlessRefused n (sheetOf (regionOf file) c)) e
+sheet-none file c asked q e = ap (λ (n : ℕ). rowsUnlessRefused n (sheetOf (regionOf file) c)) e
 
 outcome-refused : (f : Found) (beds costs work : List ℕ) → f .rows ≡ [] → RowsRefused beds costs (outcomeOf f beds costs work)
 unfolding outcomeOf
@@ -121,24 +148,27 @@ work-left number work = record {
 }
 
 module _ (file beds costs work : List ℕ) where
-  abbrev longEnough : Bool
-  longEnough = areasLongEnough (regionOf file) beds costs work
+  abbrev listAsked : Asked
+  listAsked = entryAsks (askedByList file (areasLongEnough (regionOf file) beds costs work))
+
+  abbrev sheetAsked : ℕ → Asked
+  sheetAsked c = entryAsks (askedBySheet file c (areasLongEnough (regionOf file) beds costs work))
 
   pub list-refused : (q : ℕ) → listOutcome file beds costs work .number ≡ suc q → RowsRefused beds costs (listOutcome file beds costs work)
   unfolding listOutcome outcomeOf
-  list-refused q e = outcome-refused (listFound file longEnough) beds costs work (list-none file longEnough q e)
+  list-refused q e = outcome-refused (listFound file listAsked) beds costs work (list-none file listAsked q e)
 
   pub sheet-refused : (c q : ℕ) → sheetOutcome file c beds costs work .number ≡ suc q → RowsRefused beds costs (sheetOutcome file c beds costs work)
   unfolding sheetOutcome outcomeOf
-  sheet-refused c q e = outcome-refused (sheetFound file c longEnough) beds costs work (sheet-none file c longEnough q e)
+  sheet-refused c q e = outcome-refused (sheetFound file c (sheetAsked c)) beds costs work (sheet-none file c (sheetAsked c) q e)
 
   pub list-work : WorkLeft (listOutcome file beds costs work .number) work (listOutcome file beds costs work .work)
   unfolding listOutcome outcomeOf
-  list-work = work-left (listFound file longEnough .number) work
+  list-work = work-left (listFound file listAsked .number) work
 
   pub sheet-work : (c : ℕ) → WorkLeft (sheetOutcome file c beds costs work .number) work (sheetOutcome file c beds costs work .work)
   unfolding sheetOutcome outcomeOf
-  sheet-work c = work-left (sheetFound file c longEnough .number) work
+  sheet-work c = work-left (sheetFound file c (sheetAsked c) .number) work
 
 -- ---- what a refused call leaves: a shorter result area is untouched, any other begins with zeros
 
@@ -183,16 +213,19 @@ call-refused f beds costs result e = record {
 }
 
 module _ (file beds costs result : List ℕ) where
-  abbrev callLongEnough : Bool
-  callLongEnough = callAreasLongEnough (regionOf file) beds costs result
+  abbrev listAskedFromC : Asked
+  listAskedFromC = callAsks (askedByList file (roomForRows (regionOf file) 8 beds costs)) (roomForNumbers 1 result)
+
+  abbrev sheetAskedFromC : ℕ → Asked
+  sheetAskedFromC c = callAsks (askedBySheet file c (roomForRows (regionOf file) 8 beds costs)) (roomForNumbers 1 result)
 
   pub list-call-refused : (q : ℕ) → listCall file beds costs result .number ≡ suc q → CallRefused beds costs result (listCall file beds costs result)
   unfolding listCall callOf
-  list-call-refused q e = call-refused (listFound file callLongEnough) beds costs result (list-none file callLongEnough q e)
+  list-call-refused q e = call-refused (listFound file listAskedFromC) beds costs result (list-none file listAskedFromC q e)
 
   pub sheet-call-refused : (c q : ℕ) → sheetCall file c beds costs result .number ≡ suc q → CallRefused beds costs result (sheetCall file c beds costs result)
   unfolding sheetCall callOf
-  sheet-call-refused c q e = call-refused (sheetFound file c callLongEnough) beds costs result (sheet-none file c callLongEnough q e)
+  sheet-call-refused c q e = call-refused (sheetFound file c (sheetAskedFromC c)) beds costs result (sheet-none file c (sheetAskedFromC c) q e)
 
 -- ---- a refused plan is not allowed, and its total is 0
 
@@ -205,16 +238,17 @@ priced-refused zero none q e = record { notAllowed = refl; noTotal = refl }
 priced-refused zero (some t) q e = absurd (omega arith)
 priced-refused (suc n) t q e = record { notAllowed = refl; noTotal = refl }
 
-found-refused : (file : List ℕ) (plan : Plan) (l : Bool) (q : ℕ) → priceFound file plan l .number ≡ suc q → PlanRefused (priceFound file plan l)
+found-refused : (file : List ℕ) (plan : Plan) (asked : Asked) (q : ℕ) → priceFound file plan asked .number ≡ suc q → PlanRefused (priceFound file plan asked)
 unfolding priceFound
-found-refused file plan l q e = priced-refused (firstNo (askedByPrice file plan l)) (total (regionOf file) plan) q e
+found-refused file plan asked q e = priced-refused (firstNo asked) (total (regionOf file) plan) q e
 
 pub price-refused : (file : List ℕ) (plan : Plan) (q : ℕ) → priceOutcome file plan .number ≡ suc q → PlanRefused (priceOutcome file plan)
 unfolding priceOutcome
-price-refused file plan q e = found-refused file plan true q e
+price-refused file plan q e = found-refused file plan (entryAsks (askedByPrice file plan)) q e
 
 pub price-call-refused : (file : List ℕ) (plan : Plan) (result : List ℕ) (q : ℕ) → priceCall file plan result .number ≡ suc q
     → ResultZeroed 2 result (priceCall file plan result .result)
 unfolding priceCall priceCallOf
 price-call-refused file plan result q e =
-    let r = found-refused file plan (roomForNumbers 2 result) q e in rw (r .notAllowed, r .noTotal) (result-zeroed 2 result)
+    let r = found-refused file plan (callAsks (askedByPrice file plan) (roomForNumbers 2 result)) q e in
+    rw (r .notAllowed, r .noTotal) (result-zeroed 2 result)

@@ -12,10 +12,10 @@ use Rattle.definitions.specs.Basics.{leb, any, firstOccurrences}
 use Rattle.definitions.specs.Syntax.{Region, patientNumbers, patientsOf}
 use Rattle.definitions.specs.Plans.{Row, listOf}
 use Rattle.definitions.specs.Sheets.{sameBeds, part, ownRow, sheetOf}
-use Rattle.definitions.specs.Questions.{regionOf, roomForRows, areasLongEnough}
+use Rattle.definitions.specs.Questions.{Asked, entryAsks, callAsks, regionOf, roomForRows, areasLongEnough, askedBySheet}
 use Rattle.definitions.specs.Isolation.{YieldsList}
 use Rattle.definitions.specs.Outcomes.{Found, rowsUnlessRefused, sheetFound, written, bedsAfter, costsAfter, outcomeOf, sheetOutcome}
-use Rattle.definitions.specs.Boundary.{bytesOf, roomForNumbers, resultAfter, callAreasLongEnough, callOf, sheetCall}
+use Rattle.definitions.specs.Boundary.{bytesOf, roomForNumbers, resultAfter, callOf, sheetCall}
 use Rattle.ranking.specs.Members.{_∈_, here, there}
 use Rattle.theorems.specs.Tests.{both}
 use Rattle.theorems.specs.Writing.{written-is}
@@ -93,18 +93,18 @@ module _ (file : List ℕ) (c : ℕ) where
   abbrev region : Region
   region = regionOf file
 
-  abbrev found : Bool → Found
-  found longEnough = sheetFound file c longEnough
+  abbrev found : Asked → Found
+  found asked = sheetFound file c asked
 
-  found-rows : (longEnough : Bool) → found longEnough .number ≡ 0 → found longEnough .rows ≡ sheetOf region c
+  found-rows : (asked : Asked) → found asked .number ≡ 0 → found asked .rows ≡ sheetOf region c
   unfolding sheetFound
-  found-rows longEnough e = ap (λ (n : ℕ). rowsUnlessRefused n (sheetOf region c)) e
+  found-rows asked e = ap (λ (n : ℕ). rowsUnlessRefused n (sheetOf region c)) e
 
-  found-printed : (longEnough : Bool) (size : ℕ) (parts : ℕ → List ℕ) (beds costs : List ℕ) → ((n : ℕ) → length (parts n) ≡ size)
-      → YieldsList file → roomForRows region size beds costs ≡ true → found longEnough .number ≡ 0
-      → Printed file c size parts (bedsAfter (found longEnough) beds) (costsAfter size parts (found longEnough) costs)
+  found-printed : (asked : Asked) (size : ℕ) (parts : ℕ → List ℕ) (beds costs : List ℕ) → ((n : ℕ) → length (parts n) ≡ size)
+      → YieldsList file → roomForRows region size beds costs ≡ true → found asked .number ≡ 0
+      → Printed file c size parts (bedsAfter (found asked) beds) (costsAfter size parts (found asked) costs)
   unfolding roomForRows sheetFound
-  found-printed longEnough size parts beds costs sized list room e = rw (found-rows longEnough e) (record {
+  found-printed asked size parts beds costs sized list room e = rw (found-rows asked e) (record {
     list = list;
     bedsAt = written-at (λ w. w .beds) (length (patientsOf region c)) (sheetOf region c) beds (row-wide region c)
         (le-trans (mul-le-mul (rows-few region c) (omega (arith, patients-few region c, counted))) bedsRoom);
@@ -122,24 +122,29 @@ module _ (file : List ℕ) (c : ℕ) where
 
   -- The entry: each cost is one number.
   module _ (beds costs work : List ℕ) (e : sheetOutcome file c beds costs work .number ≡ 0) where
+    abbrev entryAsked : Asked
+    entryAsked = entryAsks (askedBySheet file c (areasLongEnough region beds costs work))
+
     pub outcome-rows : sheetOutcome file c beds costs work .rows ≡ length (sheetOf region c)
     unfolding sheetOutcome outcomeOf
-    outcome-rows = ap length (found-rows (areasLongEnough region beds costs work) e)
+    outcome-rows = ap length (found-rows entryAsked e)
 
     pub outcome-printed : Printed file c 1 (λ n. n ∷ []) (sheetOutcome file c beds costs work .beds) (sheetOutcome file c beds costs work .costs)
     unfolding sheetOutcome outcomeOf areasLongEnough
     outcome-printed = let (list, present, long) = sheet-printed file c beds costs work .0 e in
-        found-printed (areasLongEnough region beds costs work) 1 (λ n. n ∷ []) beds costs (λ n. refl) list (both (roomForRows region 1 beds costs) long .0) e
+        found-printed entryAsked 1 (λ n. n ∷ []) beds costs (λ n. refl) list (both (roomForRows region 1 beds costs) long .0) e
 
   -- The call from C: each cost is eight bytes, and the row count stands in the result area.
   module _ (beds costs result : List ℕ) (e : sheetCall file c beds costs result .number ≡ 0) where
+    abbrev callAsked : Asked
+    callAsked = callAsks (askedBySheet file c (roomForRows region 8 beds costs)) (roomForNumbers 1 result)
+
     pub call-rows : take 8 (sheetCall file c beds costs result .result) ≡ bytesOf 8 (length (sheetOf region c))
-    unfolding sheetCall callOf callAreasLongEnough
-    call-rows = let (list, present, long) = sheet-call-printed file c beds costs result .0 e in
-        number-at _ result (both (roomForRows region 8 beds costs) long .1)
-        ∙ ap (λ (rows : List Row). bytesOf 8 (length rows)) (found-rows (callAreasLongEnough region beds costs result) e)
+    unfolding sheetCall callOf
+    call-rows = let (list, present, rows, fits) = sheet-call-printed file c beds costs result .0 e in
+        number-at _ result fits ∙ ap (λ (rows : List Row). bytesOf 8 (length rows)) (found-rows callAsked e)
 
     pub call-printed : Printed file c 8 (bytesOf 8) (sheetCall file c beds costs result .beds) (sheetCall file c beds costs result .costs)
-    unfolding sheetCall callOf callAreasLongEnough
-    call-printed = let (list, present, long) = sheet-call-printed file c beds costs result .0 e in
-        found-printed (callAreasLongEnough region beds costs result) 8 (bytesOf 8) beds costs (λ n. refl) list (both (roomForRows region 8 beds costs) long .0) e
+    unfolding sheetCall callOf
+    call-printed = let (list, present, rows, fits) = sheet-call-printed file c beds costs result .0 e in
+        found-printed callAsked 8 (bytesOf 8) beds costs (λ n. refl) list rows e

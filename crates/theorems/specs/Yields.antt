@@ -7,15 +7,15 @@ use Rattle.definitions.specs.Basics.{ℕ, _<_, _≡_, refl, Bool, true, _&&_, L
 use Rattle.definitions.specs.Syntax.{Region}
 use Rattle.definitions.specs.Plans.{Plan, Row, listOf}
 use Rattle.definitions.specs.Sheets.{part, sheetOf}
-use Rattle.definitions.specs.Questions.{Asked, regionOf, checkOf, clinicPresent, areasLongEnough, planAllowed}
-use Rattle.definitions.specs.Questions.{askedByCheck, askedByList, askedBySheet}
+use Rattle.definitions.specs.Questions.{Asked, regionOf, checkOf, clinicPresent, roomForRows, areasLongEnough, planAllowed}
+use Rattle.definitions.specs.Questions.{entryAsks, callAsks, askedByCheck, askedByList, askedBySheet}
 use Rattle.definitions.specs.Outcomes.{sheetOutcome}
-use Rattle.definitions.specs.Boundary.{callAreasLongEnough, sheetCall}
+use Rattle.definitions.specs.Boundary.{roomForNumbers, sheetCall}
 use Rattle.definitions.specs.Isolation.{YieldsList}
 use Rattle.ranking.specs.Members.{_∈_, here, none-in-nil, in-map}
 use Rattle.theorems.specs.Tests.{both, join}
 use Rattle.theorems.specs.Answers.{allYes}
-use Rattle.theorems.specs.Refusals.{check-says, list-found, sheet-says, sheet-call-says}
+use Rattle.theorems.specs.Refusals.{check-says, yield-says, sheet-says, sheet-call-says}
 use Rattle.theorems.specs.Accepted.{Accepted, accepted, plans-wanted}
 use Rattle.theorems.specs.List.{list-empty}
 use Rattle.theorems.specs.SheetRows.{sheet-parts}
@@ -41,39 +41,57 @@ module _ (file : List ℕ) where
   pub yields : YieldsList file ↔ Yields file
   unfolding askedByList
   yields = (
-    λ e. let (h, k) = asked-after file _ .0 (list-found file true .accepted .0 e) in record { checked = h; planned = both (planAllowed (regionOf file)) k .0 },
-    λ y. list-found file true .accepted .1 (asked-after file _ .1 (y .checked, join (y .planned) refl)),
+    λ e. let (h, k) = asked-after file _ .0 (yield-says file .accepted .0 e) in record { checked = h; planned = both (planAllowed (regionOf file)) k .0 },
+    λ y. yield-says file .accepted .1 (asked-after file _ .1 (y .checked, join (y .planned) refl)),
   )
 
-  -- A sheet is printed where the file yields a list, the clinic has a patient and the areas are long enough.
-  sheet-asked : (c : ℕ) (longEnough : Bool)
-      → (allYes (askedBySheet file c longEnough) ≡ true)
-      ↔ (YieldsList file × (clinicPresent (regionOf file) c ≡ true) × (longEnough ≡ true))
-  unfolding askedBySheet
-  sheet-asked c longEnough = (
-    λ e.
-        let (checked, asked) = asked-after file _ .0 e in
-        let (present, others) = both (clinicPresent (regionOf file) c) asked in
-        let (long, last) = both longEnough others in
-        (yields .1 (record { checked = checked; planned = both (planAllowed (regionOf file)) last .0 }), present, long),
-    λ (e, present, long). let y = yields .0 e in asked-after file _ .1 (y .checked, join present (join long (join (y .planned) refl))),
-  )
+  -- The questions of sheet are answered yes where the file yields a list, the clinic has a patient and what is lent is long enough.
+  sheet-asked : (c : ℕ) (lent : Asked)
+      → (allYes (askedByCheck file ++ (11, clinicPresent (regionOf file) c) ∷ [] ++ (lent ++ (13, planAllowed (regionOf file)) ∷ [])) ≡ true)
+      ↔ (YieldsList file × (clinicPresent (regionOf file) c ≡ true) × (allYes lent ≡ true))
+  sheet-asked c lent =
+      let present = clinicPresent (regionOf file) c in
+      let planned = planAllowed (regionOf file) in
+      let eleven : Asked = (11, present) ∷ [] in
+      let thirteen : Asked = (13, planned) ∷ [] in
+      let split = yes-append (askedByCheck file ++ eleven) (lent ++ thirteen) ∙ ap (λ b. allYes (askedByCheck file ++ eleven) && b) (yes-append lent thirteen) in (
+        λ e.
+            let (first, others) = both (allYes (askedByCheck file ++ eleven)) (sym split ∙ e) in
+            let (checked, asked) = asked-after file eleven .0 first in
+            let (long, last) = both (allYes lent) others in
+            (yields .1 (record { checked = checked; planned = both planned last .0 }), both present asked .0, long),
+        λ (e, there, long).
+            let y = yields .0 e in
+            split ∙ join (asked-after file eleven .1 (y .checked, join there refl)) (join long (join (y .planned) refl)),
+      )
 
   pub sheet-printed : (c : ℕ) (beds costs work : List ℕ)
       → (sheetOutcome file c beds costs work .number ≡ 0)
       ↔ (YieldsList file × (clinicPresent (regionOf file) c ≡ true) × (areasLongEnough (regionOf file) beds costs work ≡ true))
+  unfolding askedBySheet
   sheet-printed c beds costs work =
       let s = sheet-says file c beds costs work .accepted in
-      let a = sheet-asked c (areasLongEnough (regionOf file) beds costs work) in
-      (λ e. a .0 (s .0 e), λ h. s .1 (a .1 h))
+      let long = areasLongEnough (regionOf file) beds costs work in
+      let a = sheet-asked c ((12, long) ∷ []) in (
+        λ e. let (list, present, asked) = a .0 (s .0 e) in (list, present, both long asked .0),
+        λ (list, present, h). s .1 (a .1 (list, present, join h refl)),
+      )
 
   pub sheet-call-printed : (c : ℕ) (beds costs result : List ℕ)
       → (sheetCall file c beds costs result .number ≡ 0)
-      ↔ (YieldsList file × (clinicPresent (regionOf file) c ≡ true) × (callAreasLongEnough (regionOf file) beds costs result ≡ true))
+      ↔ (YieldsList file × (clinicPresent (regionOf file) c ≡ true) × (roomForRows (regionOf file) 8 beds costs ≡ true) × (roomForNumbers 1 result ≡ true))
+  unfolding askedBySheet
   sheet-call-printed c beds costs result =
       let s = sheet-call-says file c beds costs result .accepted in
-      let a = sheet-asked c (callAreasLongEnough (regionOf file) beds costs result) in
-      (λ e. a .0 (s .0 e), λ h. s .1 (a .1 h))
+      let room = roomForNumbers 1 result in
+      let long = roomForRows (regionOf file) 8 beds costs in
+      let a = sheet-asked c ((12, room) ∷ (12, long) ∷ []) in (
+        λ e.
+            let (list, present, asked) = a .0 (s .0 e) in
+            let (fits, others) = both room asked in
+            (list, present, both long others .0, fits),
+        λ (list, present, rows, fits). s .1 (a .1 (list, present, join fits (join rows refl))),
+      )
 
 -- ---- what follows for the region of such a file
 
