@@ -7,7 +7,7 @@ use native.Mathlib.Omega.{arith}
 use borrow.Author.Tests.{leb-true}
 use Rattle.definitions.specs.Basics.{ℕ, _*_, _<_, Bool, true, _&&_, List, [], _∷_, length, getD, replicate, leb}
 use Rattle.definitions.specs.Plans.{Row}
-use Rattle.definitions.specs.Questions.{roomForRows, areasLongEnough}
+use Rattle.definitions.specs.Questions.{workSize, roomForRows, areasLongEnough}
 use Rattle.definitions.specs.Outcomes.{written, outcomeOf}
 use Rattle.ranking.specs.Members.{_∈_, getD-in}
 use Rattle.theorems.specs.Tests.{both}
@@ -26,22 +26,22 @@ asked-same : (h : Region) (store beds costs work : List ℕ)
     → longEnough (h .v) (h .m) (length beds) (length costs) (length work) ≡ areasLongEnough (said h store) beds costs work
 unfolding areasLongEnough roomForRows said
 asked-same h store beds costs work =
-    ap (λ m. leb (h .m * h .v) (length beds) && (leb m (length costs) && leb 16_384 (length work))) (sym (mul-one (h .m)))
-    ∙ sym (and-assoc (leb (h .m * h .v) (length beds)) (leb (h .m * 1) (length costs)) (leb 16_384 (length work)))
+    ap (λ m. leb (h .m * h .v) (length beds) && (leb m (length costs) && leb workSize (length work))) (sym (mul-one (h .m)))
+    ∙ sym (and-assoc (leb (h .m * h .v) (length beds)) (leb (h .m * 1) (length costs)) (leb workSize (length work)))
 
 -- What question 12's yes says of each area.
-areas-long : (v m beds costs work : ℕ) → longEnough v m beds costs work ≡ true → (m * v ≤ beds) × (m ≤ costs) × (16_384 ≤ work)
+areas-long : (v m beds costs work : ℕ) → longEnough v m beds costs work ≡ true → (m * v ≤ beds) × (m ≤ costs) × (workSize ≤ work)
 areas-long v m beds costs work long =
     let (first, others) = both (leb (m * v) beds) long in
     let (second, third) = both (leb m costs) others in
-    (leb-true (m * v) beds first, leb-true m costs second, leb-true 16_384 work third)
+    (leb-true (m * v) beds first, leb-true m costs second, leb-true workSize work third)
 
 module _ (h : Region) (store : List ℕ) {long : Bool} (beds costs work : List ℕ) (asked : long ≡ longEnough (h .v) (h .m) (length beds) (length costs) (length work)) where
   pub question : {answer : Bool} → long ≡ answer → areasLongEnough (said h store) beds costs work ≡ answer
   question e = sym (asked-same h store beds costs work) ∙ sym asked ∙ e
 
   module _ (yes-twelve : long ≡ true) where
-    pub all-long : (h .m * h .v ≤ length beds) × (h .m ≤ length costs) × (16_384 ≤ length work)
+    pub all-long : (h .m * h .v ≤ length beds) × (h .m ≤ length costs) × (workSize ≤ length work)
     all-long = areas-long (h .v) (h .m) (length beds) (length costs) (length work) (sym asked ∙ yes-twelve)
 
     pub asks-list : Accepted (said h store) → AsksRegion h store work

@@ -9,8 +9,9 @@ use Rattle.definitions.specs.Questions.{Asked, firstNo, regionOf, askedByCheck,
 use Rattle.definitions.specs.Outcomes.{Found, ListOutcome, rowsUnlessRefused, foundBy, outcomeOf}
 use Rattle.held_region.specs.declared.Refusal.{Refusal}
 use Rattle.held_region.specs.declared.Refusal.the-variants.{TooLong, Layout, Counts, Sum, Limits, Patients, Members, EntryCounts, Entries, Ancestors}
+use Rattle.theorems.specs.Refusals.{after-check, refused-before}
 use Rattle.answers.specs.Answers.{refusalNumber}
-use Rattle.planner.specs.Later.{after-check, refused-before, refusal-number}
+use Rattle.planner.specs.Later.{refusal-number}
 
 -- Questions 12 and 13; the answer to 12 is handed in.
 abbrev pub lastAsked : Region → Bool → Asked
@@ -65,7 +66,7 @@ module _ (width : ℕ) (rows : List Row) (beds costs work : List ℕ) where
     pub refused-entry : (refusal : Refusal) → refusalNumber refusal ≡ checkOf file
         → refusedWith (refusalNumber refusal) work ≡ outcomeOf (foundBy (askedByCheck file ++ late) width rows) beds costs work
     refused-entry refusal e =
-        refused-outcome refusal ∙ asked-outcome (askedByCheck file ++ late) (refused-before file late _ (sym e ∙ refusal-number refusal) ∙ sym e)
+        refused-outcome refusal ∙ asked-outcome (askedByCheck file ++ late) (refused-before file late _ (sym e ∙ refusal-number refusal) ∙ sym (refusal-number refusal))
 
     pub accepted-entry : checkOf file ≡ 0 → outcomeOf (foundBy late width rows) beds costs work ≡ outcomeOf (foundBy (askedByCheck file ++ late) width rows) beds costs work
     accepted-entry e = asked-outcome (askedByCheck file ++ late) (after-check file late e)
@@ -83,16 +84,20 @@ unless-short : (n : ℕ) (rows : List Row) → length (rowsUnlessRefused n rows)
 unless-short zero rows = omega arith
 unless-short (suc n) rows = omega arith
 
--- So it is where later questions refuse on a no to 12.
-pub asks-twelve : (file : List ℕ) (late : Bool → Asked) (width : ℕ) (rows : List Row) → length rows ≤ regionOf file .plansWanted
-    → (q : ℕ) → firstNo (late false) ≡ suc q → AsksTwelve file (λ long. foundBy (askedByCheck file ++ late long) width rows)
-asks-twelve file late width rows few q refused =
+-- So it is where what is asked after check's questions refuses on a no to 12.
+pub asks-twelve : (file : List ℕ) (asked late : Bool → Asked) → ((long : Bool) → asked long ≡ askedByCheck file ++ late long)
+    → (width : ℕ) (rows : List Row) → length rows ≤ regionOf file .plansWanted
+    → (q : ℕ) → firstNo (late false) ≡ suc q → AsksTwelve file (λ long. foundBy (asked long) width rows)
+asks-twelve file asked late same width rows few q refused =
     record {
-      later = λ p e one other. ap (foundWith width rows) (refused-before file (late one) p e ∙ sym (refused-before file (late other) p e));
-      most = λ long. let least = unless-short (firstNo (askedByCheck file ++ late long)) rows in omega (arith, least, few);
+      later = λ p e one other. ap (foundWith width rows) (before p e one ∙ sym (before p e other));
+      most = λ long. let least = unless-short (firstNo (asked long)) rows in omega (arith, least, few);
       short = go (checkOf file) refl;
     }
   where
-    go : (n : ℕ) → checkOf file ≡ n → rowsUnlessRefused (firstNo (askedByCheck file ++ late false)) rows ≡ []
-    go zero e = ap (λ n. rowsUnlessRefused n rows) (after-check file (late false) e ∙ refused)
-    go (suc p) e = ap (λ n. rowsUnlessRefused n rows) (refused-before file (late false) p e ∙ e)
+    before : (p : ℕ) → checkOf file ≡ suc p → (long : Bool) → firstNo (asked long) ≡ suc p
+    before p e long = ap firstNo (same long) ∙ refused-before file (late long) p e
+
+    go : (n : ℕ) → checkOf file ≡ n → rowsUnlessRefused (firstNo (asked false)) rows ≡ []
+    go zero e = ap (λ n. rowsUnlessRefused n rows) (ap firstNo (same false) ∙ after-check file (late false) e ∙ refused)
+    go (suc p) e = ap (λ n. rowsUnlessRefused n rows) (before p e false)

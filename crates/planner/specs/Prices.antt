@@ -3,18 +3,18 @@ use mathlib.Core.Path.{sym, ap, _∙_}
 use native.Mathlib.Omega.{arith}
 use lib.Seq.{getD-take}
 use borrow.Author.Tests.{eqb-true, ltb-true}
-use Rattle.definitions.specs.Basics.{ℕ, suc, _<_, _≡_, Bool, true, List, [], _∷_, length, take, eqb}
+use Rattle.definitions.specs.Basics.{ℕ, suc, _<_, _≡_, true, List, [], _∷_, _++_, length, take, eqb}
 use Rattle.definitions.specs.Syntax as Said
 use Rattle.definitions.specs.Plans.{Plan, bedOf, total}
-use Rattle.definitions.specs.Questions.{firstNo, regionOf, checkOf, planFits, askedByPrice}
+use Rattle.definitions.specs.Questions.{Asked, firstNo, regionOf, askedByCheck, checkOf, planFits}
 use Rattle.definitions.specs.Outcomes.{PriceOutcome, priced, priceFound}
 use Rattle.theorems.specs.Tests.{both}
 use Rattle.theorems.specs.Accepted.{Accepted, patients-counted}
+use Rattle.theorems.specs.Refusals.{after-check, refused-before}
 use Rattle.held_region.specs.Places.{every-place}
 use Rattle.buckets.specs.Terms.{Fitting}
 use Rattle.answers.specs.declared.Priced.{Priced}
 use Rattle.answers.specs.Answers.{notAllowed, pricedOutcome}
-use Rattle.planner.specs.Later.{after-check, refused-before}
 
 -- What price gives once questions 1 to 10 are answered yes.
 abbrev pub regionPrice : Said.Region → Plan → PriceOutcome
@@ -35,14 +35,12 @@ fitting r plan beds accepted fits same s h =
     let below = ltb-true (bedOf plan s) _ (every-place _ (length (r .patients)) s each h) in
     omega (arith, bed, below)
 
--- What price gives once check's questions are answered; the answer to question 12 is handed in.
-module _ (file : List ℕ) (plan : Plan) (longEnough : Bool) where
-  pub price-accepted : checkOf file ≡ 0
-      → priceFound file plan longEnough ≡ priced (firstNo ((12, longEnough) ∷ (14, planFits (regionOf file) plan) ∷ [])) (total (regionOf file) plan)
-  unfolding priceFound askedByPrice
-  price-accepted e = ap (λ n. priced n (total (regionOf file) plan)) (after-check file _ e)
+-- What price gives once check's questions are answered, by what is asked later.
+module _ (file : List ℕ) (plan : Plan) (late : Asked) where
+  pub price-accepted : checkOf file ≡ 0 → priceFound file plan (askedByCheck file ++ late) ≡ priced (firstNo late) (total (regionOf file) plan)
+  unfolding priceFound
+  price-accepted e = ap (λ n. priced n (total (regionOf file) plan)) (after-check file late e)
 
-  pub price-not-accepted : (q : ℕ) → checkOf file ≡ suc q → priceFound file plan longEnough ≡ notAllowed (checkOf file)
-  unfolding priceFound askedByPrice
-  price-not-accepted q e =
-      ap (λ n. priced n (total (regionOf file) plan)) (refused-before file _ q e ∙ e) ∙ ap notAllowed (sym e)
+  pub price-not-accepted : (q : ℕ) → checkOf file ≡ suc q → priceFound file plan (askedByCheck file ++ late) ≡ notAllowed (checkOf file)
+  unfolding priceFound
+  price-not-accepted q e = ap (λ n. priced n (total (regionOf file) plan)) (refused-before file late q e) ∙ ap notAllowed (sym e)

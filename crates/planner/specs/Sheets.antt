@@ -1,12 +1,13 @@
 -- What sheet gives of a loaded file.
-use mathlib.Core.Path.{ap}
+use mathlib.Core.Path.{sym, ap}
+use mathlib.Core.List.{append-assoc}
 use Prim.Native.Nat.{_≤_}
-use Rattle.definitions.specs.Basics.{ℕ, suc, _*_, _≡_, refl, Bool, true, false, List, _∷_, length}
+use Rattle.definitions.specs.Basics.{ℕ, suc, _*_, _≡_, refl, Bool, true, false, List, [], _∷_, _++_, length}
 use Rattle.definitions.specs.Syntax as Said
 use Rattle.definitions.specs.Syntax.{patientsOf}
 use Rattle.definitions.specs.Sheets.{sheetOf}
-use Rattle.definitions.specs.Questions.{Asked, firstNo, regionOf, clinicPresent, areasLongEnough, askedBySheet}
-use Rattle.definitions.specs.Outcomes.{foundBy, sheetFound, outcomeOf}
+use Rattle.definitions.specs.Questions.{Asked, firstNo, entryAsks, regionOf, clinicPresent, areasLongEnough, askedByCheck, askedBySheet}
+use Rattle.definitions.specs.Outcomes.{foundBy, sheetFound, outcomeOf, sheetOutcome}
 use Rattle.theorems.specs.SheetAreas.{rows-few}
 use Rattle.held_region.specs.declared.Region.{Region}
 use Rattle.held_region.specs.Meaning.{said}
@@ -47,14 +48,29 @@ module _ (r : Said.Region) (clinic : ℕ) (long : Bool) where
   pub yes-eleven : clinicPresent r clinic ≡ true → firstNo (lateAsked r clinic long) ≡ firstNo (lastAsked r long)
   yes-eleven e = ap (λ b. firstNo ((11, b) ∷ lastAsked r long)) e
 
--- What sheet finds, by the answer to 12.
-pub sheet-twelve : (file : List ℕ) (clinic : ℕ) → AsksTwelve file (sheetFound file clinic)
-unfolding sheetFound askedBySheet
+-- Sheet asks 11 right after check's questions.
+sheet-asks : (file : List ℕ) (clinic : ℕ) (long : Bool) → entryAsks (askedBySheet file clinic long) ≡ askedByCheck file ++ lateAsked (regionOf file) clinic long
+unfolding askedBySheet
+sheet-asks file clinic long = append-assoc (askedByCheck file) ((11, clinicPresent (regionOf file) clinic) ∷ []) (lastAsked (regionOf file) long)
+
+-- What sheet finds, by the answer to 12; and what it gives of a file.
+pub sheet-twelve : (file : List ℕ) (clinic : ℕ) → AsksTwelve file (λ long. sheetFound file clinic (entryAsks (askedBySheet file clinic long)))
+unfolding sheetFound
 sheet-twelve file clinic =
     let r = regionOf file in
     let (q, refused) = refuses (clinicPresent r clinic) in
-    asks-twelve file (lateAsked r clinic) (length (patientsOf r clinic)) (sheetOf r clinic) (rows-few r clinic) q refused
+    asks-twelve file (λ long. entryAsks (askedBySheet file clinic long)) (lateAsked r clinic) (sheet-asks file clinic) (length (patientsOf r clinic)) (sheetOf r clinic)
+    (rows-few r clinic) q refused
   where
     refuses : (present : Bool) → (q : ℕ) × (firstNo ((11, present) ∷ lastAsked (regionOf file) false) ≡ suc q)
     refuses true = (11, refl)
     refuses false = (10, refl)
+
+pub sheet-outcome : (file : List ℕ) (clinic : ℕ) (beds costs work : List ℕ) → let r = regionOf file in
+    outcomeOf (foundBy (askedByCheck file ++ lateAsked r clinic (areasLongEnough r beds costs work)) (length (patientsOf r clinic)) (sheetOf r clinic)) beds costs work
+    ≡ sheetOutcome file clinic beds costs work
+unfolding sheetOutcome sheetFound
+sheet-outcome file clinic beds costs work =
+    let r = regionOf file in
+    ap (λ asked. outcomeOf (foundBy asked (length (patientsOf r clinic)) (sheetOf r clinic)) beds costs work)
+    (sym (sheet-asks file clinic (areasLongEnough r beds costs work)))

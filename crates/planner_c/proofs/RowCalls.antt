@@ -9,14 +9,18 @@ use borrow.Author.Tests.{lt-leb, le-leb, leb-true, lt-ltb, le-ltb}
 use lib.ListN.{length-map, length-take, length-replicate}
 use lib.Seq.{take-append-le}
 use Rattle.definitions.specs.Basics.{ℕ, zero, suc, _+_, _*_, _/_, Bool, true, false, _&&_, cond, List, [], _∷_, _++_, map, length, take, replicate, leb, ltb}
-use Rattle.definitions.specs.Syntax.{Region}
-use Rattle.definitions.specs.Questions.{checkOf, regionOf, roomForRows, areasLongEnough}
-use Rattle.definitions.specs.Outcomes.{Found, ListOutcome, written, outcomeOf}
-use Rattle.definitions.specs.Boundary.{bytesOf, resultAfter, callAreasLongEnough, callOf}
+use Rattle.definitions.specs.Syntax.{Region, patientsOf}
+use Rattle.definitions.specs.Plans.{Row, listOf}
+use Rattle.definitions.specs.Sheets.{sheetOf}
+use Rattle.definitions.specs.Questions.{Asked, entryAsks, askedByCheck, checkOf, regionOf, workSize, roomForRows, areasLongEnough}
+use Rattle.definitions.specs.Questions.{clinicPresent, planAllowed, askedByList, askedBySheet}
+use Rattle.definitions.specs.Outcomes.{Found, ListOutcome, written, foundBy, listFound, sheetFound, outcomeOf}
+use Rattle.definitions.specs.Boundary.{bytesOf, roomForNumbers, resultAfter, callOf, listCall, sheetCall}
+use Rattle.theorems.specs.Answers.{asked-twice}
 use Rattle.theorems.specs.Tests.{both}
 use Rattle.theorems.specs.Accepted.{accepted, plans-wanted}
 use Rattle.byte_areas.specs.Costs.{held-costs, stored-costs}
-use Rattle.planner.specs.Found.{AsksTwelve}
+use Rattle.planner.specs.Found.{foundWith, AsksTwelve}
 use Rattle.planner_c.specs.Room.{costRoom}
 
 -- The costs that the entry may leave are those that fit, if m is 1 to 64.
@@ -55,16 +59,20 @@ pub lent-long : (n room : ℕ) → n ≡ room → room ≤ 64 → length {A = �
 lent-long n room e h = omega (arith, e, length-take n (replicate {A = ℕ} 64 0), length-replicate {A = ℕ} 64 0)
 
 -- What the entry finds with the areas that the call lends it is what the call is to find.
-module _ (file beds costs result part work : List ℕ) (room : length part ≡ costRoom (length costs) (length result)) (own : length work ≡ 16_384) where
+module _ (file beds costs result part work : List ℕ) (room : length part ≡ costRoom (length costs) (length result)) (own : length work ≡ workSize) where
   abbrev region : Region
   region = regionOf file
 
-  long-same : checkOf file ≡ 0 → areasLongEnough region beds part work ≡ callAreasLongEnough region beds costs result
-  unfolding areasLongEnough callAreasLongEnough roomForRows
+  -- Question 12 of the lent areas, and of the result area.
+  abbrev callLong : Bool
+  callLong = roomForRows region 8 beds costs && roomForNumbers 1 result
+
+  long-same : checkOf file ≡ 0 → areasLongEnough region beds part work ≡ callLong
+  unfolding areasLongEnough roomForRows
   long-same e =
       let beds-long = leb (region .plansWanted * region .patientCount) (length beds) in
       let (some, few) = plans-wanted region (accepted file e .region) in
-      ap₂ (λ a b. beds-long && leb (region .plansWanted * 1) a && b) room (le-leb 16_384 (length work) (omega arith))
+      ap₂ (λ a b. beds-long && leb (region .plansWanted * 1) a && b) room (le-leb workSize (length work) (omega arith))
       ∙ and-true (beds-long && leb (region .plansWanted * 1) (costRoom (length costs) (length result)))
       ∙ ap (λ b. beds-long && b) (room-same (region .plansWanted) (length costs) (length result) some few)
       ∙ sym (and-assoc beds-long (leb (region .plansWanted * 8) (length costs)) (leb (1 * 8) (length result)))
@@ -73,10 +81,10 @@ module _ (file beds costs result part work : List ℕ) (room : length part ≡ c
     abbrev lent : Found
     lent = found (areasLongEnough region beds part work)
 
-    found-same : lent ≡ found (callAreasLongEnough region beds costs result)
+    found-same : lent ≡ found callLong
     found-same = go (checkOf file) refl
       where
-        go : (n : ℕ) → checkOf file ≡ n → lent ≡ found (callAreasLongEnough region beds costs result)
+        go : (n : ℕ) → checkOf file ≡ n → lent ≡ found callLong
         go zero e = ap found (long-same e)
         go (suc q) e = twelve .later q e _ _
 
@@ -108,7 +116,7 @@ module _ (file beds costs result part work : List ℕ) (room : length part ≡ c
       pub called : (rest costsAfter resultAfterwards : List ℕ) → costsAfter ≡ written 0 8 (bytesOf 8) (take n (partAfter ++ rest)) costs
           → resultAfterwards ≡ resultAfter (n ∷ []) result
           → record { number = number; beds = bedsAfter; costs = costsAfter; result = resultAfterwards }
-          ≡ callOf (found (callAreasLongEnough region beds costs result)) beds costs result
+          ≡ callOf (found callLong) beds costs result
       unfolding outcomeOf callOf
       called rest costsAfter resultAfterwards stored counted =
           let costs-same : partAfter ≡ written 0 1 (λ row. row .cost ∷ []) (lent .rows) part = ap (λ (o : ListOutcome). o .costs) outcome in
@@ -121,3 +129,31 @@ module _ (file beds costs result part work : List ℕ) (room : length part ≡ c
           let result-stored : resultAfterwards ≡ resultAfter (length (lent .rows) ∷ []) result = counted ∙ ap (λ k. resultAfter (k ∷ []) result) count in
           (λ i. record { number = outcome i .number; beds = outcome i .beds; costs = costs-stored i; result = result-stored i })
           ∙ ap (λ f. callOf f beds costs result) found-same
+
+-- Question 12 is asked of the result area and then of the others, or of both at once: the number is the same.
+twelve-once : (first last : Asked) (width : ℕ) (rows : List Row) (room long : Bool)
+    → foundBy (first ++ (12, long && room) ∷ last) width rows ≡ foundBy (first ++ (12, room) ∷ (12, long) ∷ last) width rows
+twelve-once first last width rows room long = ap (foundWith width rows) (sym (asked-twice first last 12 room long))
+
+module _ (file beds costs result : List ℕ) where
+  abbrev long : Bool
+  long = roomForRows (regionOf file) 8 beds costs
+
+  abbrev room : Bool
+  room = roomForNumbers 1 result
+
+  abbrev thirteen : Asked
+  thirteen = (13, planAllowed (regionOf file)) ∷ []
+
+  pub list-call : callOf (listFound file (entryAsks (askedByList file (long && room)))) beds costs result ≡ listCall file beds costs result
+  unfolding listCall listFound askedByList
+  list-call =
+      let r = regionOf file in
+      ap (λ f. callOf f beds costs result) (twelve-once (askedByCheck file) thirteen (r .patientCount) (listOf r) room long)
+
+  pub sheet-call : (c : ℕ) → callOf (sheetFound file c (entryAsks (askedBySheet file c (long && room)))) beds costs result ≡ sheetCall file c beds costs result
+  unfolding sheetCall sheetFound askedBySheet
+  sheet-call c =
+      let r = regionOf file in
+      ap (λ f. callOf f beds costs result)
+      (twelve-once (askedByCheck file ++ (11, clinicPresent r c) ∷ []) thirteen (length (patientsOf r c)) (sheetOf r c) room long)

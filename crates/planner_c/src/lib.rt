@@ -2,6 +2,7 @@
 ghost use mathlib.Core.Path.{_≡_};
 ghost use Rattle.definitions.specs.Basics.{false};
 ghost use Rattle.definitions.specs.Plans.{Plan};
+ghost use Rattle.definitions.specs.Questions.{callAsks, askedByPrice};
 ghost use Rattle.definitions.specs.Outcomes.{priceFound};
 ghost use Rattle.definitions.specs.Boundary.{checkCall, listCall, sheetCall, priceCall};
 ghost use Rattle.planner_c.specs.Room.{costRoom};
@@ -84,7 +85,7 @@ pub extern "C" fn rigbasen_sheet(
 
 // Price's number where the result area is too short: 12, unless one of the questions before it is answered no.
 fn number_without_room(file: &[u8]) -> u64
-    ensures { λ n. ⌜ ((plan : Plan) → notAllowed n ≡ priceFound (now (file .entry)) plan false) ⌝ }
+    ensures { λ n. ⌜ ((plan : Plan) → notAllowed n ≡ priceFound (now (file .entry)) plan (callAsks (askedByPrice (now (file .entry)) plan) false)) ⌝ }
 {
     let number = checked_number(check(file));
     if number == 0 { 12 } else { number }

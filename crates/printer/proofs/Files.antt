@@ -6,14 +6,15 @@ use borrow.Author.Tests.{le-leb, lt-leb}
 use Rattle.definitions.specs.Basics.{ℕ, zero, suc, _<_, true, List, [], _∷_, _++_, length, sets, text}
 use Rattle.definitions.specs.Spelling.{decimal, line}
 use Rattle.definitions.specs.Questions.{Asked, firstNo, regionOf, askedByCheck, askedByList, checkOf}
-use Rattle.definitions.specs.Outcomes.{listFound}
 use Rattle.definitions.specs.Output.{printedAnswer, printed}
 use Rattle.held_region.specs.declared.Judged.{Judged}
 use Rattle.held_region.specs.declared.Judged.the-variants.{Fine, Refused}
 use Rattle.held_region.specs.Refusals.{numberOf}
 use Rattle.reader.specs.declared.Loaded.{Loaded}
 use Rattle.reader.specs.Loading.{LoadedFrom, checks}
-use Rattle.planner.specs.Later.{after-check, refused-before, refusal-number}
+use Rattle.theorems.specs.Refusals.{after-check}
+use Rattle.theorems.specs.Refused.{refused-alike}
+use Rattle.planner.specs.Later.{refusal-number}
 use Rattle.planner.specs.Loaded.{region-fine}
 use Rattle.planner.specs.Found.{lastAsked}
 use Rattle.text_writer.specs.Wrote.{Room, Wrote}
@@ -28,17 +29,17 @@ fine (Refused refusal) e = let n = refusal-number refusal in absurd (omega (arit
 
 module _ (file out : List ℕ) where
   -- A short area is untouched; in any other the text is written.
-  pub short-area : length out < 32_106 → record { length = 0; out = out } ≡ printOutcome file out
+  pub short-area : length out < 32_106 → record { count = 0; out = out } ≡ printOutcome file out
   unfolding printOutcome
   short-area l = simp (lt-leb _ _ l)
 
   module _ (long : 32_106 ≤ length out) where
-    text-written : {after : List ℕ} {end : ℕ} → Wrote (printed file) 0 out after end → record { length = end; out = after } ≡ printOutcome file out
+    text-written : {after : List ℕ} {end : ℕ} → Wrote (printed file) 0 out after end → record { count = end; out = after } ≡ printOutcome file out
     unfolding printOutcome
     text-written {after} {end} wrote =
         let size : end ≡ length (printed file) = omega (arith, wrote .next) in
-        let all : _≡_ {A = PrintOutcome} (record { length = end; out = after }) (record { length = length (printed file); out = sets out 0 (printed file) }) =
-        λ i. record { length = size i; out = wrote .bytes i } in
+        let all : _≡_ {A = PrintOutcome} (record { count = end; out = after }) (record { count = length (printed file); out = sets out 0 (printed file) }) =
+        λ i. record { count = size i; out = wrote .bytes i } in
         rw (le-leb _ _ long) all
 
     room : Room (printed file) 0 out
@@ -47,21 +48,17 @@ module _ (file out : List ℕ) where
     -- Questions 1 to 10.
     module _ (q : ℕ) (number : q ≡ checkOf file) (refused : q ≡ 0 → ⊥) where
       refused-said : printed file ≡ line (text "refused" ∷ decimal q ∷ [])
-      unfolding printed listFound askedByList
       refused-said = go q number refused
         where
-          late : Asked
-          late = lastAsked (regionOf file) true
-
-          go : (q : ℕ) → q ≡ checkOf file → (q ≡ 0 → ⊥) → printedAnswer (firstNo (askedByCheck file ++ late)) (regionOf file) ≡ line (text "refused" ∷ decimal q ∷ [])
+          go : (q : ℕ) → q ≡ checkOf file → (q ≡ 0 → ⊥) → printed file ≡ line (text "refused" ∷ decimal q ∷ [])
           go zero e other = absurd (other refl)
-          go (suc q) e other = ap (λ n. printedAnswer n (regionOf file)) (refused-before file late q (sym e) ∙ sym e)
+          go (suc q) e other = refused-alike file q (sym e) .print
 
       pub refused-room : Room (line (text "refused" ∷ decimal q ∷ [])) 0 out
       refused-room = omega (arith, ap length refused-said, room)
 
       pub refused-written : {after : List ℕ} {end : ℕ} → Wrote (line (text "refused" ∷ decimal q ∷ [])) 0 out after end
-          → record { length = end; out = after } ≡ printOutcome file out
+          → record { count = end; out = after } ≡ printOutcome file out
       refused-written wrote = text-written (let same = refused-said in rw same wrote)
 
     -- An accepted file.
@@ -73,7 +70,7 @@ module _ (file out : List ℕ) where
       holds = fine (loaded .answer) (sym number ∙ none-refused)
 
       region-said : printed file ≡ regionText (regionOf file)
-      unfolding printed listFound askedByList regionText
+      unfolding printed askedByList regionText
       region-said = ap (λ n. printedAnswer n (regionOf file)) (after-check file (lastAsked (regionOf file) true) checked)
 
       pub asks-text : (work : List ℕ) → 1_152 ≤ length work → AsksText (loaded .region) store out work
@@ -83,5 +80,5 @@ module _ (file out : List ℕ) where
         room = omega (arith, ap length (region-said ∙ ap regionText (sym (from .says holds))), room);
       }
 
-      pub region-written : {after : List ℕ} {end : ℕ} → GivesText (loaded .region) store out after end → record { length = end; out = after } ≡ printOutcome file out
+      pub region-written : {after : List ℕ} {end : ℕ} → GivesText (loaded .region) store out after end → record { count = end; out = after } ≡ printOutcome file out
       region-written gives = text-written (let same = region-said ∙ ap regionText (sym (from .says holds)) in rw same gives)

@@ -80,9 +80,9 @@ fn print_region(out: &mut [u8], work: &mut [u32], region: Region, store: &[u32; 
     print_sheets(out, at, work, region, store, n)
 }
 
-// The text of a file, and its length. An area that is shorter than the longest text is untouched, and the length is 0.
+// The text of a file, and its byte count. An area that is shorter than the longest text is untouched, and the count is 0.
 pub fn print(file: &[u8], out: &mut [u8]) -> usize
-    ensures { λ n. ⌜ record { length = n; out = now (out .exit) } ≡ printOutcome (now (file .entry)) (now (out .entry)) ⌝ }
+    ensures { λ n. ⌜ record { count = n; out = now (out .exit) } ≡ printOutcome (now (file .entry)) (now (out .entry)) ⌝ }
 {
     if out.len() < LONGEST {
         return 0;

@@ -19,7 +19,7 @@ use Rattle.definitions.specs.Output.{printedRows, clinicsPresent, printedAnswer
 use Rattle.ranking.specs.Members.{_∈_, here, there, here-or-there, none-in-nil, in-map-cases}
 use Rattle.theorems.specs.Kept.{every-in, keep-out, keep-short}
 use Rattle.theorems.specs.Below.{below-long}
-use Rattle.theorems.specs.Refusals.{list-found}
+use Rattle.theorems.specs.Refusals.{yield-says}
 use Rattle.theorems.specs.Accepted.{Accepted, patients-few, plans-wanted, beds-within, own-small, total-small}
 use Rattle.theorems.specs.List.{Fits, list-first, numbers-enumerate}
 use Rattle.theorems.specs.Isolation.{fits-length}
@@ -101,7 +101,7 @@ module _ (r : Region) (accepted : Accepted r) where
 -- A file is refused by one of the questions that list asks.
 refused-low : (file : List ℕ) → yieldNumber file ≤ 14
 unfolding askedByList askedByCheck
-refused-low file = leb-true (yieldNumber file) 14 (every-in (λ n. leb n 14) _ refl (list-found file true .own))
+refused-low file = leb-true (yieldNumber file) 14 (every-in (λ n. leb n 14) _ refl (yield-says file .own))
 
 -- For any file at all, refused or not.
 pub printed-size : (file : List ℕ) → length (printed file) ≤ printedMost

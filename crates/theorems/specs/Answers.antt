@@ -1,7 +1,7 @@
 -- What the number of an entry says of the questions that it asked.
 use mathlib.Core.Path.{_≡_, refl, ap, _∙_}
 use mathlib.Core.Logic.{_↔_, inl, inr}
-use mathlib.Core.Bool.{Bool, true, false}
+use mathlib.Core.Bool.{Bool, true, false, _&&_}
 use mathlib.Core.List.{List, [], _∷_, _++_, map, List·Memᴰ, List·Memᴰ·head, List·Memᴰ·tail, List·Memᴰ·cases-cons}
 use Prim.Native.Nat.{ℕ, zero, suc}
 use native.Mathlib.Omega.{arith}
@@ -78,6 +78,20 @@ pub no-then : (early late : Asked) (q : ℕ) → firstNo early ≡ suc q → fir
 no-then [] late q e = absurd (omega arith)
 no-then ((p, true) ∷ early) late q e = no-then early late q e
 no-then ((p, false) ∷ early) late q e = e
+
+-- A question that is answered yes may be left out; one that is asked twice may be asked once.
+pub yes-between : (early late : Asked) (q : ℕ) → firstNo (early ++ (q, true) ∷ late) ≡ firstNo (early ++ late)
+yes-between [] late q = refl
+yes-between ((p, true) ∷ early) late q = yes-between early late q
+yes-between ((p, false) ∷ early) late q = refl
+
+pub asked-twice : (early late : Asked) (q : ℕ) (a b : Bool) → firstNo (early ++ (q, a) ∷ (q, b) ∷ late) ≡ firstNo (early ++ (q, b && a) ∷ late)
+asked-twice [] late q true true = refl
+asked-twice [] late q true false = refl
+asked-twice [] late q false true = refl
+asked-twice [] late q false false = refl
+asked-twice ((p, true) ∷ early) late q a b = asked-twice early late q a b
+asked-twice ((p, false) ∷ early) late q a b = refl
 
 pub says : (asked : Asked) → Numbered asked → Says asked (firstNo asked)
 says asked n = record {

@@ -6,11 +6,10 @@ use Rattle.planner.specs.Found.{lastAsked}
 use borrow.Author.Needs.{needs}
 use mathlib.Core.Path.{ap, sym, _∙_}
 use denote.Ref.{now}
-use Rattle.definitions.specs.Questions.{askedByList}
-use Rattle.definitions.specs.Outcomes.{listFound, listOutcome}
 use Rattle.answers.specs.Answers.{checkedNumber}
 use Rattle.planner.specs.Loaded.{accepted-fine, region-fine}
 use Rattle.planner.specs.Found.{refused-entry, accepted-entry}
+use Rattle.planner.specs.Lists.{list-outcome}
 use Rattle.planner.proofs.list.Statement.{statement}
 use Rattle.planner.proofs.list.Tie as tie
 
@@ -29,12 +28,12 @@ list-loaded-requires c κs =
     region-fine (now (read .before .before .before .before .before .before .args .file)) (read .load .result) (read .load .ensures) (c .before .before .before .before .enum-told .given .1)
 
 returns : tie.Need-returns
-unfolding listOutcome listFound askedByList
 returns c =
     let a = c .before .before .before .before .before .before .before .before .before .args in
     let refusal = c .before .answer .given in
     let number = ap checkedNumber (sym (refusal .1)) ∙ checks (c .before .before .before .load .ensures) in
     refused-entry _ _ (now (a .beds)) (now (a .costs)) (now (a .work)) (now (a .file)) _ (refusal .0 .0) number
+    ∙ list-outcome (now (a .file)) (now (a .beds)) (now (a .costs)) (now (a .work))
 
 same-length : tie.Need-same-length
 same-length c = search needs
@@ -46,7 +45,6 @@ same-length-3 : tie.Need-same-length-3
 same-length-3 c = search needs
 
 returns-2 : tie.Need-returns-2
-unfolding listOutcome listFound askedByList
 returns-2 c =
     let read = c .before .before .before .before .before .before .before .before .before .before .before .before .before in
     let a = read .before .before .before .before .before .before .args in
@@ -55,6 +53,7 @@ returns-2 c =
     c .before .before .before .before .before .before .list-loaded .ensures
     ∙ ap (λ r. outcomeOf (foundBy (lastAsked r (areasLongEnough r (now (a .beds)) (now (a .costs)) (now (a .work)))) (r .patientCount) (listOf r)) (now (a .beds)) (now (a .costs)) (now (a .work))) (read .load .ensures .says fine)
     ∙ accepted-entry _ _ (now (a .beds)) (now (a .costs)) (now (a .work)) (now (a .file)) _ checked
+    ∙ list-outcome (now (a .file)) (now (a .beds)) (now (a .costs)) (now (a .work))
 
 pub list-spec : {M : Type 1} → statement M
 list-spec =

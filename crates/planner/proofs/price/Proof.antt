@@ -2,7 +2,8 @@ use Rattle.reader.specs.Loading.{checks}
 use borrow.Author.Needs.{needs}
 use mathlib.Core.Path.{ap, sym, _∙_}
 use denote.Ref.{now}
-use Rattle.definitions.specs.Basics.{true}
+use Rattle.definitions.specs.Basics.{[], _∷_}
+use Rattle.definitions.specs.Questions.{regionOf, planFits, askedByPrice}
 use Rattle.definitions.specs.Outcomes.{priceOutcome}
 use Rattle.answers.specs.Answers.{checkedNumber, notAllowed}
 use Rattle.planner.specs.Later.{refusal-number}
@@ -26,22 +27,22 @@ price-region-requires c κs =
     region-fine (now (read .before .before .before .before .args .file)) (read .load .result) (read .load .ensures) (c .before .enum-told .given .1)
 
 returns : tie.Need-returns
-unfolding priceOutcome
+unfolding priceOutcome askedByPrice
 returns c =
     let read = c .before .before .before in
     let a = read .before .before .before .before .args in
     let number = ap checkedNumber (sym (c .before .answer .given .1)) ∙ checks (read .load .ensures) in
-    ap notAllowed number ∙ sym (price-not-accepted (now (a .file)) (now (a .plan)) true _ (sym number ∙ refusal-number (c .before .answer .given .0 .0)))
+    ap notAllowed number ∙ sym (price-not-accepted (now (a .file)) (now (a .plan)) ((14, planFits (regionOf (now (a .file))) (now (a .plan))) ∷ []) _ (sym number ∙ refusal-number (c .before .answer .given .0 .0)))
 
 returns-2 : tie.Need-returns-2
-unfolding priceOutcome
+unfolding priceOutcome askedByPrice
 returns-2 c =
     let fine = c .before .before .enum-told .given .1 in
     let read = c .before .before .before .before in
     let a = read .before .before .before .before .args in
     let checked = accepted-fine (now (a .file)) (read .load .result) (read .load .ensures) fine in
     c .price-region .ensures ∙ ap (λ r. regionPrice r (now (a .plan))) (read .load .ensures .says fine)
-    ∙ sym (price-accepted (now (a .file)) (now (a .plan)) true checked)
+    ∙ sym (price-accepted (now (a .file)) (now (a .plan)) ((14, planFits (regionOf (now (a .file))) (now (a .plan))) ∷ []) checked)
 
 pub price-spec : {M : Type 1} → statement M
 price-spec =

@@ -4,12 +4,10 @@ use Rattle.definitions.specs.Syntax.{patientsOf}
 use Rattle.definitions.specs.Basics.{length}
 use Rattle.definitions.specs.Questions.{areasLongEnough}
 use Rattle.definitions.specs.Outcomes.{foundBy, outcomeOf}
-use Rattle.planner.specs.Sheets.{lateAsked}
+use Rattle.planner.specs.Sheets.{lateAsked, sheet-outcome}
 use borrow.Author.Needs.{needs}
 use mathlib.Core.Path.{ap, sym, _∙_}
 use denote.Ref.{now}
-use Rattle.definitions.specs.Questions.{askedBySheet}
-use Rattle.definitions.specs.Outcomes.{sheetFound, sheetOutcome}
 use Rattle.answers.specs.Answers.{checkedNumber}
 use Rattle.planner.specs.Loaded.{accepted-fine, region-fine}
 use Rattle.planner.specs.Found.{refused-entry, accepted-entry}
@@ -31,12 +29,12 @@ sheet-loaded-requires c κs =
     region-fine (now (read .before .before .before .before .before .before .args .file)) (read .load .result) (read .load .ensures) (c .before .before .before .before .enum-told .given .1)
 
 returns : tie.Need-returns
-unfolding sheetOutcome sheetFound askedBySheet
 returns c =
     let a = c .before .before .before .before .before .before .before .before .before .args in
     let refusal = c .before .answer .given in
     let number = ap checkedNumber (sym (refusal .1)) ∙ checks (c .before .before .before .load .ensures) in
     refused-entry _ _ (now (a .beds)) (now (a .costs)) (now (a .work)) (now (a .file)) _ (refusal .0 .0) number
+    ∙ sheet-outcome (now (a .file)) (a .clinic) (now (a .beds)) (now (a .costs)) (now (a .work))
 
 same-length : tie.Need-same-length
 same-length c = search needs
@@ -48,7 +46,6 @@ same-length-3 : tie.Need-same-length-3
 same-length-3 c = search needs
 
 returns-2 : tie.Need-returns-2
-unfolding sheetOutcome sheetFound askedBySheet
 returns-2 c =
     let read = c .before .before .before .before .before .before .before .before .before .before .before .before .before in
     let a = read .before .before .before .before .before .before .args in
@@ -57,6 +54,7 @@ returns-2 c =
     c .before .before .before .before .before .before .sheet-loaded .ensures
     ∙ ap (λ r. outcomeOf (foundBy (lateAsked r (a .clinic) (areasLongEnough r (now (a .beds)) (now (a .costs)) (now (a .work)))) (length (patientsOf r (a .clinic))) (sheetOf r (a .clinic))) (now (a .beds)) (now (a .costs)) (now (a .work))) (read .load .ensures .says fine)
     ∙ accepted-entry _ _ (now (a .beds)) (now (a .costs)) (now (a .work)) (now (a .file)) _ checked
+    ∙ sheet-outcome (now (a .file)) (a .clinic) (now (a .beds)) (now (a .costs)) (now (a .work))
 
 pub sheet-spec : {M : Type 1} → statement M
 sheet-spec =

@@ -1,13 +1,14 @@
 use borrow.Author.Needs.{needs}
+use mathlib.Core.Path.{_∙_}
 use Prim.Native.Nat.{ℕ, _-_}
 use native.Mathlib.Omega.{arith}
 use lib.ListN.{length, take, replicate, length-replicate}
 use denote.Ref.{now}
 use Rattle.definitions.specs.Outcomes.{listFound, listOutcome}
-use Rattle.definitions.specs.Boundary.{listCall}
+use Rattle.definitions.specs.Questions.{workSize, entryAsks, askedByList}
 use Rattle.planner.specs.Lists.{list-twelve}
 use Rattle.planner_c.specs.Room.{costRoom}
-use Rattle.planner_c.proofs.RowCalls.{room-most, lent-long, rows-room, called}
+use Rattle.planner_c.proofs.RowCalls.{room-most, lent-long, rows-room, called, list-call}
 use Rattle.planner_c.proofs.rigbasen_list.Statement.{statement}
 use Rattle.planner_c.proofs.rigbasen_list.Tie as tie
 
@@ -38,8 +39,8 @@ store-costs-requires c κs =
     let a = c .before .before .before .before .before .before .before .before .before .before .before .before .before .before .before .before .args in
     let room = c .before .before .before .before .before .before .before .before .before .before .before .cost-room in
     rw (c .before .before .listed-rows .ensures)
-    (rows-room (now (a .file)) (now (a .beds)) (now (a .costs)) (now (a .result)) (take (room .result - 0) (replicate 64 0)) (replicate 16_384 0)
-    (lent-long (room .result - 0) (costRoom (length (now (a .costs))) (length (now (a .result)))) (omega (arith, room .ensures)) (room-most (length (now (a .costs))) (length (now (a .result))) .0)) (length-replicate {A = ℕ} 16_384 0) (listFound (now (a .file))) (list-twelve (now (a .file))) _ _ _ _ _ (c .before .before .before .before .before .before .before .list .ensures))
+    (rows-room (now (a .file)) (now (a .beds)) (now (a .costs)) (now (a .result)) (take (room .result - 0) (replicate 64 0)) (replicate workSize 0)
+    (lent-long (room .result - 0) (costRoom (length (now (a .costs))) (length (now (a .result)))) (omega (arith, room .ensures)) (room-most (length (now (a .costs))) (length (now (a .result))) .0)) (length-replicate {A = ℕ} workSize 0) (λ long. listFound (now (a .file)) (entryAsks (askedByList (now (a .file)) long))) (list-twelve (now (a .file))) _ _ _ _ _ (c .before .before .before .before .before .before .before .list .ensures))
 
 store-count-requires : tie.Need-store-count-requires
 store-count-requires c κs = search needs
@@ -57,15 +58,16 @@ same-length-3 : tie.Need-same-length-3
 same-length-3 c = search needs
 
 returns : tie.Need-returns
-unfolding listOutcome listCall
+unfolding listOutcome
 returns c =
     let a = c .before .before .before .before .before .before .before .before .before .before .before .before .before .before .before .before .before .before .before .before .before .before .before .before .args in
     let room = c .before .before .before .before .before .before .before .before .before .before .before .before .before .before .before .before .before .before .before .cost-room in
     let rows = c .before .before .before .before .before .before .before .before .before .before .listed-rows .ensures in
     rw (c .listed-number .ensures)
-    (called (now (a .file)) (now (a .beds)) (now (a .costs)) (now (a .result)) (take (room .result - 0) (replicate 64 0)) (replicate 16_384 0)
-    (lent-long (room .result - 0) (costRoom (length (now (a .costs))) (length (now (a .result)))) (omega (arith, room .ensures)) (room-most (length (now (a .costs))) (length (now (a .result))) .0)) (length-replicate {A = ℕ} 16_384 0) (listFound (now (a .file))) (list-twelve (now (a .file))) _ _ _ _ _ (c .before .before .before .before .before .before .before .before .before .before .before .before .before .before .before .list .ensures)
-    _ _ _ (rw rows at (c .before .before .before .before .before .before .before .store-costs .ensures)) (rw rows at (c .before .before .before .store-count .ensures)))
+    (called (now (a .file)) (now (a .beds)) (now (a .costs)) (now (a .result)) (take (room .result - 0) (replicate 64 0)) (replicate workSize 0)
+    (lent-long (room .result - 0) (costRoom (length (now (a .costs))) (length (now (a .result)))) (omega (arith, room .ensures)) (room-most (length (now (a .costs))) (length (now (a .result))) .0)) (length-replicate {A = ℕ} workSize 0) (λ long. listFound (now (a .file)) (entryAsks (askedByList (now (a .file)) long))) (list-twelve (now (a .file))) _ _ _ _ _ (c .before .before .before .before .before .before .before .before .before .before .before .before .before .before .before .list .ensures)
+    _ _ _ (rw rows at (c .before .before .before .before .before .before .before .store-costs .ensures)) (rw rows at (c .before .before .before .store-count .ensures))
+    ∙ list-call (now (a .file)) (now (a .beds)) (now (a .costs)) (now (a .result)))
 
 pub rigbasen-list-spec : {M : Type 1} → statement M
 rigbasen-list-spec =
