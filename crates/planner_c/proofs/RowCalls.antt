@@ -100,32 +100,30 @@ module _ (file beds costs result part work : List ℕ) (room : length part ≡ c
             let fits = leb-true (region .plansWanted * 1) (length part) (both (leb (region .plansWanted * region .patientCount) (length beds)) two .1) in
             omega (arith, twelve .most true, fits, mul-one (region .plansWanted))
 
-    module _ (number n : ℕ) (bedsAfter partAfter workAfter : List ℕ)
-        (outcome : record { number = number; rows = n; beds = bedsAfter; costs = partAfter; work = workAfter } ≡ outcomeOf lent beds part work) where
-      count : n ≡ length (lent .rows)
+    module _ {o : ListOutcome} (outcome : o ≡ outcomeOf lent beds part work) where
+      count : o .rows ≡ length (lent .rows)
       unfolding outcomeOf
       count = ap (λ (o : ListOutcome). o .rows) outcome
 
       -- There is room to store the costs.
-      pub rows-room : (n ≤ 64) × (n * 8 ≤ length costs)
+      pub rows-room : (o .rows ≤ 64) × (o .rows * 8 ≤ length costs)
       rows-room =
           let most = room-most (length costs) (length result) in
           (omega (arith, count, found-few, most .0), omega (arith, count, found-few, most .1))
 
       -- The call, from what the entry gives and what is stored of it.
-      pub called : (rest costsAfter resultAfterwards : List ℕ) → costsAfter ≡ written 0 8 (bytesOf 8) (take n (partAfter ++ rest)) costs
-          → resultAfterwards ≡ resultAfter (n ∷ []) result
-          → record { number = number; beds = bedsAfter; costs = costsAfter; result = resultAfterwards }
-          ≡ callOf (found callLong) beds costs result
+      pub called : (rest : List ℕ) {costsAfter resultAfterwards : List ℕ} → costsAfter ≡ written 0 8 (bytesOf 8) (take (o .rows) (o .costs ++ rest)) costs
+          → resultAfterwards ≡ resultAfter (o .rows ∷ []) result
+          → record { number = o .number; beds = o .beds; costs = costsAfter; result = resultAfterwards } ≡ callOf (found callLong) beds costs result
       unfolding outcomeOf callOf
-      called rest costsAfter resultAfterwards stored counted =
-          let costs-same : partAfter ≡ written 0 1 (λ row. row .cost ∷ []) (lent .rows) part = ap (λ (o : ListOutcome). o .costs) outcome in
-          let held : take (length (lent .rows)) partAfter ≡ map (λ row. row .cost) (lent .rows) = ap (take (length (lent .rows))) costs-same ∙ held-costs (lent .rows) part found-few in
-          let long : length (lent .rows) ≤ length partAfter =
-          omega (arith, ap length held, length-map (lent .rows) (λ row. row .cost), length-take (length (lent .rows)) partAfter) in
-          let kept : take (length (lent .rows)) (partAfter ++ rest) ≡ map (λ row. row .cost) (lent .rows) = take-append-le (length (lent .rows)) partAfter rest long ∙ held in
+      called rest {costsAfter} {resultAfterwards} stored counted =
+          let costs-same : o .costs ≡ written 0 1 (λ row. row .cost ∷ []) (lent .rows) part = ap (λ (o : ListOutcome). o .costs) outcome in
+          let held : take (length (lent .rows)) (o .costs) ≡ map (λ row. row .cost) (lent .rows) = ap (take (length (lent .rows))) costs-same ∙ held-costs (lent .rows) part found-few in
+          let long : length (lent .rows) ≤ length (o .costs) =
+          omega (arith, ap length held, length-map (lent .rows) (λ row. row .cost), length-take (length (lent .rows)) (o .costs)) in
+          let kept : take (length (lent .rows)) (o .costs ++ rest) ≡ map (λ row. row .cost) (lent .rows) = take-append-le (length (lent .rows)) (o .costs) rest long ∙ held in
           let costs-stored : costsAfter ≡ written 0 8 (λ row. bytesOf 8 (row .cost)) (lent .rows) costs =
-          stored ∙ ap (λ k. written 0 8 (bytesOf 8) (take k (partAfter ++ rest)) costs) count ∙ stored-costs (lent .rows) (partAfter ++ rest) kept costs in
+          stored ∙ ap (λ k. written 0 8 (bytesOf 8) (take k (o .costs ++ rest)) costs) count ∙ stored-costs (lent .rows) (o .costs ++ rest) kept costs in
           let result-stored : resultAfterwards ≡ resultAfter (length (lent .rows) ∷ []) result = counted ∙ ap (λ k. resultAfter (k ∷ []) result) count in
           (λ i. record { number = outcome i .number; beds = outcome i .beds; costs = costs-stored i; result = result-stored i })
           ∙ ap (λ f. callOf f beds costs result) found-same

@@ -40,7 +40,7 @@ store-costs-requires c κs =
     let room = c .before .before .before .before .before .before .before .before .before .before .before .cost-room in
     rw (c .before .before .listed-rows .ensures)
     (rows-room (now (a .file)) (now (a .beds)) (now (a .costs)) (now (a .result)) (take (room .result - 0) (replicate 64 0)) (replicate workSize 0)
-    (lent-long (room .result - 0) (costRoom (length (now (a .costs))) (length (now (a .result)))) (omega (arith, room .ensures)) (room-most (length (now (a .costs))) (length (now (a .result))) .0)) (length-replicate {A = ℕ} workSize 0) (λ long. listFound (now (a .file)) (entryAsks (askedByList (now (a .file)) long))) (list-twelve (now (a .file))) _ _ _ _ _ (c .before .before .before .before .before .before .before .list .ensures))
+    (lent-long (room .result - 0) (costRoom (length (now (a .costs))) (length (now (a .result)))) (omega (arith, room .ensures)) (room-most (length (now (a .costs))) (length (now (a .result))) .0)) (length-replicate {A = ℕ} workSize 0) (λ long. listFound (now (a .file)) (entryAsks (askedByList (now (a .file)) long))) (list-twelve (now (a .file))) (c .before .before .before .before .before .before .before .list .ensures))
 
 store-count-requires : tie.Need-store-count-requires
 store-count-requires c κs = search needs
@@ -65,8 +65,8 @@ returns c =
     let rows = c .before .before .before .before .before .before .before .before .before .before .listed-rows .ensures in
     rw (c .listed-number .ensures)
     (called (now (a .file)) (now (a .beds)) (now (a .costs)) (now (a .result)) (take (room .result - 0) (replicate 64 0)) (replicate workSize 0)
-    (lent-long (room .result - 0) (costRoom (length (now (a .costs))) (length (now (a .result)))) (omega (arith, room .ensures)) (room-most (length (now (a .costs))) (length (now (a .result))) .0)) (length-replicate {A = ℕ} workSize 0) (λ long. listFound (now (a .file)) (entryAsks (askedByList (now (a .file)) long))) (list-twelve (now (a .file))) _ _ _ _ _ (c .before .before .before .before .before .before .before .before .before .before .before .before .before .before .before .list .ensures)
-    _ _ _ (rw rows at (c .before .before .before .before .before .before .before .store-costs .ensures)) (rw rows at (c .before .before .before .store-count .ensures))
+    (lent-long (room .result - 0) (costRoom (length (now (a .costs))) (length (now (a .result)))) (omega (arith, room .ensures)) (room-most (length (now (a .costs))) (length (now (a .result))) .0)) (length-replicate {A = ℕ} workSize 0) (λ long. listFound (now (a .file)) (entryAsks (askedByList (now (a .file)) long))) (list-twelve (now (a .file))) (c .before .before .before .before .before .before .before .before .before .before .before .before .before .before .before .list .ensures)
+    _ (rw rows at (c .before .before .before .before .before .before .before .store-costs .ensures)) (rw rows at (c .before .before .before .store-count .ensures))
     ∙ list-call (now (a .file)) (now (a .beds)) (now (a .costs)) (now (a .result)))
 
 pub rigbasen-list-spec : {M : Type 1} → statement M

@@ -40,7 +40,7 @@ store-costs-requires c κs =
     let room = c .before .before .before .before .before .before .before .before .before .before .before .cost-room in
     rw (c .before .before .sheeted-rows .ensures)
     (rows-room (now (a .file)) (now (a .beds)) (now (a .costs)) (now (a .result)) (take (room .result - 0) (replicate 64 0)) (replicate workSize 0)
-    (lent-long (room .result - 0) (costRoom (length (now (a .costs))) (length (now (a .result)))) (omega (arith, room .ensures)) (room-most (length (now (a .costs))) (length (now (a .result))) .0)) (length-replicate {A = ℕ} workSize 0) (λ long. sheetFound (now (a .file)) (a .clinic) (entryAsks (askedBySheet (now (a .file)) (a .clinic) long))) (sheet-twelve (now (a .file)) (a .clinic)) _ _ _ _ _ (c .before .before .before .before .before .before .before .sheet .ensures))
+    (lent-long (room .result - 0) (costRoom (length (now (a .costs))) (length (now (a .result)))) (omega (arith, room .ensures)) (room-most (length (now (a .costs))) (length (now (a .result))) .0)) (length-replicate {A = ℕ} workSize 0) (λ long. sheetFound (now (a .file)) (a .clinic) (entryAsks (askedBySheet (now (a .file)) (a .clinic) long))) (sheet-twelve (now (a .file)) (a .clinic)) (c .before .before .before .before .before .before .before .sheet .ensures))
 
 store-count-requires : tie.Need-store-count-requires
 store-count-requires c κs = search needs
@@ -65,8 +65,8 @@ returns c =
     let rows = c .before .before .before .before .before .before .before .before .before .before .sheeted-rows .ensures in
     rw (c .sheeted-number .ensures)
     (called (now (a .file)) (now (a .beds)) (now (a .costs)) (now (a .result)) (take (room .result - 0) (replicate 64 0)) (replicate workSize 0)
-    (lent-long (room .result - 0) (costRoom (length (now (a .costs))) (length (now (a .result)))) (omega (arith, room .ensures)) (room-most (length (now (a .costs))) (length (now (a .result))) .0)) (length-replicate {A = ℕ} workSize 0) (λ long. sheetFound (now (a .file)) (a .clinic) (entryAsks (askedBySheet (now (a .file)) (a .clinic) long))) (sheet-twelve (now (a .file)) (a .clinic)) _ _ _ _ _ (c .before .before .before .before .before .before .before .before .before .before .before .before .before .before .before .sheet .ensures)
-    _ _ _ (rw rows at (c .before .before .before .before .before .before .before .store-costs .ensures)) (rw rows at (c .before .before .before .store-count .ensures))
+    (lent-long (room .result - 0) (costRoom (length (now (a .costs))) (length (now (a .result)))) (omega (arith, room .ensures)) (room-most (length (now (a .costs))) (length (now (a .result))) .0)) (length-replicate {A = ℕ} workSize 0) (λ long. sheetFound (now (a .file)) (a .clinic) (entryAsks (askedBySheet (now (a .file)) (a .clinic) long))) (sheet-twelve (now (a .file)) (a .clinic)) (c .before .before .before .before .before .before .before .before .before .before .before .before .before .before .before .sheet .ensures)
+    _ (rw rows at (c .before .before .before .before .before .before .before .store-costs .ensures)) (rw rows at (c .before .before .before .store-count .ensures))
     ∙ sheet-call (now (a .file)) (now (a .beds)) (now (a .costs)) (now (a .result)) (a .clinic))
 
 pub rigbasen-sheet-spec : {M : Type 1} → statement M
