@@ -1,5 +1,4 @@
 pub mod Meaning
-pub mod Limits
 pub mod Places
 pub mod Stores
 pub mod Asked

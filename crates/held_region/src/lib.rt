@@ -1,6 +1,4 @@
-// The held region: what a region file says, by value, the limits of its fields, and the answers to the questions it is asked.
-pub mod limits;
-
+// The held region: what a region file says, by value, and the answers to the questions it is asked.
 ghost use mathlib.Core.Path.{_≡_};
 ghost use Rattle.held_region.specs.Meaning.{blankRegion};
 

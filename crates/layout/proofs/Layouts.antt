@@ -62,8 +62,11 @@ module _ {s : List ℕ} {e : ℕ} (first : LineEnd s 0 e) where
         go (no n) = no-last s cut said (p .read) (q .read) (lines-none s (ts .next) (omega arith))
 
     module _ {n : ℕ} (stated : whole endLine line ≡ some n) where
+      end-within : ts .next < length s
+      end-within = omega (arith, length-drop (ts .next) s, some-byte (whole endLine) no-end-line (last - ts .next) (drop (ts .next) s) stated)
+
       cut-end : lines (drop (ts .next) s) ≡ line ∷ lines (drop last s)
-      cut-end = end .cut (omega (arith, length-drop (ts .next) s, some-byte (whole endLine) no-end-line (last - ts .next) (drop (ts .next) s) stated))
+      cut-end = end .cut end-within
 
       pub layout-more : last < length s → layout s ≡ none
       layout-more h = more-lines s cut said (p .read) (q .read) cut-end stated _ _ (lines-cut (drop last s) (omega (arith, length-drop last s)))
@@ -83,6 +86,7 @@ module _ {s : List ℕ} {e : ℕ} (first : LineEnd s 0 e) where
         tablesHeld = q .holds;
         stored = λ wide. q .stored wide line (lines (drop last s)) cut-end (ap isSome stated);
         body = body-before s (ts .next) before-end (cut-end ∙ ap (λ ls. line ∷ ls) none-left);
+        within = omega (arith, end-within);
       }
         where
           none-left : lines (drop last s) ≡ []

@@ -3,6 +3,7 @@ use mathlib.Core.Path.{_≡_, refl, sym, ap, _∙_}
 use mathlib.Core.List.{append-assoc, append-cancel-right}
 use mathlib.Core.Option.{Option·none-ne-some, Option·some-injective}
 use lib.ListN.{take, drop, take-append-drop}
+use Prim.Native.Nat.{_≤_}
 use Rattle.definitions.specs.Basics.{ℕ, Option, none, some, bind, List, [], _∷_, _++_, length, flatten, dropLast}
 use Rattle.definitions.specs.Syntax as Said
 use Rattle.definitions.specs.Layout.{many, whole, lines, regionLine, patientLine, tableLine, endLine, regionLines, layout}
@@ -27,6 +28,7 @@ pub record LaidThere (s : List ℕ) (r : Laid) (before after : List ℕ) : Type 
   pub tablesHeld : TablesHeld (r .tables .first) (tree .tables)
   pub stored : length before ≡ 4096 → Holding after (codesOf (tree .tables))
   pub body : flatten (dropLast (lines s)) ≡ take (r .end) s
+  pub within : r .end ≤ length s
 
 abbrev pub LaidOut : List ℕ → Laid → List ℕ → List ℕ → Type 0
 LaidOut s r before after = Found (r .found) (LaidThere s r before after) (layout s ≡ none)

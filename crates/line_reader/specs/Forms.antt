@@ -4,8 +4,8 @@ use native.Mathlib.Omega.{arith}
 use borrow.Author.Tests.{ltb-true, ne-eqb}
 use Rattle.theorems.specs.Numbers.{hyphen-reads}
 use Rattle.scanner.specs.Parts.{Form, part, gives, read}
-use Rattle.definitions.specs.Basics.{ℕ, _≡_, refl, Bool, true, false, cond, Option, none, some, Option·map, bind, List, [], _∷_, _++_, getD, eqb, text, noneOr}
-use Rattle.definitions.specs.Limits.{limits}
+use Rattle.definitions.specs.Basics.{ℕ, _^_, _<_, _≡_, refl, Bool, true, false, cond, Option, none, some, Option·map, bind, List, [], _∷_, _++_, getD, eqb, text, noneOr}
+use Rattle.definitions.specs.Limits.{digitCount, limits}
 use Rattle.definitions.specs.Spelling.{spellable}
 use Rattle.definitions.specs.Syntax.{Patient}
 use Rattle.definitions.specs.Layout.{Reader, _>>=_, _>>_, give, whole, exactly, word, number, hyphenOrNumber, regionLine, patientLine, endLine}
@@ -63,10 +63,13 @@ module _ {A B : Type 0} where
   map-cond f false a = refl
 
 -- The mark tells a hyphen from every number that a file can say.
-said-by : (o : Option ℕ) → noneOr spellable o ≡ true → fieldSaid (fieldValue o) ≡ o
+pub number-unmarked : (n : ℕ) → spellable n ≡ true → n < hyphenMark
 unfolding limits
+number-unmarked n h = omega (arith, ltb-true n (10 ^ limits digitCount .highest) h)
+
+said-by : (o : Option ℕ) → noneOr spellable o ≡ true → fieldSaid (fieldValue o) ≡ o
 said-by none h = refl
-said-by (some n) h = let l = ltb-true n 10_000_000 h in rw (ne-eqb n hyphenMark (λ e. omega arith))
+said-by (some n) h = let l = number-unmarked n h in rw (ne-eqb n hyphenMark (λ e. omega arith))
 
 module _ (xs : List ℕ) where
   -- What the definition reads, by the value of the field.

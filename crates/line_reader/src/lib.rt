@@ -1,4 +1,4 @@
-// Where a line ends, the checksum of what stands before it, and what a line says.
+// Where a line ends, the checksum of some bytes, and what a line says.
 use scanner::Entry;
 use scanner::Number;
 use scanner::Optional;
@@ -8,9 +8,9 @@ use scanner::number_at;
 use scanner::word_at;
 ghost use mathlib.Core.Path.{_≡_};
 ghost use Prim.Native.Nat.{_+_, _≤_};
-ghost use lib.ListN.{length, take};
-ghost use Rattle.definitions.specs.Basics.{sum};
+ghost use lib.ListN.{length};
 ghost use Rattle.definitions.specs.Layout.{whole, regionLine, patientLine, endLine};
+ghost use Rattle.definitions.specs.Limits.{fileLength, limits};
 ghost use Rattle.definitions.specs.Questions.{checksum};
 ghost use Rattle.scanner.specs.Answers.{ReadAt, numberRead, optional};
 ghost use Rattle.line_reader.specs.Answers.{LineEnd, regionRead, patientRead, endRead};
@@ -59,56 +59,20 @@ pub fn line_end(s: &[u8], at: usize) -> usize
     s.len()
 }
 
-const MODULUS: u64 = 65_521;
+const MODULUS: u32 = 65_521;
 
-// Where the running sum is reduced, so that one more byte fits.
-const FULL: u64 = 1 << 63;
-
-// No accepted file is longer. The sum of so many bytes fits 32 bits.
-const SHORT: usize = 65_535;
-
-// The sum of all bytes of a short input: nothing is tested within the loop, so that many bytes are added at a time.
-fn short_sum(s: &[u8]) -> u64
-    requires { ⌜ length (now s) ≤ 65_535 ⌝ }
-    ensures { λ r. ⌜ r ≡ sum (now (s .entry)) ⌝ }
-{
-    let mut total: u32 = 0;
-    let mut j = 0;
-    while j < s.len() {
-        total += s[j] as u32;
-        j += 1;
-    }
-    total as u64
-}
-
-// The sum of all bytes, modulo 65,521.
+// The sum of all bytes, modulo 65,521. That of a file's bytes fits 32 bits, so nothing is tested within the loop.
 pub fn checksum_of(s: &[u8]) -> u32
+    requires { ⌜ length (now s) ≤ limits fileLength .highest ⌝ }
     ensures { λ r. ⌜ r ≡ checksum (now (s .entry)) ⌝ }
 {
-    if s.len() <= SHORT {
-        return (short_sum(s) % MODULUS) as u32;
-    }
-    let mut sum: u64 = 0;
+    let mut sum: u32 = 0;
     let mut i = 0;
     while i < s.len() {
-        if FULL <= sum {
-            sum %= MODULUS;
-        }
-        sum += s[i] as u64;
+        sum += s[i] as u32;
         i += 1;
     }
-    (sum % MODULUS) as u32
-}
-
-// The checksum of what stands before a place.
-pub fn checksum_before(s: &[u8], end: usize) -> u32
-    ensures { λ r. ⌜ r ≡ checksum (take end (now (s .entry))) ⌝ }
-{
-    if end < s.len() {
-        checksum_of(&s[..end])
-    } else {
-        checksum_of(s)
-    }
+    sum % MODULUS
 }
 
 // The mark of a hyphen among the values of fields: more than any number of a file.

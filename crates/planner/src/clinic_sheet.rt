@@ -10,8 +10,8 @@ ghost use Rattle.planner.specs.Sheets.{AsksSheet, SheetWritten, RegionSh
 use crate::loaded::long_enough;
 use answers::Sheeted;
 use held_region::Region;
-use held_region::limits::Field;
-use held_region::limits::within;
+use limits::Field;
+use limits::within;
 use patient_set::PatientSet;
 use region_sets::clinic_set;
 use row_sums::SECOND;

@@ -4,9 +4,10 @@ use mathlib.Core.Bool.{and-false}
 use mathlib.Core.Option.{Option·some-injective}
 use native.Mathlib.Omega.{arith}
 use Prim.Native.Nat.{_≤_}
-use borrow.Author.Tests.{ltb-true, lt-ltb, le-leb, lt-leb, eqb-true, eq-eqb, ne-eqb}
-use Rattle.definitions.specs.Basics.{ℕ, _<_, Bool, true, false, not, _&&_, Option, none, some, List, [], _∷_, _++_, length, take, eqb, ltb, every, noneOr, isSome, isEmpty, flatten, dropLast}
-use Rattle.definitions.specs.Limits.{patientCount, tableCount, plansWanted, limits, within}
+use borrow.Author.Tests.{leb-true, ltb-true, lt-ltb, eqb-true, eq-eqb, ne-eqb}
+use lib.ListN.{length-take}
+use Rattle.definitions.specs.Basics.{ℕ, Bool, true, false, not, _&&_, Option, none, some, List, [], _∷_, _++_, length, take, eqb, leb, ltb, every, noneOr, isSome, isEmpty, flatten, dropLast}
+use Rattle.definitions.specs.Limits.{fileLength, limits, within}
 use Rattle.definitions.specs.Syntax as Said
 use Rattle.definitions.specs.Layout.{lines, layout}
 use Rattle.definitions.specs.Spelling.{spellable}
@@ -18,6 +19,7 @@ use Rattle.theorems.specs.Items.{someAll}
 use Rattle.theorems.specs.Forms.{okTable}
 use Rattle.theorems.specs.Files.{well-formed-lines}
 use Rattle.theorems.specs.Spelling.{layout-spelling, body-spelt}
+use Rattle.line_reader.specs.Forms.{number-unmarked}
 use Rattle.held_region.specs.Meaning.{mark, said}
 use Rattle.held_region.specs.declared.Region.{Region}
 use Rattle.held_region.specs.declared.Refusal.{Refusal}
@@ -34,15 +36,11 @@ use Rattle.reader.specs.Loading.{readAsked, FileRead, LoadedFrom, refuse
 -- ---- the first four questions
 
 module _ (s : List ℕ) where
-  pub read-too-long : 65_535 < length s → 1 ≡ firstNo (readAsked s)
-  unfolding readAsked shortEnough within limits
-  read-too-long h = rw (le-leb 0 (length s) (omega arith), lt-leb (length s) 65_535 h)
+  pub read-too-long : shortEnough s ≡ false → 1 ≡ firstNo (readAsked s)
+  unfolding readAsked
+  read-too-long h = rw h
 
-  module _ (h : length s ≤ 65_535) where
-    short : shortEnough s ≡ true
-    unfolding shortEnough within limits
-    short = rw (le-leb 0 (length s) (omega arith), le-leb (length s) 65_535 h)
-
+  module _ (short : shortEnough s ≡ true) where
     pub read-no-layout : layout s ≡ none → 2 ≡ firstNo (readAsked s)
     unfolding readAsked laidOut
     read-no-layout e = rw (short, e)
@@ -72,9 +70,8 @@ module _ (s : List ℕ) where
 
 -- No entry of a file is the mark.
 entry-unmarked : (o : Option ℕ) → noneOr spellable o ≡ true → noneOr (λ e. ltb e mark) o ≡ true
-unfolding limits
 entry-unmarked none h = refl
-entry-unmarked (some e) h = lt-ltb e mark (omega (arith, ltb-true e 10_000_000 h))
+entry-unmarked (some e) h = lt-ltb e mark (number-unmarked e h)
 
 table-unmarked : (t : Said.Table) → okTable t ≡ true → unmarked t ≡ true
 table-unmarked t h =
@@ -107,20 +104,25 @@ refused-with {s} {store} {r} {q} e n = record {
   held = λ fine. not-fine (sym (ap (λ (x : Loaded). x .answer) e) ∙ fine);
 }
 
-pub too-long : {s store : List ℕ} {r : Loaded} → 65_535 < length s → r ≡ refusedWith TooLong → FileRead s r store
+pub too-long : {s store : List ℕ} {r : Loaded} → shortEnough s ≡ false → r ≡ refusedWith TooLong → FileRead s r store
 too-long {s} h e = refused-with e (read-too-long s h)
 
 -- A conjunction fails where one side does.
 left-fails : (a b : ℕ) (c : Bool) → (a ≡ b → ⊥) → (eqb a b && c) ≡ false
 left-fails a b c n = ap (λ x. x && c) (ne-eqb a b n)
 
-module _ {s : List ℕ} (h : length s ≤ 65_535) {laid : Laid} {before after : List ℕ} (l : LaidOut s laid before after) where
+module _ {s : List ℕ} (h : shortEnough s ≡ true) {laid : Laid} {before after : List ℕ} (l : LaidOut s laid before after) where
   pub no-layout : {r : Loaded} → laid .found ≡ false → r ≡ refusedWith Layout → FileRead s r after
   no-layout missing e = refused-with e (read-no-layout s h (l .missing missing))
 
   module _ (found : laid .found ≡ true) where
     this : LaidThere s laid before after
     this = l .there found
+
+    -- What the sum goes over is no longer than the file.
+    pub sum-short : length (take (laid .end) s) ≤ limits fileLength .highest
+    unfolding shortEnough within
+    sum-short = omega (arith, length-take (laid .end) s, leb-true (length s) (limits fileLength .highest) (both (leb (limits fileLength .lowest) (length s)) h .1))
 
     counts-said : (laid .patients .count ≡ laid .v) → (laid .tables .count ≡ laid .t) → countsTrue (this .tree) ≡ true
     unfolding countsTrue

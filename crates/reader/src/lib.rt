@@ -8,7 +8,9 @@ use held_region::Region;
 use held_region::blank;
 use layout::Laid;
 use layout::lay_out;
-use line_reader::checksum_before;
+use limits::Field;
+use limits::within;
+use line_reader::checksum_of;
 use questions::judge;
 
 // The answer to the questions that were asked; where it is fine, what is held of the file.
@@ -16,9 +18,6 @@ pub struct Loaded {
     pub answer: Judged,
     pub region: Region,
 }
-
-// The most bytes of a file.
-const LONGEST: usize = 65_535;
 
 fn refused(refusal: Refusal) -> Loaded
     ensures { λ r. ⌜ r ≡ refusedWith refusal ⌝ }
@@ -52,7 +51,7 @@ pub fn read(file: &[u8], store: &mut [u32; 4096]) -> Loaded
     requires { ⌜ length (now store) ≡ 4096 ⌝ }
     ensures { λ r. ⌜ FileRead (now (file .entry)) r (now (store .exit)) ⌝ }
 {
-    if LONGEST < file.len() {
+    if !within(Field::FileLength, file.len()) {
         return refused(Refusal::TooLong);
     }
     let laid = lay_out(file, store);
@@ -65,7 +64,8 @@ pub fn read(file: &[u8], store: &mut [u32; 4096]) -> Loaded
     if laid.tables.count != laid.t as usize {
         return refused(Refusal::Counts);
     }
-    if checksum_before(file, laid.end) != laid.sum {
+    let end = laid.end;
+    if checksum_of(&file[..end]) != laid.sum {
         return refused(Refusal::Sum);
     }
     let region = region_of(laid);

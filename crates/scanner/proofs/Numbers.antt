@@ -6,7 +6,7 @@ use native.Mathlib.Nat.{sub-self, pow-suc, pow-le-pow-right, zero-lt-suc}
 use native.Mathlib.Omega.{arith}
 use lib.ListN.{length, drop}
 use lib.Seq.{drop-drop}
-use Rattle.definitions.specs.Limits.{limits}
+use Rattle.definitions.specs.Limits.{digitCount, limits}
 use Rattle.definitions.specs.Layout.{number}
 use Rattle.scanner.specs.declared.Class.the-variants.{Digit}
 use Rattle.scanner.specs.declared.Number.the-variants.{Value, Nothing}
@@ -18,22 +18,26 @@ use Rattle.scanner.proofs.Classes.{class-within, digit-small}
 pub record Reading (s : List ℕ) (at v i : ℕ) : Type 0 where
   pub low : at ≤ i
   pub high : i ≤ max at (length s)
-  pub few : i - at ≤ 7
+  pub few : i - at ≤ limits digitCount .highest
   pub small : v < 10 ^ (i - at)
   pub same : numberFrom (i - at) v (drop i s) ≡ number (drop at s)
+
+-- A number of the most digits fits 32 bits.
+numbers-fit : 10 ^ limits digitCount .highest ≤ 2 ^ 32
+unfolding limits
+numbers-fit = omega arith
 
 pub reading-start : (s : List ℕ) (at : ℕ) → Reading s at 0 at
 reading-start s at = record {
   low = omega arith;
   high = omega arith;
-  few = omega arith;
+  few = omega (arith, sub-self at);
   small = rw (sub-self at) (omega arith);
   same = rw (sub-self at) (number-start (drop at s));
 }
 
 module _ {s : List ℕ} {at v i : ℕ} (r : Reading s at v i) where
   pub reading-ends : NoDigit (firstClass (drop i s)) → (i ≡ at → ⊥) → ReadAt number s at (numberRead (Value v i))
-  unfolding limits
   reading-ends n o =
       let l = r .low in
       record { says = sym (number-ends (i - at) v (drop i s) n (omega arith) (r .few)) ∙ r .same; ahead = (l, r .high) }
@@ -45,8 +49,7 @@ module _ {s : List ℕ} {at v i : ℕ} (r : Reading s at v i) where
     pub reading-within : i < length s
     reading-within = class-within s i tt e
 
-    pub reading-long : i - at ≡ 7 → ReadAt number s at (numberRead Nothing)
-    unfolding limits
+    pub reading-long : i - at ≡ limits digitCount .highest → ReadAt number s at (numberRead Nothing)
     reading-long l = record { says = sym (number-long (i - at) v (drop i s) e l) ∙ r .same; ahead = tt }
 
     pub reading-zero : v ≡ 0 → (i ≡ at → ⊥) → ReadAt number s at (numberRead Nothing)
@@ -54,14 +57,13 @@ module _ {s : List ℕ} {at v i : ℕ} (r : Reading s at v i) where
         let l = r .low in
         record { says = sym (number-zero (i - at) v (drop i s) e (omega arith) z) ∙ r .same; ahead = tt }
 
-    module _ (h : i - at ≡ 7 → ⊥) where
-      -- The value stays below 10,000,000.
-      pub reading-fits : v * 10 + d < 10 ^ 7
+    module _ (h : i - at ≡ limits digitCount .highest → ⊥) where
+      pub reading-fits : v * 10 + d < 2 ^ 32
       reading-fits =
           let f = r .few in
-          let p : 10 ^ (i - at) ≤ 10 ^ 6 = pow-le-pow-right (zero-lt-suc 9) {j = 6} (omega arith) in
+          let p : 10 ^ suc (i - at) ≤ 10 ^ limits digitCount .highest = pow-le-pow-right (zero-lt-suc 9) {j = limits digitCount .highest} (omega arith) in
           let b = r .small in
-          omega (arith, digit-small (drop i s) e)
+          omega (arith, digit-small (drop i s) e, pow-suc 10 (i - at), numbers-fit)
 
       pub reading-more : (v ≡ 0 → i ≡ at) → Reading s at (v * 10 + d) (i + 1)
       reading-more z =

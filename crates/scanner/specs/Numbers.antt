@@ -43,7 +43,7 @@ nothing-follows (suc k) v = or-true (not (eqb v 0))
 -- A byte that is no digit ends the number, and so does the end; what was read is a number if it has digits, and not too many.
 after-some : (k v : ℕ) → 1 ≤ k → k ≤ limits digitCount .highest → numberAfter k v [] ≡ some v
 unfolding within limits
-after-some k v l h = rw (add-zero, le-leb 1 k l, le-leb k 7 h, nothing-follows k v)
+after-some k v l h = rw (add-zero, le-leb 1 k l, le-leb k (limits digitCount .highest) h, nothing-follows k v)
 
 module _ (k v : ℕ) (few : 1 ≤ k) (many : k ≤ limits digitCount .highest) where
   ends : numberFrom k v [] ≡ some (v, [])
@@ -92,7 +92,7 @@ module _ (k v b : ℕ) {d : ℕ} (bs : List ℕ) (digit : DigitOf b d) where
   -- One digit too many.
   long : k ≡ limits digitCount .highest → numberFrom k v (b ∷ bs) ≡ none
   unfolding within limits
-  long e = goes-on ∙ rw (lt-leb (k + suc (length (front isDigit bs))) 7 (omega arith), and-false)
+  long e = goes-on ∙ rw (lt-leb (k + suc (length (front isDigit bs))) (limits digitCount .highest) (omega arith), and-false)
 
   -- A digit behind a zero.
   behind-zero : 1 ≤ k → v ≡ 0 → numberFrom k v (b ∷ bs) ≡ none

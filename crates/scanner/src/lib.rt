@@ -6,6 +6,8 @@ ghost use Rattle.definitions.specs.Layout.{exactly, number, hyphenOrNumber};
 ghost use Rattle.scanner.specs.Classes.{classOf, firstClass};
 ghost use Rattle.scanner.specs.Answers.{ReadAt, passed, numberRead, entryRead, stepRead};
 ghost use Rattle.scanner.specs.Separators.{separator};
+use limits::Field;
+use limits::highest;
 
 // The reader's class of a byte; a digit comes with its value.
 pub enum Class {
@@ -72,25 +74,23 @@ pub fn word_at(s: &[u8], at: usize, word: &[u8]) -> Passed
     Passed::At(i)
 }
 
-// The most digits that a number has.
-const DIGITS: usize = 7;
-
 // A number and the place after it.
 pub enum Number {
     Value(u32, usize),
     Nothing,
 }
 
-// A number of at most DIGITS digits with no leading zero. A digit too many ends the reading.
+// A number with no leading zero. A digit too many ends the reading.
 pub fn number_at(s: &[u8], at: usize) -> Number
     ensures { λ r. ⌜ ReadAt number (now (s .entry)) at (numberRead r) ⌝ }
 {
+    let most = highest(Field::DigitCount);
     let mut value: u32 = 0;
     let mut i = at;
     loop {
         match class_at(s, i) {
             Class::Digit(d) => {
-                if i - at == DIGITS {
+                if i - at == most {
                     return Number::Nothing;
                 }
                 if value == 0 {

@@ -1,13 +1,15 @@
 // The limits stand once: a table of lowest and highest per field.
 ghost use mathlib.Core.Path.{_≡_};
 ghost use Prim.Native.Nat.{_<_};
-ghost use Rattle.definitions.specs.Limits.{within as isWithin};
-ghost use Rattle.held_region.specs.Limits.{fieldOf, placeOf, limitOf};
+ghost use Rattle.definitions.specs.Limits.{limits, within as isWithin};
+ghost use Rattle.limits.specs.Fields.{fieldOf, placeOf, limitOf};
 
 // The lowest and the highest value of a field.
-pub struct Limit(pub usize, pub usize);
+struct Limit(usize, usize);
 
 pub enum Field {
+    FileLength,
+    DigitCount,
     PatientCount,
     TableCount,
     PlansWanted,
@@ -18,7 +20,9 @@ pub enum Field {
     Entry,
 }
 
-const LIMITS: [Limit; 8] = [
+const LIMITS: [Limit; 10] = [
+    Limit(0, 65_535),
+    Limit(1, 7),
     Limit(1, 32),
     Limit(0, 64),
     Limit(1, 64),
@@ -31,21 +35,23 @@ const LIMITS: [Limit; 8] = [
 
 // A field's place in the table.
 fn place_of(field: Field) -> usize
-    ensures { λ r. ⌜ (r ≡ placeOf field) × (r < 8) ⌝ }
+    ensures { λ r. ⌜ (r ≡ placeOf field) × (r < 10) ⌝ }
 {
     match field {
-        Field::PatientCount => 0,
-        Field::TableCount => 1,
-        Field::PlansWanted => 2,
-        Field::Clinic => 3,
-        Field::BedCount => 4,
-        Field::MemberCount => 5,
-        Field::EntryCount => 6,
-        Field::Entry => 7,
+        Field::FileLength => 0,
+        Field::DigitCount => 1,
+        Field::PatientCount => 2,
+        Field::TableCount => 3,
+        Field::PlansWanted => 4,
+        Field::Clinic => 5,
+        Field::BedCount => 6,
+        Field::MemberCount => 7,
+        Field::EntryCount => 8,
+        Field::Entry => 9,
     }
 }
 
-pub fn limit_of(field: Field) -> Limit
+fn limit_of(field: Field) -> Limit
     ensures { λ r. ⌜ r ≡ limitOf field ⌝ }
 {
     let at = place_of(field);
@@ -58,4 +64,11 @@ pub fn within(field: Field, value: usize) -> bool
 {
     let limit = limit_of(field);
     limit.0 <= value && value <= limit.1
+}
+
+pub fn highest(field: Field) -> usize
+    ensures { λ r. ⌜ r ≡ limits (fieldOf field) .highest ⌝ }
+{
+    let limit = limit_of(field);
+    limit.1
 }

@@ -2,9 +2,9 @@ use borrow.Author.Needs.{needs}
 use mathlib.Core.Path.{ap, _∙_}
 use Rattle.definitions.specs.Basics.{getD}
 use Rattle.definitions.specs.Limits.{limits}
-use Rattle.held_region.specs.Limits.{table, table-at}
-use Rattle.held_region.proofs.limits.limit_of.Statement.{statement}
-use Rattle.held_region.proofs.limits.limit_of.Tie as tie
+use Rattle.limits.specs.Fields.{table, table-at}
+use Rattle.limits.proofs.limit_of.Statement.{statement}
+use Rattle.limits.proofs.limit_of.Tie as tie
 
 place-of-requires : tie.Need-place-of-requires
 place-of-requires c κs = search needs

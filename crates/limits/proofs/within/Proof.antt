@@ -3,9 +3,9 @@ use borrow.Author.Tests.{le-leb, lt-leb}
 use mathlib.Core.Path.{ap, sym, _∙_}
 use Rattle.definitions.specs.Basics.{_&&_, leb}
 use Rattle.definitions.specs.Limits.{within}
-use Rattle.held_region.specs.declared.limits.Limit.{Limit}
-use Rattle.held_region.proofs.limits.within.Statement.{statement}
-use Rattle.held_region.proofs.limits.within.Tie as tie
+use Rattle.limits.specs.declared.Limit.{Limit}
+use Rattle.limits.proofs.within.Statement.{statement}
+use Rattle.limits.proofs.within.Tie as tie
 
 limit-of-requires : tie.Need-limit-of-requires
 limit-of-requires c κs = search needs
