@@ -16,9 +16,8 @@ use Rattle.held_region.specs.declared.Region.{Region}
 use Rattle.held_region.specs.Meaning.{said}
 use Rattle.row_list.specs.Rows.{rowIn, rowsIn}
 use Rattle.row_list.specs.Laws.{cut-long, cut-at}
-use Rattle.row_writer.specs.Writing.{RowsWritten}
+use Rattle.row_writer.specs.Writing.{longEnough, RowsWritten}
 use Rattle.search.specs.Trees.{AsksRegion}
-use Rattle.planner.specs.Lists.{longEnough}
 use Rattle.planner.specs.Found.{outcomeWith}
 
 -- Question 12 of the areas is that of their lengths.

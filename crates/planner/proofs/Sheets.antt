@@ -26,7 +26,8 @@ use Rattle.sheets.specs.Sheets.{Given, Gives}
 use Rattle.answers.specs.declared.Sheeted.the-variants.{Absent, Short, Nothing, Rows}
 use Rattle.answers.specs.Answers.{sheetedOutcome}
 use Rattle.planner.specs.Found.{lastAsked, no-twelve, no-thirteen, no-refusal, outcomeWith, asked-outcome}
-use Rattle.planner.specs.Asked.{present-asked, no-list, list-none, list-some}
+use Rattle.theorems.specs.Clinics.{present-asked}
+use Rattle.planner.specs.Asked.{no-list, list-none, list-some}
 use Rattle.planner.specs.Lists.{longEnough}
 use Rattle.planner.specs.Sheets.{lateAsked, AsksSheet, SheetWritten, RegionSheeted, no-eleven, yes-eleven}
 use Rattle.planner.proofs.Areas.{question, all-long, narrow, written-out}

@@ -1,31 +1,12 @@
--- Questions 11 and 13 of a region, as a clinic's patients and the list's row count answer them. Assumes nothing.
+-- Question 13 of a region, as the list's row count answers it.
 use mathlib.Core.Path.{_≡_, refl, sym, ap, _∙_}
 use native.Mathlib.Omega.{arith}
-use Rattle.definitions.specs.Basics.{ℕ, Bool, true, false, not, _||_, cond, List, [], _∷_, map, length, eqb, any, keep, isEmpty}
+use Rattle.definitions.specs.Basics.{ℕ, Bool, true, false, List, [], _∷_, length}
 use Rattle.definitions.specs.Syntax as Said
-use Rattle.definitions.specs.Syntax.{patientNumbers, patientAt, patientsOf}
 use Rattle.definitions.specs.Plans.{Row, listOf}
-use Rattle.definitions.specs.Questions.{clinicPresent, planAllowed}
-use Rattle.theorems.specs.Below.{by-number}
+use Rattle.definitions.specs.Questions.{planAllowed}
 use Rattle.theorems.specs.List.{list-empty}
 use Rattle.theorems.specs.Accepted.{Accepted, plans-wanted}
-
--- Some element passes where something is kept.
-any-kept : {A : Type 0} (f : A → Bool) (g : ℕ → A) (l : List ℕ) → any f (map g l) ≡ not (isEmpty (keep (λ s. f (g s)) l))
-any-kept f g [] = refl
-any-kept f g (x ∷ l) = go (f (g x)) (any-kept f g l)
-  where
-    go : (b : Bool) → any f (map g l) ≡ not (isEmpty (keep (λ s. f (g s)) l))
-        → (b || any f (map g l)) ≡ not (isEmpty (cond b (x ∷ keep (λ s. f (g s)) l) (keep (λ s. f (g s)) l)))
-    go true e = refl
-    go false e = e
-
--- Question 11 asks whether the clinic has patients.
-pub present-asked : (r : Said.Region) (c : ℕ) → clinicPresent r c ≡ not (isEmpty (patientsOf r c))
-unfolding clinicPresent patientsOf patientAt
-present-asked r c =
-    let asked : Said.Patient → Bool = λ p. eqb (p .clinic) c in
-    ap (any asked) (sym (by-number (r .patients) _)) ∙ any-kept asked (patientAt r) (patientNumbers r)
 
 -- Where at least one plan is wanted, question 13 asks whether the list has a row.
 module _ (r : Said.Region) (accepted : Accepted r) {n : ℕ} (count : n ≡ length (listOf r)) where

@@ -1,17 +1,13 @@
 -- What list gives of a loaded file.
-use Rattle.definitions.specs.Basics.{ℕ, _*_, _≡_, refl, Bool, _&&_, List, _++_, leb}
+use Rattle.definitions.specs.Basics.{_≡_, refl, ℕ, List, _++_}
 use Rattle.definitions.specs.Syntax as Said
 use Rattle.definitions.specs.Plans.{listOf}
-use Rattle.definitions.specs.Questions.{entryAsks, regionOf, workSize, areasLongEnough, askedByCheck, askedByList}
+use Rattle.definitions.specs.Questions.{entryAsks, regionOf, areasLongEnough, askedByCheck, askedByList}
 use Rattle.definitions.specs.Outcomes.{foundBy, listFound, outcomeOf, listOutcome}
 use Rattle.theorems.specs.List.{list-first}
 use Rattle.answers.specs.declared.Listed.{Listed}
 use Rattle.answers.specs.Answers.{listedOutcome}
 use Rattle.planner.specs.Found.{lastAsked, AsksTwelve, asks-twelve}
-
--- Question 12, of the counts and of how long the areas are.
-abbrev pub longEnough : ℕ → ℕ → ℕ → ℕ → ℕ → Bool
-longEnough v m beds costs work = leb (m * v) beds && (leb m costs && leb workSize work)
 
 -- What list gives, of what a held region and its store say, once questions 1 to 10 are answered yes.
 abbrev pub RegionListed : Said.Region → List ℕ → List ℕ → List ℕ → Listed → List ℕ → List ℕ → List ℕ → Type 0

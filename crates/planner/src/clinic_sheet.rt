@@ -1,36 +1,18 @@
 // The sheet of a clinic, over the region of an accepted file.
-ghost use mathlib.Core.Path.{_≡_};
-ghost use Rattle.definitions.specs.Basics.{ℕ, List};
-ghost use Rattle.definitions.specs.Syntax.{patientsOf};
-ghost use Rattle.patient_set.specs.Sets.{members};
-ghost use Rattle.held_region.specs.Sound.{Sound};
 ghost use Rattle.held_region.specs.Meaning.{said};
 ghost use Rattle.theorems.specs.Accepted.{Accepted};
 ghost use Rattle.planner.specs.Sheets.{AsksSheet, SheetWritten, RegionSheeted};
-use crate::loaded::long_enough;
 use answers::Sheeted;
 use held_region::Region;
-use limits::Field;
-use limits::within;
 use patient_set::PatientSet;
-use region_sets::clinic_set;
+use region_sets::clinic_patients;
 use row_sums::SECOND;
 use row_sums::THIRD;
 use row_writer::clear;
+use row_writer::long_enough;
 use row_writer::write_rows;
 use search::list_region;
 use sheets::sheet_rows;
-
-// The patients of a clinic. A number that no clinic can have is compared as it is, and has none.
-pub fn clinic_patients(region: Region, clinic: u64) -> PatientSet
-    requires { ⌜ Sound region ⌝ }
-    ensures { λ set. ⌜ ((store : List ℕ) → members (set .0) ≡ patientsOf (said region store) clinic) ⌝ }
-{
-    if !within(Field::Clinic, clinic as usize) {
-        return PatientSet::EMPTY;
-    }
-    clinic_set(region, clinic as u32)
-}
 
 // The sheet of the list that lies in the work area, written out. The work area is cleared behind it.
 fn write_sheet(

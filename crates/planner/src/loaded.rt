@@ -1,10 +1,8 @@
 // The entries over the region of an accepted file.
-ghost use mathlib.Core.Path.{_≡_};
 ghost use Rattle.theorems.specs.Accepted.{Accepted};
 ghost use Rattle.held_region.specs.Meaning.{said};
-ghost use Prim.Native.Nat.{_≤_};
 ghost use Rattle.planner.specs.Prices.{RegionPriced};
-ghost use Rattle.planner.specs.Lists.{longEnough, RegionListed};
+ghost use Rattle.planner.specs.Lists.{RegionListed};
 use answers::Listed;
 use answers::Priced;
 use buckets::prepare;
@@ -14,6 +12,7 @@ use pricing::plan_fits;
 use pricing::plan_of;
 use pricing::total;
 use row_writer::clear;
+use row_writer::long_enough;
 use row_writer::write_rows;
 use search::list_region;
 
@@ -34,14 +33,6 @@ pub fn price_region(region: Region, store: &[u32; 4096], plan: &[u8]) -> Priced
         Cost::Forbidden => Priced::Forbidden,
         Cost::Of(n) => Priced::Allowed(n),
     }
-}
-
-// 12. Have the areas room for m rows of v beds, and the work area its 16,384 numbers?
-pub fn long_enough(v: usize, m: usize, beds: usize, costs: usize, work: usize) -> bool
-    requires { ⌜ (v ≤ 32) × (m ≤ 64) ⌝ }
-    ensures { λ a. ⌜ a ≡ longEnough v m beds costs work ⌝ }
-{
-    m * v <= beds && (m <= costs && 16_384 <= work)
 }
 
 // Questions 12 and 13, then the list, written out. The work area is cleared behind it.

@@ -9,6 +9,7 @@ use borrow.Author.Tests.{lt-leb, le-leb, leb-true, lt-ltb, le-ltb}
 use lib.ListN.{length-map, length-take, length-replicate}
 use lib.Seq.{take-append-le}
 use Rattle.definitions.specs.Basics.{ℕ, zero, suc, _+_, _*_, _/_, Bool, true, false, _&&_, cond, List, [], _∷_, _++_, map, length, take, replicate, leb, ltb}
+use Rattle.definitions.specs.Limits.{limits}
 use Rattle.definitions.specs.Syntax.{Region, patientsOf}
 use Rattle.definitions.specs.Plans.{Row, listOf}
 use Rattle.definitions.specs.Sheets.{sheetOf}
@@ -25,34 +26,34 @@ use Rattle.planner_c.specs.Room.{costRoom}
 
 -- The costs that the entry may leave are those that fit, if m is 1 to 64.
 room-same : (m costs result : ℕ) → 0 < m → m ≤ 64 → leb (m * 1) (costRoom costs result) ≡ (leb (m * 8) costs && leb (1 * 8) result)
-unfolding costRoom
-room-same m costs result some few = go (decLt result 8) (decLt costs 512)
+unfolding costRoom limits
+room-same m costs result some few = go (decLt result 8) (decLt (costs / 8) 64)
   where
     one : m * 1 ≡ m
     one = mul-one m
 
-    go : Dec (result < 8) → Dec (costs < 512) → leb (m * 1) (cond (ltb result 8) 0 (cond (ltb costs 512) (costs / 8) 64)) ≡ (leb (m * 8) costs && leb (1 * 8) result)
+    go : Dec (result < 8) → Dec (costs / 8 < 64) → leb (m * 1) (cond (ltb result 8) 0 (cond (ltb (costs / 8) 64) (costs / 8) 64)) ≡ (leb (m * 8) costs && leb (1 * 8) result)
     go (yes h) d =
         rw (lt-ltb result 8 h) (lt-leb (m * 1) 0 (omega arith) ∙ sym (ap (λ b. leb (m * 8) costs && b) (lt-leb 8 result h) ∙ and-false (leb (m * 8) costs)))
-    go (no h) (yes l) = rw (le-ltb result 8 (omega arith), lt-ltb costs 512 l) (fits (decLe (m * 8) costs))
+    go (no h) (yes l) = rw (le-ltb result 8 (omega arith), lt-ltb (costs / 8) 64 l) (fits (decLe (m * 8) costs))
       where
         fits : Dec (m * 8 ≤ costs) → leb (m * 1) (costs / 8) ≡ (leb (m * 8) costs && leb (1 * 8) result)
         fits (yes k) = le-leb (m * 1) (costs / 8) (omega arith) ∙ sym (ap₂ (λ a b. a && b) (le-leb (m * 8) costs k) (le-leb 8 result (omega arith)))
         fits (no k) = lt-leb (m * 1) (costs / 8) (omega arith) ∙ sym (ap (λ b. b && leb (1 * 8) result) (lt-leb (m * 8) costs (omega arith)))
     go (no h) (no l) =
-        rw (le-ltb result 8 (omega arith), le-ltb costs 512 (omega arith))
+        rw (le-ltb result 8 (omega arith), le-ltb (costs / 8) 64 (omega arith))
         (le-leb (m * 1) 64 (omega arith) ∙ sym (ap₂ (λ a b. a && b) (le-leb (m * 8) costs (omega arith)) (le-leb 8 result (omega arith))))
 
 -- Room for more than 64 costs, or more than fit, is never lent.
 pub room-most : (costs result : ℕ) → (costRoom costs result ≤ 64) × (costRoom costs result * 8 ≤ costs)
-unfolding costRoom
-room-most costs result = go (decLt result 8) (decLt costs 512)
+unfolding costRoom limits
+room-most costs result = go (decLt result 8) (decLt (costs / 8) 64)
   where
-    go : Dec (result < 8) → Dec (costs < 512)
-        → (cond (ltb result 8) 0 (cond (ltb costs 512) (costs / 8) 64) ≤ 64) × (cond (ltb result 8) 0 (cond (ltb costs 512) (costs / 8) 64) * 8 ≤ costs)
+    go : Dec (result < 8) → Dec (costs / 8 < 64)
+        → (cond (ltb result 8) 0 (cond (ltb (costs / 8) 64) (costs / 8) 64) ≤ 64) × (cond (ltb result 8) 0 (cond (ltb (costs / 8) 64) (costs / 8) 64) * 8 ≤ costs)
     go (yes h) d = rw (lt-ltb result 8 h) (omega arith, omega arith)
-    go (no h) (yes l) = rw (le-ltb result 8 (omega arith), lt-ltb costs 512 l) (omega arith, omega arith)
-    go (no h) (no l) = rw (le-ltb result 8 (omega arith), le-ltb costs 512 (omega arith)) (omega arith, omega arith)
+    go (no h) (yes l) = rw (le-ltb result 8 (omega arith), lt-ltb (costs / 8) 64 l) (omega arith, omega arith)
+    go (no h) (no l) = rw (le-ltb result 8 (omega arith), le-ltb (costs / 8) 64 (omega arith)) (omega arith, omega arith)
 
 -- The part of 64 places that is lent is as long as the room.
 pub lent-long : (n room : ℕ) → n ≡ room → room ≤ 64 → length {A = ℕ} (take n (replicate 64 0)) ≡ room

@@ -16,13 +16,13 @@ use answers::sheeted_rows;
 use byte_areas::store_costs;
 use byte_areas::store_count;
 use byte_areas::store_price;
+use limits::Field;
+use limits::highest;
 use planner::check;
 use planner::list;
 use planner::price;
 use planner::sheet;
-
-// How many numbers of work area list and sheet ask for.
-const WORK: usize = 16_384;
+use row_writer::WORK;
 
 #[no_mangle]
 pub extern "C" fn rigbasen_check(file: &[u8]) -> u64
@@ -39,7 +39,9 @@ fn cost_room(costs: usize, result: usize) -> usize
     if result < 8 {
         return 0;
     }
-    if costs < 512 { costs / 8 } else { 64 }
+    let most = highest(Field::PlansWanted);
+    let fitting = costs / 8;
+    if fitting < most { fitting } else { most }
 }
 
 // The result area holds one number: the row count.

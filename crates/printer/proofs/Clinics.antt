@@ -16,7 +16,7 @@ use Rattle.row_list.specs.Rows.{rowsIn}
 use Rattle.row_sums.specs.Sums.{part}
 use Rattle.row_sums.specs.Areas.{part-long}
 use Rattle.sheets.specs.Sheets.{Given, Asks, Gives}
-use Rattle.planner.specs.Asked.{present-asked}
+use Rattle.theorems.specs.Clinics.{present-asked}
 use Rattle.text_writer.specs.Wrote.{Wrote}
 use Rattle.row_printer.specs.Printing.{Printable}
 use Rattle.printer.specs.Steps.{clinicText, AsksClinic, GivesClinic}

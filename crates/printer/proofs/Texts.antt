@@ -13,7 +13,7 @@ use Rattle.definitions.specs.Sheets.{sheetOf}
 use Rattle.definitions.specs.Questions.{firstNo, clinicPresent, planAllowed}
 use Rattle.definitions.specs.Output.{printedRows, clinicsPresent, printedAnswer}
 use Rattle.text_writer.specs.Wrote.{Wrote, Left, none-left, other-parts}
-use Rattle.printer.specs.Steps.{clinicText, sheetsFrom, regionText}
+use Rattle.printer.specs.Steps.{clinicText, clinicCount, sheetsFrom, regionText}
 
 -- Texts of the kept elements are texts of all, where the others have none.
 kept-texts : (f : ℕ → Bool) (g : ℕ → List ℕ) (l : List ℕ) → flatMap g (keep f l) ≡ flatMap (λ c. cond (f c) (g c) []) l
@@ -37,19 +37,19 @@ module _ (r : Region) where
   text-parts e =
       ap (λ b. printedAnswer (firstNo ((13, b) ∷ [])) r) e
       ∙ ap (λ (l : List ℕ). printedRows (text "list" ∷ []) (listOf r) ++ l)
-      (kept-texts (clinicPresent r) (λ c. printedRows (text "sheet" ∷ decimal c ∷ []) (sheetOf r c)) (below 16) ∙ sym (append-nil (sheetsFrom r 0)))
+      (kept-texts (clinicPresent r) (λ c. printedRows (text "sheet" ∷ decimal c ∷ []) (sheetOf r c)) (below clinicCount) ∙ sym (append-nil (sheetsFrom r 0)))
 
   module _ (c : ℕ) {whole out now : List ℕ} {at place : ℕ} (left : Left whole at out (sheetsFrom r c ∷ []) now place) where
     -- Clinic c is next; after clinic 15 nothing is left.
-    pub clinic-left : c < 16 → Left whole at out (clinicText r c ∷ sheetsFrom r (c + 1) ∷ []) now place
+    pub clinic-left : c < clinicCount → Left whole at out (clinicText r c ∷ sheetsFrom r (c + 1) ∷ []) now place
     unfolding sheetsFrom flatten flatMap
     clinic-left h =
-        let e : 16 - c ≡ suc (16 - suc c) = omega arith in
+        let e : clinicCount - c ≡ suc (clinicCount - suc c) = omega arith in
         rw (add-one c) (other-parts (clinicText r c ∷ sheetsFrom r (suc c) ∷ [])
         (ap (λ (n : ℕ). flatMap (clinicText r) (numbersFrom c n) ++ []) e ∙ append-assoc (clinicText r c) (sheetsFrom r (suc c)) []) left)
 
-    pub sheets-done : 16 ≤ c → Wrote whole at out now place
+    pub sheets-done : clinicCount ≤ c → Wrote whole at out now place
     unfolding sheetsFrom flatten flatMap
     sheets-done h =
-        let e : 16 - c ≡ 0 = omega arith in
+        let e : clinicCount - c ≡ 0 = omega arith in
         none-left (other-parts [] (ap (λ (n : ℕ). flatMap (clinicText r) (numbersFrom c n) ++ []) e) left)

@@ -1,6 +1,7 @@
 -- The parts of a region's text: what is asked and what is given.
 use Prim.Native.Nat.{_≤_}
-use Rattle.definitions.specs.Basics.{ℕ, _-_, _≡_, cond, List, [], _∷_, flatMap, length, numbersFrom, text}
+use Rattle.definitions.specs.Basics.{ℕ, suc, _-_, _≡_, cond, List, [], _∷_, flatMap, length, numbersFrom, text}
+use Rattle.definitions.specs.Limits.{limits, clinic}
 use Rattle.definitions.specs.Syntax.{Region}
 use Rattle.definitions.specs.Spelling.{decimal}
 use Rattle.definitions.specs.Plans.{listOf}
@@ -17,9 +18,12 @@ use Rattle.text_writer.specs.Wrote.{Room, Wrote}
 unfoldable pub clinicText : Region → ℕ → List ℕ
 clinicText r c = cond (clinicPresent r c) (printedRows (text "sheet" ∷ decimal c ∷ []) (sheetOf r c)) []
 
--- The sheets of the clinics from c on.
+-- How many clinics there can be; the sheets of those from c on.
+abbrev pub clinicCount : ℕ
+clinicCount = suc (limits clinic .highest)
+
 unfoldable pub sheetsFrom : Region → ℕ → List ℕ
-sheetsFrom r c = flatMap (clinicText r) (numbersFrom c (16 - c))
+sheetsFrom r c = flatMap (clinicText r) (numbersFrom c (clinicCount - c))
 
 -- The whole text, once questions 1 to 10 are answered yes.
 unfoldable pub regionText : Region → List ℕ

@@ -5,8 +5,10 @@ ghost use mathlib.Core.Path.{_≡_};
 use answers::checked_number;
 use held_region::FORBIDDEN;
 use held_region::Region;
-use planner::clinic_sheet::clinic_patients;
+use limits::Field;
+use limits::highest;
 use reader::load;
+use region_sets::clinic_patients;
 use row_printer::print_list;
 use row_printer::print_refusal;
 use row_printer::print_sheet;
@@ -20,9 +22,6 @@ const LONGEST: usize = 32_106;
 
 // How many numbers of work area the list asks for.
 const WORK: usize = 1_152;
-
-// How many clinics there can be.
-const CLINICS: u64 = 16;
 
 // A clinic's sheet, from the list in the work area. A clinic that has no patients prints nothing.
 fn print_clinic(
@@ -58,9 +57,10 @@ fn print_sheets(
     requires { ⌜ AsksSheets region (now store) n at (now out) (now work) ⌝ }
     ensures { λ end. ⌜ GivesSheets region (now (store .entry)) at (now (out .entry)) (now (out .exit)) end ⌝ }
 {
+    let clinics = highest(Field::Clinic) as u64 + 1;
     let mut next = at;
     let mut clinic: u64 = 0;
-    while clinic < CLINICS {
+    while clinic < clinics {
         next = print_clinic(out, next, work, region, store, n, clinic);
         clinic += 1;
     }

@@ -2,6 +2,8 @@
 use held_region::Parent;
 use held_region::Region;
 use held_region::Table;
+use limits::Field;
+use limits::within;
 use patient_set::PatientSet;
 ghost use mathlib.Core.Path.{_≡_};
 ghost use Prim.Native.Nat.{ℕ, _<_};
@@ -29,6 +31,17 @@ pub fn clinic_set(region: Region, clinic: u32) -> PatientSet
         s += 1;
     }
     set
+}
+
+// The same for any number: one that no clinic can have is compared as it is, and has none.
+pub fn clinic_patients(region: Region, clinic: u64) -> PatientSet
+    requires { ⌜ Sound region ⌝ }
+    ensures { λ set. ⌜ ((store : List ℕ) → members (set .0) ≡ patientsOf (said region store) clinic) ⌝ }
+{
+    if !within(Field::Clinic, clinic as usize) {
+        return PatientSet::EMPTY;
+    }
+    clinic_set(region, clinic as u32)
 }
 
 // The members of a table.

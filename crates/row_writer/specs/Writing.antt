@@ -1,8 +1,13 @@
--- Rows written to the lent areas: what the areas must hold, and what they hold afterwards.
+-- The lent areas: when they are long enough, what they must hold for rows to be written, and what they hold afterwards.
 use Prim.Native.Nat.{_≤_}
-use Rattle.definitions.specs.Basics.{ℕ, _*_, _<_, _≡_, List, [], _∷_, length}
+use Rattle.definitions.specs.Basics.{ℕ, _*_, _<_, _≡_, Bool, _&&_, List, [], _∷_, length, leb}
+use Rattle.definitions.specs.Questions.{workSize}
 use Rattle.definitions.specs.Outcomes.{written}
 use Rattle.row_list.specs.Rows.{rowIn, rowsIn}
+
+-- Question 12, of the counts and of how long the areas are.
+abbrev pub longEnough : ℕ → ℕ → ℕ → ℕ → ℕ → Bool
+longEnough v m beds costs work = leb (m * v) beds && (leb m costs && leb workSize work)
 
 -- The rows lie in the list, the areas have room for them, and each cost fits the 32 bits that it gets there.
 pub record Writable (v n : ℕ) (list beds costs : List ℕ) : Type 0 where

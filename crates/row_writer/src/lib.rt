@@ -1,4 +1,4 @@
-// The rows of a list, written to the areas that a caller lends, and the work area cleared behind them.
+// The areas that a caller lends: whether they are long enough, a list's rows written to them, and the work area cleared behind them.
 use packed_rows::Row;
 use packed_rows::beds_of;
 use row_list::row_at;
@@ -7,7 +7,18 @@ ghost use Prim.Native.Nat.{_<_, _≤_};
 ghost use lib.ListN.{length, take, replicate};
 ghost use lib.Seq.{sets};
 ghost use Rattle.packed_rows.specs.Packed.{packedBeds};
-ghost use Rattle.row_writer.specs.Writing.{Writable, RowsWritten};
+ghost use Rattle.row_writer.specs.Writing.{longEnough, Writable, RowsWritten};
+
+// How many numbers of work area list and sheet ask for.
+pub const WORK: usize = 16_384;
+
+// 12. Have the areas room for m rows of v beds, and the work area its numbers?
+pub fn long_enough(v: usize, m: usize, beds: usize, costs: usize, work: usize) -> bool
+    requires { ⌜ (v ≤ 32) × (m ≤ 64) ⌝ }
+    ensures { λ a. ⌜ a ≡ longEnough v m beds costs work ⌝ }
+{
+    m * v <= beds && (m <= costs && WORK <= work)
+}
 
 // A cost as the lent area has it.
 fn word_of(cost: u64) -> u32

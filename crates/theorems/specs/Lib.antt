@@ -20,6 +20,7 @@ pub mod Below
 pub mod Interleaving
 pub mod Sums
 pub mod Accepted
+pub mod Clinics
 pub mod Sameness
 pub mod Places
 pub mod Isolation

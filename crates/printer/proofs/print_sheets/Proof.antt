@@ -1,6 +1,7 @@
 use borrow.Author.Needs.{needs}
 use denote.Ref.{now}
 use Prim.Native.Nat.{_-_}
+use Rattle.printer.specs.Steps.{clinicCount}
 use Rattle.printer.proofs.Sheets.{Printed, none-printed, asks-clinic, clinic-more, all-printed}
 use Rattle.printer.proofs.print_sheets.Statement.{statement}
 use Rattle.printer.proofs.print_sheets.Tie as tie
@@ -9,7 +10,7 @@ abbrev Inv-loop : tie.InvT-loop
 Inv-loop out₀ at work₀ region store n next₀ clinic₀ out work next clinic = Printed region store n clinic at out₀ work₀ out work next
 
 abbrev μ-loop : tie.MeasureT-loop
-μ-loop out₀ at work₀ region store n next₀ clinic₀ out work next clinic = 16 - clinic
+μ-loop out₀ at work₀ region store n next₀ clinic₀ out work next clinic = clinicCount - clinic
 
 loop-holds : tie.Need-loop-holds Inv-loop μ-loop
 loop-holds c = none-printed _ _ _ _

@@ -1,8 +1,8 @@
 use native.Mathlib.Nat.{mul-le-mul}
 use native.Mathlib.Omega.{arith}
 use borrow.Author.Tests.{le-leb, lt-leb}
-use Rattle.planner.proofs.loaded.long_enough.Statement.{statement}
-use Rattle.planner.proofs.loaded.long_enough.Tie as tie
+use Rattle.row_writer.proofs.long_enough.Statement.{statement}
+use Rattle.row_writer.proofs.long_enough.Tie as tie
 
 mul-if1 : tie.Need-mul-if1
 mul-if1 c = let most = mul-le-mul (c .pre .1) (c .pre .0) in omega (arith, most)

@@ -2,9 +2,9 @@ use borrow.Author.Needs.{needs}
 use native.Mathlib.Omega.{arith}
 use borrow.Author.Tests.{not-true, not-false}
 use mathlib.Core.Path.{sym, _∙_}
-use Rattle.planner.proofs.Clinics.{nobody-held, clinic-narrow}
-use Rattle.planner.proofs.clinic_sheet.clinic_patients.Statement.{statement}
-use Rattle.planner.proofs.clinic_sheet.clinic_patients.Tie as tie
+use Rattle.region_sets.proofs.Clinics.{nobody-held, clinic-narrow}
+use Rattle.region_sets.proofs.clinic_patients.Statement.{statement}
+use Rattle.region_sets.proofs.clinic_patients.Tie as tie
 
 within-requires : tie.Need-within-requires
 within-requires c κs = search needs
