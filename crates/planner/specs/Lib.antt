@@ -1,8 +1,1 @@
-pub mod Later
 pub mod Loaded
-pub mod Counts
-pub mod Asked
-pub mod Found
-pub mod Lists
-pub mod Sheets
-pub mod Prices

@@ -1,7 +1,4 @@
 // The entries.
-pub mod clinic_sheet;
-pub mod loaded;
-
 ghost use mathlib.Core.Path.{_≡_};
 ghost use Rattle.definitions.specs.Questions.{checkOf};
 ghost use Rattle.definitions.specs.Outcomes.{listOutcome, sheetOutcome, priceOutcome};
@@ -9,12 +6,12 @@ ghost use Rattle.answers.specs.Answers.{checkedNumber, listedOutcome, sheetedOu
 use answers::Listed;
 use answers::Priced;
 use answers::Sheeted;
-use clinic_sheet::sheet_loaded;
 use held_region::FORBIDDEN;
 use held_region::Judged;
-use loaded::list_loaded;
-use loaded::price_region;
 use reader::load;
+use region_answers::clinic_sheet::sheet_loaded;
+use region_answers::list_loaded;
+use region_answers::price_region;
 
 // Questions 1 to 10.
 pub fn check(file: &[u8]) -> Judged

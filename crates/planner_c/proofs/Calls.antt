@@ -10,7 +10,7 @@ use Rattle.definitions.specs.Outcomes.{PriceOutcome, priced, written, priceFoun
 use Rattle.definitions.specs.Boundary.{bytesOf, resultAfter, priceCallOf, priceCall}
 use Rattle.theorems.specs.Answers.{yes-between}
 use Rattle.answers.specs.Answers.{notAllowed}
-use Rattle.planner.specs.Prices.{price-accepted, price-not-accepted}
+use Rattle.region_answers.specs.Prices.{price-accepted, price-not-accepted}
 
 -- Without room for the result, question 12 is answered no just after check's.
 module _ (file : List ℕ) (plan : Plan) where

@@ -21,7 +21,7 @@ use Rattle.theorems.specs.Answers.{asked-twice}
 use Rattle.theorems.specs.Tests.{both}
 use Rattle.theorems.specs.Accepted.{accepted, plans-wanted}
 use Rattle.byte_areas.specs.Costs.{held-costs, stored-costs}
-use Rattle.planner.specs.Found.{foundWith, AsksTwelve}
+use Rattle.region_answers.specs.Found.{foundWith, AsksTwelve}
 use Rattle.planner_c.specs.Room.{costRoom}
 
 -- The costs that the entry may leave are those that fit, if m is 1 to 64.

@@ -14,9 +14,9 @@ use Rattle.reader.specs.declared.Loaded.{Loaded}
 use Rattle.reader.specs.Loading.{LoadedFrom, checks}
 use Rattle.theorems.specs.Refusals.{after-check}
 use Rattle.theorems.specs.Refused.{refused-alike}
-use Rattle.planner.specs.Later.{refusal-number}
+use Rattle.region_answers.specs.Later.{refusal-number}
 use Rattle.planner.specs.Loaded.{region-fine}
-use Rattle.planner.specs.Found.{lastAsked}
+use Rattle.region_answers.specs.Found.{lastAsked}
 use Rattle.text_writer.specs.Wrote.{Room, Wrote}
 use Rattle.row_printer.specs.Whole.{printed-size}
 use Rattle.printer.specs.Printing.{PrintOutcome, printOutcome}

@@ -2,14 +2,14 @@ use Rattle.reader.specs.Loading.{checks}
 use Rattle.definitions.specs.Plans.{listOf}
 use Rattle.definitions.specs.Questions.{areasLongEnough}
 use Rattle.definitions.specs.Outcomes.{foundBy, outcomeOf}
-use Rattle.planner.specs.Found.{lastAsked}
+use Rattle.region_answers.specs.Found.{lastAsked}
 use borrow.Author.Needs.{needs}
 use mathlib.Core.Path.{ap, sym, _∙_}
 use denote.Ref.{now}
 use Rattle.answers.specs.Answers.{checkedNumber}
 use Rattle.planner.specs.Loaded.{accepted-fine, region-fine}
-use Rattle.planner.specs.Found.{refused-entry, accepted-entry}
-use Rattle.planner.specs.Lists.{list-outcome}
+use Rattle.region_answers.specs.Found.{refused-entry, accepted-entry}
+use Rattle.region_answers.specs.Lists.{list-outcome}
 use Rattle.planner.proofs.list.Statement.{statement}
 use Rattle.planner.proofs.list.Tie as tie
 

@@ -4,13 +4,13 @@ use Rattle.definitions.specs.Syntax.{patientsOf}
 use Rattle.definitions.specs.Basics.{length}
 use Rattle.definitions.specs.Questions.{areasLongEnough}
 use Rattle.definitions.specs.Outcomes.{foundBy, outcomeOf}
-use Rattle.planner.specs.Sheets.{lateAsked, sheet-outcome}
+use Rattle.region_answers.specs.Sheets.{lateAsked, sheet-outcome}
 use borrow.Author.Needs.{needs}
 use mathlib.Core.Path.{ap, sym, _∙_}
 use denote.Ref.{now}
 use Rattle.answers.specs.Answers.{checkedNumber}
 use Rattle.planner.specs.Loaded.{accepted-fine, region-fine}
-use Rattle.planner.specs.Found.{refused-entry, accepted-entry}
+use Rattle.region_answers.specs.Found.{refused-entry, accepted-entry}
 use Rattle.planner.proofs.sheet.Statement.{statement}
 use Rattle.planner.proofs.sheet.Tie as tie
 

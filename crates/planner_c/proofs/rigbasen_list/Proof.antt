@@ -6,7 +6,7 @@ use lib.ListN.{length, take, replicate, length-replicate}
 use denote.Ref.{now}
 use Rattle.definitions.specs.Outcomes.{listFound, listOutcome}
 use Rattle.definitions.specs.Questions.{workSize, entryAsks, askedByList}
-use Rattle.planner.specs.Lists.{list-twelve}
+use Rattle.region_answers.specs.Lists.{list-twelve}
 use Rattle.planner_c.specs.Room.{costRoom}
 use Rattle.planner_c.proofs.RowCalls.{room-most, lent-long, rows-room, called, list-call}
 use Rattle.planner_c.proofs.rigbasen_list.Statement.{statement}

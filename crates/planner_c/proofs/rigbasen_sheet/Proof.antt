@@ -6,7 +6,7 @@ use lib.ListN.{length, take, replicate, length-replicate}
 use denote.Ref.{now}
 use Rattle.definitions.specs.Outcomes.{sheetFound, sheetOutcome}
 use Rattle.definitions.specs.Questions.{workSize, entryAsks, askedBySheet}
-use Rattle.planner.specs.Sheets.{sheet-twelve}
+use Rattle.region_answers.specs.Sheets.{sheet-twelve}
 use Rattle.planner_c.specs.Room.{costRoom}
 use Rattle.planner_c.proofs.RowCalls.{room-most, lent-long, rows-room, called, sheet-call}
 use Rattle.planner_c.proofs.rigbasen_sheet.Statement.{statement}

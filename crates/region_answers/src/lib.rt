@@ -1,8 +1,10 @@
-// The entries over the region of an accepted file.
+// What list, sheet and price answer of the region of an accepted file.
+pub mod clinic_sheet;
+
 ghost use Rattle.theorems.specs.Accepted.{Accepted};
 ghost use Rattle.held_region.specs.Meaning.{said};
-ghost use Rattle.planner.specs.Prices.{RegionPriced};
-ghost use Rattle.planner.specs.Lists.{RegionListed};
+ghost use Rattle.region_answers.specs.Prices.{RegionPriced};
+ghost use Rattle.region_answers.specs.Lists.{RegionListed};
 use answers::Listed;
 use answers::Priced;
 use buckets::prepare;

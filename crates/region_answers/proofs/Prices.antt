@@ -19,8 +19,8 @@ use Rattle.pricing.specs.Pricing.{costIn, AsksAll, GivesAll, PlanAsked}
 use Rattle.answers.specs.declared.Priced.{Priced}
 use Rattle.answers.specs.declared.Priced.the-variants.{Misfit}
 use Rattle.answers.specs.Answers.{pricedOutcome}
-use Rattle.planner.specs.Counts.{counts-few}
-use Rattle.planner.specs.Prices.{RegionPriced, fitting}
+use Rattle.region_answers.specs.Counts.{counts-few}
+use Rattle.region_answers.specs.Prices.{RegionPriced, fitting}
 
 module _ (h : Region) (store : List ℕ) {words terms : List ℕ} (plan : List ℕ) (pre : Accepted (said h store))
     (prepared : Prepared (said h store) store words terms) {answer : Bool} (asked : PlanAsked words (h .v) plan answer) where

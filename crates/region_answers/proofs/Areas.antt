@@ -18,7 +18,7 @@ use Rattle.row_list.specs.Rows.{rowIn, rowsIn}
 use Rattle.row_list.specs.Laws.{cut-long, cut-at}
 use Rattle.row_writer.specs.Writing.{longEnough, RowsWritten}
 use Rattle.search.specs.Trees.{AsksRegion}
-use Rattle.planner.specs.Found.{outcomeWith}
+use Rattle.region_answers.specs.Found.{outcomeWith}
 
 -- Question 12 of the areas is that of their lengths.
 asked-same : (h : Region) (store beds costs work : List ℕ)

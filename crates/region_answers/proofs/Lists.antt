@@ -17,15 +17,15 @@ use Rattle.held_region.specs.Meaning.{said}
 use Rattle.row_list.specs.Rows.{rowsIn}
 use Rattle.row_list.specs.Laws.{rows-take}
 use Rattle.row_sums.specs.Sums.{part}
-use Rattle.row_writer.specs.Writing.{Writable, RowsWritten}
+use Rattle.row_writer.specs.Writing.{longEnough, Writable, RowsWritten}
 use Rattle.search.specs.Trees.{GivesRegion}
 use Rattle.answers.specs.declared.Listed.the-variants.{Short, Nothing, Rows}
 use Rattle.answers.specs.Answers.{listedOutcome}
-use Rattle.planner.specs.Counts.{counts-few}
-use Rattle.planner.specs.Asked.{no-list, list-none, list-some}
-use Rattle.planner.specs.Found.{lastAsked, no-twelve, no-thirteen, no-refusal, asked-outcome}
-use Rattle.planner.specs.Lists.{longEnough, RegionListed}
-use Rattle.planner.proofs.Areas.{question, all-long, rows-counted, narrow, written-out}
+use Rattle.region_answers.specs.Counts.{counts-few}
+use Rattle.region_answers.specs.Asked.{no-list, list-none, list-some}
+use Rattle.region_answers.specs.Found.{lastAsked, no-twelve, no-thirteen, no-refusal, asked-outcome}
+use Rattle.region_answers.specs.Lists.{RegionListed}
+use Rattle.region_answers.proofs.Areas.{question, all-long, rows-counted, narrow, written-out}
 
 -- A list that was found, and where its rows lie.
 module _ (h : Region) (store : List ℕ) (accepted : Accepted (said h store)) {n : ℕ} {work area : List ℕ} (gives : GivesRegion h store work area n) where

@@ -1,11 +1,11 @@
 use borrow.Author.Needs.{needs}
 use denote.Ref.{now}
 use borrow.Author.Tests.{not-true, not-false}
-use Rattle.planner.specs.Counts.{counts-few}
-use Rattle.planner.proofs.Areas.{asks-list}
-use Rattle.planner.proofs.Lists.{listed-short, writable, listed-nothing, listed-rows}
-use Rattle.planner.proofs.loaded.list_loaded.Statement.{statement}
-use Rattle.planner.proofs.loaded.list_loaded.Tie as tie
+use Rattle.region_answers.specs.Counts.{counts-few}
+use Rattle.region_answers.proofs.Areas.{asks-list}
+use Rattle.region_answers.proofs.Lists.{listed-short, writable, listed-nothing, listed-rows}
+use Rattle.region_answers.proofs.list_loaded.Statement.{statement}
+use Rattle.region_answers.proofs.list_loaded.Tie as tie
 
 long-enough-requires : tie.Need-long-enough-requires
 long-enough-requires c κs = counts-few _ _ (c .before .before .before .pre)

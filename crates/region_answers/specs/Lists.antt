@@ -7,7 +7,7 @@ use Rattle.definitions.specs.Outcomes.{foundBy, listFound, outcomeOf, listOutco
 use Rattle.theorems.specs.List.{list-first}
 use Rattle.answers.specs.declared.Listed.{Listed}
 use Rattle.answers.specs.Answers.{listedOutcome}
-use Rattle.planner.specs.Found.{lastAsked, AsksTwelve, asks-twelve}
+use Rattle.region_answers.specs.Found.{lastAsked, AsksTwelve, asks-twelve}
 
 -- What list gives, of what a held region and its store say, once questions 1 to 10 are answered yes.
 abbrev pub RegionListed : Said.Region → List ℕ → List ℕ → List ℕ → Listed → List ℕ → List ℕ → List ℕ → Type 0

@@ -1,0 +1,7 @@
+pub mod Later
+pub mod Counts
+pub mod Asked
+pub mod Found
+pub mod Lists
+pub mod Sheets
+pub mod Prices
