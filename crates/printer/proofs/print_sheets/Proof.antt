@@ -1,16 +1,24 @@
 use borrow.Author.Needs.{needs}
 use denote.Ref.{now}
 use Prim.Native.Nat.{_-_}
-use Rattle.printer.specs.Steps.{clinicCount}
+use native.Mathlib.Omega.{arith}
+use Rattle.definitions.specs.Limits.{limits}
 use Rattle.printer.proofs.Sheets.{Printed, none-printed, asks-clinic, clinic-more, all-printed}
 use Rattle.printer.proofs.print_sheets.Statement.{statement}
 use Rattle.printer.proofs.print_sheets.Tie as tie
 
 abbrev Inv-loop : tie.InvT-loop
-Inv-loop out₀ at work₀ region store n next₀ clinic₀ out work next clinic = Printed region store n clinic at out₀ work₀ out work next
+Inv-loop out₀ at work₀ region store n clinics next₀ clinic₀ out work next clinic = Printed region store n clinic at out₀ work₀ out work next
 
 abbrev μ-loop : tie.MeasureT-loop
-μ-loop out₀ at work₀ region store n next₀ clinic₀ out work next clinic = clinicCount - clinic
+μ-loop out₀ at work₀ region store n clinics next₀ clinic₀ out work next clinic = clinics - clinic
+
+highest-requires : tie.Need-highest-requires Inv-loop μ-loop
+highest-requires c κs = search needs
+
+add-clinics : tie.Need-add-clinics Inv-loop μ-loop
+unfolding limits
+add-clinics c = omega (arith, c .highest .ensures)
 
 loop-holds : tie.Need-loop-holds Inv-loop μ-loop
 loop-holds c = none-printed _ _ _ _
@@ -19,11 +27,16 @@ print-clinic-requires : tie.Need-print-clinic-requires Inv-loop μ-loop
 print-clinic-requires c κs =
     let turn = c .before .before in
     let l = turn .before .loop in
-    let start = turn .before .before .before .before in
-    asks-clinic _ _ (now (start .args .out)) (now (start .args .work)) (l .clinic) (l .inv) (start .pre) (turn .loop-test .taken)
+    let limit = turn .before .before in
+    let start = limit .before .before .before in
+    asks-clinic _ _ (now (start .args .out)) (now (start .args .work)) (l .clinic) (l .inv) (start .pre)
+    (omega (arith, limit .highest .ensures, turn .loop-test .taken))
 
 add-clinic : tie.Need-add-clinic Inv-loop μ-loop
-add-clinic c = search needs
+unfolding limits
+add-clinic c =
+    let turn = c .before .before .before .before .before .before .before in
+    omega (arith, turn .before .before .highest .ensures, turn .loop-test .taken)
 
 loop-less : tie.Need-loop-less Inv-loop μ-loop
 loop-less c = search needs
@@ -33,7 +46,8 @@ loop-again c =
     let printed = c .before .before .before .before in
     let turn = printed .before .before .before in
     let l = turn .before .loop in
-    clinic-more _ _ _ _ (l .clinic) (l .inv) (turn .loop-test .taken) (printed .print-clinic .ensures)
+    let limit = turn .before .before in
+    clinic-more _ _ _ _ (l .clinic) (l .inv) (omega (arith, limit .highest .ensures, turn .loop-test .taken)) (printed .print-clinic .ensures)
 
 same-length : tie.Need-same-length Inv-loop μ-loop
 same-length c =
@@ -43,7 +57,9 @@ same-length-2 : tie.Need-same-length-2 Inv-loop μ-loop
 same-length-2 c = search needs
 
 returns : tie.Need-returns Inv-loop μ-loop
-returns c = let l = c .before .loop in all-printed _ _ _ _ (l .clinic) (l .inv) (c .loop-test .left)
+returns c =
+    let l = c .before .loop in
+    all-printed _ _ _ _ (l .clinic) (l .inv) (omega (arith, c .before .before .highest .ensures, c .loop-test .left))
 
 pub print-sheets-spec : {M : Type 1} → statement M
 print-sheets-spec =
@@ -51,6 +67,8 @@ print-sheets-spec =
     (tie.spec
     Inv-loop
     μ-loop
+    highest-requires
+    add-clinics
     loop-holds
     print-clinic-requires
     add-clinic
