@@ -8,7 +8,7 @@ use borrow.Author.Tests.{ltb-true, lt-ltb, le-ltb, eq-eqb, ne-eqb}
 use Rattle.definitions.specs.Basics.{ℕ, suc, _+_, _-_, _<_, _≡_, refl, min, Bool, true, false, cond, Option, none, some, Option·getD, noneOr, List, [], _∷_, map, length, getD, ltb, eqb, numbersFrom, every}
 use Rattle.partial_rows.specs.Bounds.{smaller, leastOf}
 use Rattle.held_region.specs.Meaning.{mark, codeOf}
-use Rattle.held_region.specs.Places.{placesFrom, places-next, places-done}
+use Rattle.lists.specs.Loops.{placesFrom, places-next, places-done}
 
 -- The least of a number and some others.
 unfoldable pub lowest : ℕ → List ℕ → ℕ

@@ -10,7 +10,7 @@ use Rattle.definitions.specs.Limits.{within, entryCount}
 use Rattle.definitions.specs.Questions.{entryCountsRight}
 use Rattle.held_region.specs.declared.Region.{Region}
 use Rattle.held_region.specs.Meaning.{tableIn, membersOf, startIn, said}
-use Rattle.held_region.specs.Places.{askedFrom, ask-all, ask-yes, ask-no, ask-done}
+use Rattle.lists.specs.Loops.{askedFrom, ask-all, ask-yes, ask-no, ask-done}
 use Rattle.held_region.specs.Stores.{entriesOf}
 use Rattle.held_region.specs.Sound.{Sound, bedsIn}
 use Rattle.held_region.specs.Entries.{countsMatch, counts-asked, total-said, product-small}

@@ -13,7 +13,8 @@ use Rattle.held_region.specs.declared.Region.{Region}
 use Rattle.held_region.specs.Meaning.{parentOf, patientIn, said}
 use Rattle.held_region.specs.Sound.{ParentsFirst, parents-first}
 use Rattle.held_region.specs.Asked.{patient-said}
-use Rattle.held_region.specs.Ancestors.{parent-below, ancestors-root, ancestors-next}
+use Rattle.theorems.specs.Accepted.{parent-below}
+use Rattle.held_region.specs.Ancestors.{ancestors-root, ancestors-next}
 use Rattle.forest.specs.Trees.{rootFrom}
 
 -- A root's root is itself; any other patient has its parent's.

@@ -1,13 +1,11 @@
 pub mod Meaning
 pub mod Limits
-pub mod Places
 pub mod Stores
 pub mod Asked
 pub mod Members
 pub mod Sound
 pub mod Entries
 pub mod Ancestors
-pub mod Chains
 pub mod Sets
 pub mod Related
 pub mod Refusals

@@ -11,7 +11,7 @@ use Rattle.theorems.specs.Accepted.{Accepted, at-most}
 use Rattle.held_region.specs.declared.Patient.{Patient}
 use Rattle.held_region.specs.declared.Region.{Region}
 use Rattle.held_region.specs.Meaning.{noPatient, patientOf, patientIn, tableIn, membersOf, said}
-use Rattle.held_region.specs.Places.{length-by-places, every-place}
+use Rattle.lists.specs.Below.{length-by-places, every-place}
 use Rattle.held_region.specs.Asked.{patientFits, patients-asked, parents-asked}
 use Rattle.held_region.specs.Members.{membersFit, members-asked, every-member}
 

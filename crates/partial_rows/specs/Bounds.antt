@@ -13,7 +13,8 @@ use Rattle.theorems.specs.Sums.{Halves, halves, sum-split}
 use Rattle.partial_rows.specs.Adding.{addBeds, addRows}
 use Rattle.partial_rows.specs.Sets.{Patients, only, Splits}
 use Rattle.partial_rows.specs.Rows.{holds, tablesOf, decidedTables, LowerBound, Step, Position}
-use Rattle.partial_rows.specs.Costs.{keep-same, keep-keep, cost-cons}
+use Rattle.partial_rows.specs.Costs.{cost-cons}
+use Rattle.lists.specs.Keep.{keep-keep, keep-same}
 use Rattle.partial_rows.specs.Splitting.{row-together}
 use Rattle.partial_rows.specs.Branches.{placed-next, bed-step}
 

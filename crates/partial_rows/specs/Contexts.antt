@@ -5,8 +5,8 @@ use native.Mathlib.Omega.{arith}
 use Rattle.definitions.specs.Basics.{ℕ, _≡_, refl, Bool, true, _||_}
 use Rattle.definitions.specs.Syntax.{Table, Region}
 use Rattle.definitions.specs.Plans.{Plan, bedOf, constraints, Row}
-use Rattle.ranking.specs.Members.{_∈_}
-use Rattle.theorems.specs.Kept.{keep-out}
+use Rattle.lists.specs.Members.{_∈_}
+use Rattle.lists.specs.Keep.{keep-out}
 use Rattle.partial_rows.specs.Sets.{Patients, Part, first, second, neither, Splits}
 use Rattle.partial_rows.specs.Adding.{addBeds, add-at}
 use Rattle.partial_rows.specs.Rows.{holds, tablesOf, Closed, RowOf}

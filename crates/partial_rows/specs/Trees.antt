@@ -11,11 +11,11 @@ use Rattle.definitions.specs.Basics.{eqb, ltb, contains}
 use Rattle.definitions.specs.Syntax.{Table, Region, patientAt}
 use Rattle.definitions.specs.Plans.{constraints}
 use Rattle.definitions.specs.Questions.{following, ancestors}
-use Rattle.ranking.specs.Members.{_∈_, here, there, here-or-there, none-in-nil}
+use Rattle.lists.specs.Tests.{same-answer}
+use Rattle.lists.specs.Members.{_∈_, here, there, here-or-there, none-in-nil}
+use Rattle.lists.specs.Every.{any-out, contains-in, contains-out}
 use Rattle.ranking.specs.Orders.{View, before, equal, after, ℕ-view}
-use Rattle.theorems.specs.Tests.{same-answer}
-use Rattle.theorems.specs.Kept.{any-out, contains-in, contains-out}
-use Rattle.theorems.specs.Accepted.{Accepted, parent-smaller, constraint-related}
+use Rattle.theorems.specs.Accepted.{Accepted, parent-below, constraint-related}
 use Rattle.partial_rows.specs.Sets.{Patients, Part, first, second, neither, Splits}
 use Rattle.partial_rows.specs.Rows.{Closed}
 use Rattle.partial_rows.specs.Parts.{Apart}
@@ -69,18 +69,18 @@ module _ (region : Region) (accepted : Accepted region) where
     where
       go : (o : Option ℕ) → patientAt region s .parent ≡ o → Rooted region s s
       go none e = top e refl
-      go (some p) e = absurd (omega (arith, few p e, parent-smaller region accepted s p e .0))
+      go (some p) e = absurd (omega (arith, few p e, parent-below region (accepted .parentsFit) s p e .1))
   rooted-after (suc k) s few = go (patientAt region s .parent) refl (rooted-after k)
     where
       go : (o : Option ℕ) → patientAt region s .parent ≡ o
           → ((p : ℕ) → ((q : ℕ) → patientAt region p .parent ≡ some q → p ≤ k) → Rooted region (lastFrom p (following region k (patientAt region p .parent))) p)
           → Rooted region (lastFrom s (following region (suc k) o)) s
       go none e ih = top e refl
-      go (some p) e ih = up p e (ih p (λ q d. omega (arith, few p e, parent-smaller region accepted s p e .0)))
+      go (some p) e ih = up p e (ih p (λ q d. omega (arith, few p e, parent-below region (accepted .parentsFit) s p e .1)))
 
   rooted : (s : ℕ) → Rooted region (rootOf region s) s
   unfolding rootOf ancestors
-  rooted s = rooted-after (length (region .patients)) s (λ p e. omega (arith, parent-smaller region accepted s p e .1))
+  rooted s = rooted-after (length (region .patients)) s (λ p e. omega (arith, parent-below region (accepted .parentsFit) s p e .0))
 
   -- A patient has the root of its ancestors, and the root has no parent and no larger number.
   root-of-ancestor : (a b : ℕ) → b ∈ ancestors region a → rootOf region a ≡ rootOf region b
@@ -95,7 +95,7 @@ module _ (region : Region) (accepted : Accepted region) where
     where
       go : {r s : ℕ} → Rooted region r s → r ≤ s
       go (top e h) = omega arith
-      go {s} (up p e h) = omega (arith, go h, parent-smaller region accepted s p e .0)
+      go {s} (up p e h) = omega (arith, go h, parent-below region (accepted .parentsFit) s p e .1)
 
   -- The tree of a patient holds patients only.
   pub tree-known : (r s : ℕ) → r < length (region .patients) → treeOf region r s ≡ true → s < length (region .patients)
@@ -103,7 +103,7 @@ module _ (region : Region) (accepted : Accepted region) where
     where
       go : Rooted region r s → s < length (region .patients)
       go (top q d) = rw (← d) h
-      go (up p q d) = parent-smaller region accepted s p q .1
+      go (up p q d) = parent-below region (accepted .parentsFit) s p q .0
 
   -- The tree of a root: the root, and the patients that have it as an ancestor.
   pub tree-members : (r s : ℕ) → patientAt region r .parent ≡ none → treeOf region r s ≡ contains (s ∷ ancestors region s) r

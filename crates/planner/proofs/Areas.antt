@@ -9,8 +9,8 @@ use Rattle.definitions.specs.Basics.{ℕ, _*_, _<_, Bool, true, _&&_, List, [],
 use Rattle.definitions.specs.Plans.{Row}
 use Rattle.definitions.specs.Questions.{roomForRows, areasLongEnough}
 use Rattle.definitions.specs.Outcomes.{written, outcomeOf}
-use Rattle.ranking.specs.Members.{_∈_, getD-in}
-use Rattle.theorems.specs.Tests.{both}
+use Rattle.lists.specs.Tests.{both}
+use Rattle.lists.specs.Members.{_∈_, getD-in}
 use Rattle.theorems.specs.Accepted.{Accepted}
 use Rattle.held_region.specs.declared.Region.{Region}
 use Rattle.held_region.specs.Meaning.{said}

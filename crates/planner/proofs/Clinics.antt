@@ -11,9 +11,9 @@ use Rattle.definitions.specs.Syntax.{patientsOf}
 use Rattle.definitions.specs.Plans.{Row}
 use Rattle.definitions.specs.Sheets.{ownRow, sheetOf}
 use Rattle.definitions.specs.Questions.{patientsWithin, clinicPresent}
-use Rattle.ranking.specs.Members.{_∈_}
-use Rattle.theorems.specs.Tests.{both}
-use Rattle.theorems.specs.Kept.{every-in, any-out}
+use Rattle.lists.specs.Tests.{both}
+use Rattle.lists.specs.Members.{_∈_}
+use Rattle.lists.specs.Every.{every-in, any-out}
 use Rattle.theorems.specs.Accepted.{Accepted, at-most, own-small}
 use Rattle.theorems.specs.SheetRows.{sheet-rows}
 use Rattle.patient_set.specs.Sets.{members}

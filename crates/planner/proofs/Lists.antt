@@ -8,7 +8,7 @@ use Rattle.definitions.specs.Syntax as Said
 use Rattle.definitions.specs.Plans.{Row, listOf}
 use Rattle.definitions.specs.Questions.{areasLongEnough}
 use Rattle.definitions.specs.Outcomes.{written, outcomeOf}
-use Rattle.ranking.specs.Members.{_∈_}
+use Rattle.lists.specs.Members.{_∈_}
 use Rattle.theorems.specs.Accepted.{Accepted, total-small}
 use Rattle.theorems.specs.List.{list-first}
 use Rattle.partial_rows.specs.Padding.{cut}

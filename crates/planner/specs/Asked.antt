@@ -6,7 +6,7 @@ use Rattle.definitions.specs.Syntax as Said
 use Rattle.definitions.specs.Syntax.{patientNumbers, patientAt, patientsOf}
 use Rattle.definitions.specs.Plans.{Row, listOf}
 use Rattle.definitions.specs.Questions.{clinicPresent, planAllowed}
-use Rattle.theorems.specs.Below.{by-number}
+use Rattle.lists.specs.Below.{by-number}
 use Rattle.theorems.specs.List.{list-empty}
 use Rattle.theorems.specs.Accepted.{Accepted, plans-wanted}
 

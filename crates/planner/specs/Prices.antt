@@ -8,9 +8,9 @@ use Rattle.definitions.specs.Syntax as Said
 use Rattle.definitions.specs.Plans.{Plan, bedOf, total}
 use Rattle.definitions.specs.Questions.{firstNo, regionOf, checkOf, planFits, askedByPrice}
 use Rattle.definitions.specs.Outcomes.{PriceOutcome, priced, priceFound}
-use Rattle.theorems.specs.Tests.{both}
+use Rattle.lists.specs.Tests.{both}
+use Rattle.lists.specs.Below.{every-place}
 use Rattle.theorems.specs.Accepted.{Accepted, patients-counted}
-use Rattle.held_region.specs.Places.{every-place}
 use Rattle.buckets.specs.Terms.{Fitting}
 use Rattle.answers.specs.declared.Priced.{Priced}
 use Rattle.answers.specs.Answers.{notAllowed, pricedOutcome}

@@ -13,7 +13,7 @@ use Rattle.definitions.specs.Syntax.{Region}
 use Rattle.definitions.specs.Questions.{checkOf, regionOf, roomForRows, areasLongEnough}
 use Rattle.definitions.specs.Outcomes.{Found, ListOutcome, written, outcomeOf}
 use Rattle.definitions.specs.Boundary.{bytesOf, resultAfter, callAreasLongEnough, callOf}
-use Rattle.theorems.specs.Tests.{both}
+use Rattle.lists.specs.Tests.{both}
 use Rattle.theorems.specs.Accepted.{accepted, plans-wanted}
 use Rattle.byte_areas.specs.Costs.{held-costs, stored-costs}
 use Rattle.planner.specs.Found.{AsksTwelve}

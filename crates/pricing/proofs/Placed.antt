@@ -10,7 +10,7 @@ use Rattle.definitions.specs.Basics.{ℕ, _+_, _<_, Bool, true, false, _&&_, Li
 use Rattle.definitions.specs.Syntax.{patientAt}
 use Rattle.definitions.specs.Plans.{bedOf}
 use Rattle.definitions.specs.Questions.{planFits}
-use Rattle.held_region.specs.Places.{same-tests}
+use Rattle.lists.specs.Below.{same-tests}
 use Rattle.buckets.specs.Terms.{bedsAt}
 use Rattle.pricing.specs.Pricing.{PlanAsked}
 

@@ -4,7 +4,7 @@ use mathlib.Core.Logic.{_⊎_, inl, inr, _↔_}
 use native.Mathlib.Omega.{arith}
 use Prim.Native.Nat.{_≤_}
 use Rattle.definitions.specs.Basics.{ℕ, zero, suc, _<_, Ordering, _≡_, refl, List, [], _∷_, length, getD, take}
-use Rattle.ranking.specs.Members.{_∈_, _⊆_, here, there, here-or-there, none-in-nil, getD-in, Distinct}
+use Rattle.lists.specs.Members.{_∈_, _⊆_, getD-in, Distinct, here, there, here-or-there, none-in-nil}
 use Rattle.ranking.specs.Orders.{Order, View, before, equal, after}
 
 module _ {A : Type 0} (O : Order A) where

@@ -4,7 +4,7 @@ use Prim.Native.Nat.{_≤_}
 use Rattle.definitions.specs.Basics.{ℕ, _+_, _*_, _<_, _≡_, List, map, length, getD, take, below, insert}
 use Rattle.definitions.specs.Plans as Said
 use Rattle.definitions.specs.Plans.{compareRows}
-use Rattle.ranking.specs.Members.{_∈_}
+use Rattle.lists.specs.Members.{_∈_}
 use Rattle.ranking.specs.Rising.{Rising}
 use Rattle.theorems.specs.List.{rowOrder}
 use Rattle.partial_rows.specs.Padding.{cut}

@@ -7,7 +7,7 @@ use lib.Seq.{take-nil}
 use Rattle.definitions.specs.Basics.{ℕ, _+_, _<_, List, _∷_, _++_, map, length, take, insert, sort, flatMap}
 use Rattle.definitions.specs.Plans as Said
 use Rattle.definitions.specs.Plans.{compareRows}
-use Rattle.ranking.specs.Members.{_∈_, getD-in}
+use Rattle.lists.specs.Members.{_∈_, getD-in}
 use Rattle.ranking.specs.Sorting.{take-insert}
 use Rattle.ranking.specs.Combining.{cross}
 use Rattle.ranking.specs.Rising.{Rising, rising-sort, rising-take}

@@ -11,7 +11,7 @@ use Rattle.definitions.specs.Basics.{ℕ, zero, suc, _+_, _*_, _<_, Bool, true,
 use Rattle.definitions.specs.Syntax.{Region}
 use Rattle.definitions.specs.Plans.{Plan, Row, bedOf}
 use mathlib.Core.Logic.{inl, inr}
-use Rattle.ranking.specs.Members.{_∈_, here-or-there, none-in-nil, in-map}
+use Rattle.lists.specs.Members.{_∈_, here-or-there, none-in-nil, in-map}
 use Rattle.ranking.specs.First.{First, first-iff, Sorted}
 use Rattle.ranking.specs.Growing.{Grown, Ready, ready-nil}
 use Rattle.ranking.specs.Combining.{Combined, Injective}

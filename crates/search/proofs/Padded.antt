@@ -5,7 +5,7 @@ use Prim.Native.Nat.{_≤_}
 use native.Mathlib.Omega.{arith}
 use Rattle.definitions.specs.Basics.{ℕ, zero, suc, _-_, _<_, not, _&&_, eqb, List, [], _∷_, map, length, take, insert}
 use Rattle.definitions.specs.Plans.{Row, bedOf, compareRows}
-use Rattle.ranking.specs.Members.{_∈_, getD-in, in-map, in-map-cases}
+use Rattle.lists.specs.Members.{_∈_, getD-in, in-map, in-map-cases}
 use Rattle.ranking.specs.First.{First, first-iff}
 use Rattle.ranking.specs.Combining.{Combined, Injective}
 use Rattle.ranking.specs.Rising.{Rising}

@@ -12,7 +12,7 @@ use Rattle.definitions.specs.Plans.{Row, costOver, compareRows}
 use Rattle.ranking.specs.Orders.{View, before, equal, after}
 use Rattle.ranking.specs.Growing.{Grown, Ready}
 use Rattle.ranking.specs.Rising.{sorted-rising}
-use Rattle.theorems.specs.Tests.{both}
+use Rattle.lists.specs.Tests.{both}
 use Rattle.theorems.specs.List.{rowOrder}
 use Rattle.theorems.specs.Accepted.{beds-few}
 use Rattle.patient_set.specs.Sets.{first}

@@ -4,7 +4,7 @@ use Prim.Native.Nat.{_≤_}
 use Rattle.definitions.specs.Basics.{ℕ, _+_, _-_, _*_, _<_, _≡_, Bool, not, _&&_, Option, List, _∷_, map, length, take, sum, eqb, contains}
 use Rattle.definitions.specs.Syntax.{Region, patientAt}
 use Rattle.definitions.specs.Plans.{Row, bedOf, costOver, compareRows}
-use Rattle.ranking.specs.Members.{_∈_}
+use Rattle.lists.specs.Members.{_∈_}
 use Rattle.ranking.specs.Growing.{Grown, Ready}
 use Rattle.theorems.specs.List.{rowOrder}
 use Rattle.patient_set.specs.declared.PatientSet.{PatientSet}

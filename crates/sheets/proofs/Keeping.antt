@@ -9,7 +9,7 @@ use native.Mathlib.Omega.{arith}
 use Rattle.definitions.specs.Basics.{ℕ, _+_, Bool, true, false, _||_, cond, List, [], _∷_, _++_, map, any, firstOccurrences}
 use Rattle.definitions.specs.Plans as Said
 use Rattle.definitions.specs.Sheets.{sameBeds}
-use Rattle.ranking.specs.Members.{_∈_, here, there, here-or-there, none-in-nil, in-append-cases}
+use Rattle.lists.specs.Members.{_∈_, here, there, here-or-there, none-in-nil, in-append-cases}
 use Rattle.partial_rows.specs.Padding.{cut, Padded, cut-same}
 use Rattle.packed_rows.specs.declared.Row.{Row}
 use Rattle.packed_rows.specs.Packed.{rowOf}

@@ -9,15 +9,16 @@ use Rattle.definitions.specs.Syntax.{Region, patientAt, patientsOf}
 use Rattle.definitions.specs.Plans as Said
 use Rattle.definitions.specs.Plans.{bedOf, entryFor, costOver, constraints, total}
 use Rattle.definitions.specs.Sheets.{part, ownTables, ownCost, ownRow}
-use Rattle.ranking.specs.Members.{_∈_, getD-in, in-map-cases}
-use Rattle.theorems.specs.List.{Allowed, numbers-enumerate}
-use Rattle.theorems.specs.Kept.{every-in, every-all}
+use Rattle.lists.specs.Members.{_∈_, getD-in, in-map-cases}
+use Rattle.lists.specs.Every.{every-in, every-all}
+use Rattle.lists.specs.Keep.{every-keep}
+use Rattle.lists.specs.Maps.{map-same}
+use Rattle.lists.specs.Below.{numbers-enumerate}
+use Rattle.theorems.specs.List.{Allowed}
 use Rattle.patient_set.specs.Sets.{members}
 use Rattle.patient_set.specs.Laws.{size-most}
-use Rattle.patient_set.specs.Lists.{every-keep}
 use Rattle.partial_rows.specs.Beds.{inside, fits-beds}
 use Rattle.partial_rows.specs.Padding.{cut}
-use Rattle.held_region.specs.Places.{same-maps}
 use Rattle.buckets.specs.Terms.{Fitting, fitting-low}
 use Rattle.buckets.specs.WithTables.{withTables}
 use Rattle.buckets.specs.Among.{isAmong}
@@ -65,7 +66,7 @@ module _ {r : Region} {clinic : ℕ} {store patients terms : List ℕ} {v set : 
   unfolding part
   own-beds beds taken is =
       is ∙ ap (map (bedOf beds)) (own .ofClinic)
-      ∙ same-maps (λ s. ltb s v) (bedOf beds) (bedOf (take v beds)) (λ s l. sym (getD-take v beds s 0 (ltb-true s v l))) (patientsOf r clinic) patients-known
+      ∙ map-same (bedOf beds) (bedOf (take v beds)) (patientsOf r clinic) (λ s k. sym (getD-take v beds s 0 (ltb-true s v (every-in _ (patientsOf r clinic) patients-known k))))
 
   own-cost : (beds : List ℕ) (cost first : ℕ) → Fitting r beds → Priced store patients terms v beds first → first ≡ ownCost r clinic (record { cost = cost; beds = take v beds })
   unfolding ownCost ownTables total constraints costOver entryFor patientAt

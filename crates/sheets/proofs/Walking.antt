@@ -10,7 +10,7 @@ use Rattle.definitions.specs.Syntax.{Region}
 use Rattle.definitions.specs.Plans as Said
 use Rattle.definitions.specs.Plans.{listOf}
 use Rattle.definitions.specs.Sheets.{ownRow, sheetOf}
-use Rattle.ranking.specs.Members.{_∈_, none-in-nil, getD-in}
+use Rattle.lists.specs.Members.{_∈_, getD-in, none-in-nil}
 use Rattle.theorems.specs.List.{right-list}
 use Rattle.patient_set.specs.Sets.{members}
 use Rattle.patient_set.specs.Laws.{size-most}

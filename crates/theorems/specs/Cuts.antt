@@ -12,7 +12,7 @@ use Rattle.definitions.specs.Questions.{Asked, shortEnough, laidOut, checkOf, a
 use Rattle.definitions.specs.Outcomes.{listFound, listOutcome, sheetOutcome, priceOutcome}
 use Rattle.definitions.specs.Boundary.{listCall, sheetCall, priceCall}
 use Rattle.definitions.specs.Output.{printed}
-use Rattle.theorems.specs.Tests.{join}
+use Rattle.lists.specs.Tests.{join}
 use Rattle.theorems.specs.Answers.{FirstNo}
 use Rattle.theorems.specs.Refusals.{check-says, list-says, sheet-says, price-says, list-call-says, sheet-call-says, price-call-says}
 use Rattle.theorems.specs.Accepted.{region-said, at-most}
