@@ -1,4 +1,4 @@
--- The members and strides of a term, written from the last member down. Assumes nothing.
+-- The members and strides of a term, written from the last member down.
 use mathlib.Core.Path.{_≡_, refl, sym, ap, ap₂, _∙_, subst⁻¹}
 use native.Mathlib.Decide.{ℕ-discrete, decLt}
 use native.Mathlib.Nat.{mul-comm, mul-le-mul, pow-suc, pow-zero, pow-le-pow-right, zero-lt-suc}

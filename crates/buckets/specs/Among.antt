@@ -1,4 +1,4 @@
--- Which tables are among the patients of a set, as is asked of a held table; everybody's are all tables. Assumes nothing.
+-- Which tables are among the patients of a set, as is asked of a held table; everybody's are all tables.
 use mathlib.Core.Path.{_≡_, ap, _∙_, subst}
 use native.Mathlib.Omega.{arith}
 use Rattle.definitions.specs.Basics.{ℕ, Bool, true, List, every, contains}

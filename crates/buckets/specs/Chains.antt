@@ -1,4 +1,4 @@
--- When the words of a term are right, and what leaves a chain of terms as it is. Assumes nothing.
+-- When the words of a term are right, and what leaves a chain of terms as it is.
 use mathlib.Core.Path.{sym, ap, ap₂, _∙_, subst}
 use Prim.Native.Nat.{_≤_}
 use native.Mathlib.Decide.{decLt}

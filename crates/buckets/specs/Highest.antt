@@ -1,4 +1,4 @@
--- A table is in the bucket of its last member. Assumes nothing.
+-- A table is in the bucket of its last member.
 use mathlib.Core.Path.{sym, ap, _∙_}
 use mathlib.Core.Bool.{and-false}
 use native.Mathlib.Omega.{arith}

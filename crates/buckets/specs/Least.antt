@@ -1,4 +1,4 @@
--- The least number of a part of the store, and what it is of a table's entries. Assumes nothing.
+-- The least number of a part of the store, and what it is of a table's entries.
 use mathlib.Core.Path.{sym, ap, ap₂, _∙_}
 use mathlib.Core.Bool.{and-eq-true-iff}
 use Prim.Native.Nat.{_≤_}

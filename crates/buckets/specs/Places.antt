@@ -1,4 +1,4 @@
--- The place of beds among all of their members', as a sum of strides. Assumes nothing.
+-- The place of beds among all of their members', as a sum of strides.
 use mathlib.Core.Path.{sym, ap, ap₂, _∙_}
 use Prim.Native.Nat.{_≤_}
 use native.Mathlib.Decide.{decLt}

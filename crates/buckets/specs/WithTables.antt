@@ -1,4 +1,4 @@
--- The region with only the tables that pass a test: it is accepted where the region is, and its terms are the region's. Assumes nothing.
+-- The region with only the tables that pass a test: it is accepted where the region is, and its terms are the region's.
 use mathlib.Core.Path.{_≡_, refl, ap, _∙_, fun-ext}
 use Prim.Native.Nat.{_≤_}
 use native.Mathlib.Omega.{arith}

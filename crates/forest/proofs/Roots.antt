@@ -1,4 +1,4 @@
--- Roots that a loop fills in by rising number. Assumes nothing.
+-- Roots that a loop fills in by rising number.
 use mathlib.Core.Path.{_≡_, refl, sym, ap, _∙_}
 use native.Mathlib.Decide.{decLt}
 use native.Mathlib.Omega.{arith}

@@ -1,4 +1,4 @@
--- Ancestors, where each parent has a smaller number than the patient's own. Assumes nothing.
+-- Ancestors, where each parent has a smaller number than the patient's own.
 use mathlib.Core.Path.{_≡_, refl, ap, _∙_}
 use mathlib.Core.Bool.{and-eq-true-iff}
 use Prim.Native.Nat.{_≤_}

@@ -20,7 +20,7 @@ use Rattle.held_region.specs.declared.Region.{Region}
 use Rattle.held_region.specs.Meaning.{mark, entryOf, tableIn, membersOf, sumBefore, startIn, tableSaid, said}
 use Rattle.held_region.specs.Stores.{startOf, entriesOf, start-all}
 use Rattle.held_region.specs.Asked.{patient-said, tables-by-places, tables-said, entries-count, starts-said}
-use Rattle.held_region.specs.Sound.{Sound, bedsIn, beds-most, members-fit, members-few, members-held, member-below}
+use Rattle.held_region.specs.Sound.{Sound, bedCountIn, beds-most, members-fit, members-few, members-held, member-below}
 
 -- The two halves of question 8.
 abbrev pub countsMatch : Said.Region → Bool
@@ -38,7 +38,7 @@ total-most r yes-eight = at-most entryCount (entriesOf (r .tables)) (and-eq-true
 pub record BedsRead (patients : List Patient) (t : Table) : Type 0 where
   pub few : t .members ≤ 4
   pub known : (i : ℕ) → i < t .members → getD (t .first) i 0 < 32
-  pub small : (i : ℕ) → i < t .members → bedsIn patients (getD (t .first) i 0) ≤ 16
+  pub small : (i : ℕ) → i < t .members → bedCountIn patients (getD (t .first) i 0) ≤ 16
 
 -- What the sum of all entry counts relies on.
 pub record CountsSmall (h : Region) : Type 0 where
@@ -71,18 +71,18 @@ module _ (h : Region) (sound : Sound h) where
         }
 
     -- The bed counts that are said are those that are read.
-    same-beds : (store : List ℕ) → bedCounts (said h store) (membersOf table) ≡ map (bedsIn (h .patients)) (membersOf table)
+    same-beds : (store : List ℕ) → bedCounts (said h store) (membersOf table) ≡ map (bedCountIn (h .patients)) (membersOf table)
     same-beds store =
         map-same _ _ (membersOf table) (λ s k. ap (λ p. p .bedCount) (patient-said h store s (ltb-true s (h .v) (every-in _ (membersOf table) (members-fit h sound i l .1) k))))
 
-    pub product-small : product (map (bedsIn (h .patients)) (membersOf table)) ≤ 65_536
+    pub product-small : product (map (bedCountIn (h .patients)) (membersOf table)) ≤ 65_536
     product-small =
         le-trans
-        (product-most 16 (bedsIn (h .patients)) (membersOf table)
-        (every-weaken (λ s. ltb s (h .v)) (λ s. leb (bedsIn (h .patients) s) 16) (λ s m. le-leb _ 16 (beds-most h sound s (ltb-true s (h .v) m))) (membersOf table) (members-fit h sound i l .1)))
+        (product-most 16 (bedCountIn (h .patients)) (membersOf table)
+        (every-weaken (λ s. ltb s (h .v)) (λ s. leb (bedCountIn (h .patients) s) 16) (λ s m. le-leb _ 16 (beds-most h sound s (ltb-true s (h .v) m))) (membersOf table) (members-fit h sound i l .1)))
         (pow-le-pow-right (zero-lt-suc 15) (members-few h sound i l))
 
-  pub counts-asked : (store : List ℕ) → countsMatch (said h store) ≡ every (λ i. eqb (tableIn h i .entries) (product (map (bedsIn (h .patients)) (membersOf (tableIn h i))))) (below (h .t))
+  pub counts-asked : (store : List ℕ) → countsMatch (said h store) ≡ every (λ i. eqb (tableIn h i .entries) (product (map (bedCountIn (h .patients)) (membersOf (tableIn h i))))) (below (h .t))
   counts-asked store = counts-by-places h store ∙ same-tests _ _ (h .t) (λ i l. ap (λ beds. eqb (tableIn h i .entries) (product beds)) (same-beds i l store))
 
   pub counts-small : (store : List ℕ) → countsMatch (said h store) ≡ true → CountsSmall h
@@ -90,7 +90,7 @@ module _ (h : Region) (sound : Sound h) where
       record {
         tables = sound .places .tables;
         entries = λ i l.
-            let equal = eqb-true (tableIn h i .entries) (product (map (bedsIn (h .patients)) (membersOf (tableIn h i)))) (every-place _ (h .t) i (sym (counts-asked store) ∙ match) l) in
+            let equal = eqb-true (tableIn h i .entries) (product (map (bedCountIn (h .patients)) (membersOf (tableIn h i)))) (every-place _ (h .t) i (sym (counts-asked store) ∙ match) l) in
             omega (arith, product-small i l);
       }
 

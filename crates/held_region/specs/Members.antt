@@ -1,4 +1,4 @@
--- The members of a table, as question 7 asks of them: walked once, each above the one before it. Assumes nothing.
+-- The members of a table, as question 7 asks of them: walked once, each above the one before it.
 use mathlib.Core.Path.{_≡_, refl, sym, ap, _∙_}
 use mathlib.Core.Bool.{and-false}
 use Prim.Native.Nat.{_≤_}

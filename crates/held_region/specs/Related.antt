@@ -1,4 +1,4 @@
--- Question 10, asked of sets of members and ancestors. Assumes nothing.
+-- Question 10, asked of sets of members and ancestors.
 use mathlib.Core.Path.{_≡_, refl, sym, ap, _∙_, fun-ext}
 use mathlib.Core.Bool.{or-comm}
 use Prim.Native.Nat.{_≤_}

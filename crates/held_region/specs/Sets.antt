@@ -1,4 +1,4 @@
--- Sets of patients that a loop fills, or walks from the lowest on. Assumes nothing.
+-- Sets of patients that a loop fills, or walks from the lowest on.
 use mathlib.Core.Path.{_≡_, refl, sym, ap, _∙_, fun-ext}
 use mathlib.Core.Bool.{or-false, and-true, and-false, false≢true}
 use Prim.Native.Nat.{_≤_}

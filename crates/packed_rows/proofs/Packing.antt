@@ -1,4 +1,4 @@
--- Beds packed one by one into a word, and the words of all. Assumes nothing.
+-- Beds packed one by one into a word, and the words of all.
 use mathlib.Core.Path.{_≡_, sym, ap, _∙_}
 use native.Mathlib.Numerals.{unary-clauses}
 use native.Mathlib.Omega.{arith}

@@ -1,4 +1,4 @@
--- The beds of a word taken out one by one, and those of all words. Assumes nothing.
+-- The beds of a word taken out one by one, and those of all words.
 use mathlib.Core.Path.{_≡_, refl, sym, ap, _∙_}
 use native.Mathlib.Numerals.{unary-clauses}
 use native.Mathlib.Omega.{arith}

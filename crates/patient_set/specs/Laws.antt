@@ -1,4 +1,4 @@
--- The laws of sets of patients, in terms of `inSet` and `members` alone. Assumes nothing.
+-- The laws of sets of patients, in terms of `inSet` and `members` alone.
 use mathlib.Core.Path.{_≡_, refl, sym, ap, ap₂, _∙_, subst, fun-ext}
 use mathlib.Core.Bool.{false≢true, and-false}
 use Prim.Native.Nat.{_≤_, suc-le-suc}

@@ -1,4 +1,4 @@
--- The patients of a clinic: clinic numbers that no clinic can have, and what the clinic's own rows cost. Assumes nothing.
+-- The patients of a clinic: clinic numbers that no clinic can have, and what the clinic's own rows cost.
 use mathlib.Core.Path.{_≡_, refl, sym, ap, _∙_}
 use mathlib.Core.Bool.{true≢false}
 use Prim.Native.Nat.{_≤_}

@@ -1,4 +1,4 @@
--- Questions 11 and 13 of a region, as a clinic's patients and the list's row count answer them. Assumes nothing.
+-- Questions 11 and 13 of a region, as a clinic's patients and the list's row count answer them.
 use mathlib.Core.Path.{_≡_, refl, sym, ap, _∙_}
 use native.Mathlib.Omega.{arith}
 use Rattle.definitions.specs.Basics.{ℕ, Bool, true, false, not, _||_, cond, List, [], _∷_, map, length, eqb, any, keep, isEmpty}

@@ -1,4 +1,4 @@
--- List and sheet as calls from C, from what the entry gives and what is written of it. Assumes nothing.
+-- List and sheet as calls from C, from what the entry gives and what is written of it.
 use mathlib.Core.Path.{_≡_, refl, sym, ap, ap₂, _∙_}
 use mathlib.Core.Bool.{and-assoc, and-false, and-true}
 use Prim.Native.Nat.{_≤_, _<_, _-_}

@@ -1,4 +1,4 @@
--- A loop that follows the terms of a bucket and adds up their entries for a plan. Assumes nothing.
+-- A loop that follows the terms of a bucket and adds up their entries for a plan.
 use mathlib.Core.Path.{_≡_, refl, sym, ap, _∙_, subst}
 use mathlib.Core.Option.{Option·none-ne-some}
 use Prim.Native.Nat.{_≤_}

@@ -1,4 +1,4 @@
--- Beds that are read one by one. Assumes nothing.
+-- Beds that are read one by one.
 use mathlib.Core.Path.{_≡_, sym, ap, ap₂, _∙_}
 use Prim.Native.Nat.{_≤_}
 use native.Mathlib.Decide.{decLt}

@@ -1,4 +1,4 @@
--- A loop that adds up what a function gives at each place below n, as the beds of a term's members. Assumes nothing.
+-- A loop that adds up what a function gives at each place below n, as the beds of a term's members.
 use mathlib.Core.Path.{_≡_, sym, ap, ap₂, _∙_}
 use native.Mathlib.Omega.{arith}
 use native.Mathlib.Nat.{add-assoc, add-zero, mul-le-mul}

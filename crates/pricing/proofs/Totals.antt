@@ -1,4 +1,4 @@
--- A plan's total, bucket by bucket, from patient 0 on. Assumes nothing.
+-- A plan's total, bucket by bucket, from patient 0 on.
 use mathlib.Core.Path.{_≡_, refl, sym, ap, _∙_, fun-ext}
 use mathlib.Core.Bool.{not-eq-not}
 use mathlib.Core.Option.{Option·none-ne-some}

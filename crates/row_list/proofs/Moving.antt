@@ -1,4 +1,4 @@
--- Words moved six places further, the last first, and what a list is once a row is written into the gap. Assumes nothing.
+-- Words moved six places further, the last first, and what a list is once a row is written into the gap.
 use mathlib.Core.Path.{_≡_, refl, sym, ap, _∙_, subst}
 use mathlib.Core.Logic.{_⊎_, inl, inr}
 use native.Mathlib.Decide.{decLt, ℕ-discrete}

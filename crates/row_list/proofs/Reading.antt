@@ -1,4 +1,4 @@
--- The words of a row's beds, read one by one. Assumes nothing.
+-- The words of a row's beds, read one by one.
 use mathlib.Core.Path.{_≡_, refl, sym, _∙_}
 use native.Mathlib.Omega.{arith}
 use Prim.Native.Nat.{ℕ, _+_, _*_, _<_, _≤_}

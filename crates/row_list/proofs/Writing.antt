@@ -1,4 +1,4 @@
--- A row written word by word: its cost, and the words of its beds. Assumes nothing.
+-- A row written word by word: its cost, and the words of its beds.
 use mathlib.Core.Path.{_≡_, refl, _∙_}
 use native.Mathlib.Decide.{decLt}
 use native.Mathlib.Nat.{mod-add-div'}

@@ -7,7 +7,7 @@ use lib.ListN.{drop}
 use lib.Seq.{getD-take, drop-cons}
 use Rattle.definitions.specs.Basics.{ℕ, suc, _+_, _*_, _<_, List, [], _∷_, _++_, map, length, getD, take, below}
 use Rattle.definitions.specs.Plans.{Row}
-use Rattle.partial_rows.specs.Padding.{cut}
+use Rattle.partial_rows.specs.Padding.{unpadded}
 use Rattle.packed_rows.specs.declared.Row as Code
 use Rattle.packed_rows.specs.Laws.{packed-long}
 use Rattle.lists.specs.Below.{length-by-places, at-place, below-more, below-same}
@@ -60,17 +60,17 @@ rows-take n k area fits = rows-words n (take k area) area (λ i l. getD-take k a
 
 -- The rows for v patients, one by one.
 module _ (v : ℕ) where
-  rows-cut : (n : ℕ) (area : List ℕ) → rowsIn v n area ≡ map (rowIn v area) (below n)
+  rows-unpadded : (n : ℕ) (area : List ℕ) → rowsIn v n area ≡ map (rowIn v area) (below n)
   unfolding wholeRows
-  rows-cut n area = map-map (cut v) (wholeRow area) (below n)
+  rows-unpadded n area = map-map (unpadded v) (wholeRow area) (below n)
 
-  pub cut-long : (n : ℕ) (area : List ℕ) → length (rowsIn v n area) ≡ n
-  cut-long n area = ap length (rows-cut n area) ∙ length-by-places (rowIn v area) 0 n
+  pub unpadded-long : (n : ℕ) (area : List ℕ) → length (rowsIn v n area) ≡ n
+  unpadded-long n area = ap length (rows-unpadded n area) ∙ length-by-places (rowIn v area) 0 n
 
-  pub cut-at : (n : ℕ) (area : List ℕ) (i : ℕ) (d : Row) → i < n → rowIn v area i ≡ getD (rowsIn v n area) i d
-  cut-at n area i d h = sym (ap (λ (l : List Row). getD l i d) (rows-cut n area) ∙ at-place (rowIn v area) d n i h)
+  pub unpadded-at : (n : ℕ) (area : List ℕ) (i : ℕ) (d : Row) → i < n → rowIn v area i ≡ getD (rowsIn v n area) i d
+  unpadded-at n area i d h = sym (ap (λ (l : List Row). getD l i d) (rows-unpadded n area) ∙ at-place (rowIn v area) d n i h)
 
-  pub cut-from : (n : ℕ) (area : List ℕ) (i : ℕ) → i < n → drop i (rowsIn v n area) ≡ rowIn v area i ∷ drop (suc i) (rowsIn v n area)
-  cut-from n area i h =
+  pub unpadded-from : (n : ℕ) (area : List ℕ) (i : ℕ) → i < n → drop i (rowsIn v n area) ≡ rowIn v area i ∷ drop (suc i) (rowsIn v n area)
+  unpadded-from n area i h =
       let row = rowIn v area i in
-      drop-cons (rowsIn v n area) i row (omega (arith, cut-long n area)) ∙ ap (λ (z : Row). z ∷ drop (suc i) (rowsIn v n area)) (sym (cut-at n area i row h))
+      drop-cons (rowsIn v n area) i row (omega (arith, unpadded-long n area)) ∙ ap (λ (z : Row). z ∷ drop (suc i) (rowsIn v n area)) (sym (unpadded-at n area i row h))

@@ -1,4 +1,4 @@
--- The sums of all rows of two lists: where each list is in order and a sum shows its rows, no sum comes twice. Assumes nothing.
+-- The sums of all rows of two lists: where each list is in order and a sum shows its rows, no sum comes twice.
 use mathlib.Core.Path.{_≡_, sym, _∙_}
 use mathlib.Core.Logic.{inl, inr}
 use native.Mathlib.Omega.{arith}

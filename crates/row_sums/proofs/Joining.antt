@@ -1,4 +1,4 @@
--- One more sum, and one more row with all of its sums. Assumes nothing.
+-- One more sum, and one more row with all of its sums.
 use mathlib.Core.Path.{_≡_, refl, sym, ap, ap₂, subst, subst⁻¹, _∙_}
 use native.Mathlib.Numerals.{add-one}
 use native.Mathlib.Omega.{arith}

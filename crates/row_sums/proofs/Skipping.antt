@@ -1,4 +1,4 @@
--- A sum that costs more than the last row of a full list need not be made: it would not enter. Assumes nothing.
+-- A sum that costs more than the last row of a full list need not be made: it would not enter.
 use mathlib.Core.Path.{_≡_, refl, sym, ap, _∙_}
 use mathlib.Core.Logic.{inl}
 use native.Mathlib.Numerals.{add-one}

@@ -1,4 +1,4 @@
--- A number, and a hyphen or a number, are bounded. Assumes nothing.
+-- A number, and a hyphen or a number, are bounded.
 use mathlib.Core.Path.{sym, ap, _∙_}
 use mathlib.Core.Bool.{false≢true}
 use Prim.Native.Char.{code}

@@ -1,4 +1,4 @@
--- The items of a list one after the other. Assumes nothing.
+-- The items of a list one after the other.
 use mathlib.Core.Path.{sym, ap, _∙_}
 use mathlib.Core.Bool.{false≢true}
 use Prim.Native.Char.{code}

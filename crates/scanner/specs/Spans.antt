@@ -1,4 +1,4 @@
--- A list cut before its first element that fails a test: what `many` reads, and what it leaves. Assumes nothing.
+-- A list cut before its first element that fails a test: what `many` reads, and what it leaves.
 use mathlib.Core.Path.{ap, sym, _∙_}
 use native.Mathlib.Omega.{arith}
 use mathlib.Core.Bool.{_&&_, false≢true}

@@ -1,4 +1,4 @@
--- The list of all trees: one tree after another, from the list of nobody to the list of the region. Assumes nothing.
+-- The list of all trees: one tree after another, from the list of nobody to the list of the region.
 use mathlib.Core.Path.{_≡_, refl, sym, ap, _∙_, subst, subst⁻¹, fun-ext}
 use mathlib.Core.Logic.{inl, inr}
 use mathlib.Core.Bool.{true≢false, and-false}

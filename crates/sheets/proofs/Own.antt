@@ -1,4 +1,4 @@
--- A clinic's own row: its cost is the price in the region with only the clinic's own tables. Assumes nothing.
+-- A clinic's own row: its cost is the price in the region with only the clinic's own tables.
 use mathlib.Core.Path.{_≡_, refl, sym, ap, _∙_, subst}
 use Prim.Native.Nat.{_≤_}
 use native.Mathlib.Omega.{arith}
@@ -18,14 +18,14 @@ use Rattle.theorems.specs.List.{Allowed}
 use Rattle.patient_set.specs.Sets.{members}
 use Rattle.patient_set.specs.Laws.{size-most}
 use Rattle.partial_rows.specs.Beds.{inside, fits-beds}
-use Rattle.partial_rows.specs.Padding.{cut}
+use Rattle.partial_rows.specs.Padding.{unpadded}
 use Rattle.buckets.specs.Terms.{Fitting, fitting-low}
 use Rattle.buckets.specs.WithTables.{withTables}
 use Rattle.buckets.specs.Among.{isAmong}
 use Rattle.pricing.specs.Pricing.{AsksAll}
 use Rattle.packed_rows.specs.declared.Row.{Row}
 use Rattle.packed_rows.specs.Packed.{rowOf, packable}
-use Rattle.packed_rows.specs.Packing.{packedRow, pack-padded, pack-cut}
+use Rattle.packed_rows.specs.Packing.{packedRow, pack-padded, pack-unpadded}
 use Rattle.sheets.specs.Steps.{PartTaken, Priced, Own, GivesOwn}
 
 -- A row of the list fits, and so do beds that begin with its beds.
@@ -84,7 +84,7 @@ own-made {v = v} row set result beds taken k first plain long size priced is pac
       padded = rw whole (pack-padded n first taken few long);
       is = λ r clinic own fits.
           let fit : Fitting r beds = rw plain fits in
-          ap (cut n) whole ∙ pack-cut n first taken few long (own-low own beds taken fit long is)
+          ap (unpadded n) whole ∙ pack-unpadded n first taken few long (own-low own beds taken fit long is)
           ∙ (λ i. record { cost = own-cost own beds (row .cost) first fit priced i; beds = own-beds own beds taken is i })
           ∙ ap (λ (l : List ℕ). ownRow r clinic (record { cost = row .cost; beds = take v l })) plain;
     }
