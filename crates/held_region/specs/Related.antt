@@ -20,6 +20,7 @@ use Rattle.definitions.specs.Questions.{ancestors, membersRelated}
 use Rattle.held_region.specs.declared.Table.{Table}
 use Rattle.held_region.specs.declared.Region.{Region}
 use Rattle.held_region.specs.Meaning.{parentOf, patientIn, tableIn, membersOf, tableSaid, said}
+use Rattle.held_region.specs.Members.{every-member}
 use Rattle.held_region.specs.Asked.{patients-said, patient-said, tables-by-places}
 use Rattle.held_region.specs.Sound.{Sound, ParentsFirst, parents-first, members-fit, members-held}
 use Rattle.theorems.specs.Accepted.{parent-below}
@@ -30,6 +31,9 @@ pub record MembersKnown (t : Table) : Type 0 where
   pub few : t .members ≤ 4
   pub known : every (λ s. ltb s 32) (membersOf t) ≡ true
   pub rising : everyTwo ltb (membersOf t) ≡ true
+
+pub member-known : (t : Table) → MembersKnown t → (j : ℕ) → j < t .members → getD (t .first) j 0 < 32
+member-known t right j m = ltb-true _ _ (every-member t (λ s. ltb s 32) (right .known) j m)
 
 -- Is q in the set of s?
 abbrev pub setIn : List PatientSet → ℕ → ℕ → Bool

@@ -1,17 +1,16 @@
 use borrow.Author.Needs.{needs}
-use borrow.Author.Tests.{ltb-true}
 use mathlib.Core.Path.{_≡_, _∙_}
-use Prim.Native.Nat.{ℕ, _-_, _<_}
+use Prim.Native.Nat.{_-_}
 use lib.ListN.{getD}
 use native.Mathlib.Omega.{arith}
-use Rattle.definitions.specs.Basics.{ltb, every, contains, below}
+use Rattle.definitions.specs.Basics.{every, contains, below}
 use Rattle.lists.specs.Tests.{answered-no, answered-yes}
 use Rattle.lists.specs.Every.{every-map}
 use Rattle.lists.specs.Loops.{askedFrom, ask-all, ask-yes, ask-no, ask-done}
 use Rattle.patient_set.specs.Sets.{members}
 use Rattle.patient_set.specs.Laws.{member}
 use Rattle.held_region.specs.Meaning.{membersOf}
-use Rattle.held_region.specs.Members.{every-member}
+use Rattle.held_region.specs.Related.{member-known}
 use Rattle.region_sets.proofs.is_among.Statement.{statement}
 use Rattle.region_sets.proofs.is_among.Tie as tie
 
@@ -32,14 +31,10 @@ element-copy-out-s : tie.Need-element-copy-out-s Inv-loop μ-loop
 element-copy-out-s c = search needs
 
 cast-s : tie.Need-cast-s Inv-loop μ-loop
-cast-s c =
-    let table = c .before .before .before .args .t1 in
-    let i = c .before .before .loop .place in
-    let l : getD (table .first) i 0 < 32 = ltb-true _ _ (every-member table (λ s. ltb s 32) (c .before .before .before .pre .known) i (c .before .loop-test .taken)) in
-    omega arith
+cast-s c = omega (arith, member-known (c .before .before .before .args .t1) (c .before .before .before .pre) _ (c .before .loop-test .taken))
 
 has-requires : tie.Need-has-requires Inv-loop μ-loop
-has-requires c κs = ltb-true _ _ (every-member (c .before .before .before .args .t1) (λ s. ltb s 32) (c .before .before .before .pre .known) _ (c .before .loop-test .taken))
+has-requires c κs = member-known (c .before .before .before .args .t1) (c .before .before .before .pre) _ (c .before .loop-test .taken)
 
 returns : tie.Need-returns Inv-loop μ-loop
 returns c =
