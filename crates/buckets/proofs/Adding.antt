@@ -1,4 +1,4 @@
--- A term put in front of its bucket. Assumes nothing.
+-- A term put in front of its bucket.
 use mathlib.Core.Path.{_≡_, ap, _∙_}
 use native.Mathlib.Omega.{arith}
 use lib.ListN.{length, getD, set}

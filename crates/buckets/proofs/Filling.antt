@@ -1,4 +1,4 @@
--- The buckets of the tables from a place on, as they are filled from the last table down. Assumes nothing.
+-- The buckets of the tables from a place on, as they are filled from the last table down.
 use mathlib.Core.Path.{_≡_, refl, sym, ap, ap₂, _∙_, subst}
 use Prim.Native.Nat.{_≤_}
 use native.Mathlib.Decide.{ℕ-discrete}

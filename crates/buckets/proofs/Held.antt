@@ -8,18 +8,18 @@ use Rattle.definitions.specs.Basics.{ℕ, zero, suc, _+_, _-_, _*_, _<_, refl, 
 use Rattle.definitions.specs.Limits.{limits, within, entry}
 use Rattle.definitions.specs.Questions.{entriesWithin}
 use Rattle.definitions.specs.Syntax as Said
-use Rattle.theorems.specs.Tests.{both}
-use Rattle.theorems.specs.Every.{every-weaken}
-use Rattle.ranking.specs.Members.{getD-in}
+use Rattle.lists.specs.Tests.{both}
+use Rattle.lists.specs.Members.{getD-in}
+use Rattle.lists.specs.Every.{every-weaken}
+use Rattle.lists.specs.Keep.{keep-short, every-keep}
+use Rattle.lists.specs.Below.{length-by-places, at-place}
 use Rattle.theorems.specs.Accepted.{Accepted, at-most, TableRight, member-at, table-right, tables-few}
-use Rattle.patient_set.specs.Lists.{length-keep, every-keep}
 use Rattle.partial_rows.specs.Bounds.{smaller, leastOf, leastEntry}
 use Rattle.held_region.specs.declared.Table.{Table}
 use Rattle.held_region.specs.declared.Region.{Region}
 use Rattle.held_region.specs.Meaning.{mark, said, tableIn, membersOf}
 use Rattle.held_region.specs.Stores.{tableAt, startOf}
 use Rattle.held_region.specs.Asked.{tables-said, members-said, entries-said, stands}
-use Rattle.held_region.specs.Places.{length-by-places, at-place}
 use Rattle.buckets.specs.Least.{leastNumber, least-of-entries}
 use Rattle.buckets.specs.Written.{lastOf}
 
@@ -77,7 +77,7 @@ module _ (h : Region) (store : List ℕ) (a : Accepted (said h store)) where
       omega (
         arith,
         sum-small f (keep g tables) (every-keep fitting g tables (every-drop fitting i (r .tables) (a .entriesFit))),
-        length-keep g tables,
+        keep-short g tables,
         length-drop i (r .tables),
         tables-few r a,
       )

@@ -1,4 +1,4 @@
--- The members and strides of a term, written from the last member down. Assumes nothing.
+-- The members and strides of a term, written from the last member down.
 use mathlib.Core.Path.{_≡_, refl, sym, ap, ap₂, _∙_, subst⁻¹}
 use native.Mathlib.Decide.{ℕ-discrete, decLt}
 use native.Mathlib.Nat.{mul-comm, mul-le-mul, pow-suc, pow-zero, pow-le-pow-right, zero-lt-suc}
@@ -10,7 +10,8 @@ use Rattle.definitions.specs.Basics.{product, numbersFrom}
 use Rattle.held_region.specs.declared.Table.{Table}
 use Rattle.held_region.specs.Meaning.{membersOf}
 use Rattle.held_region.specs.Members.{membersFrom, members-next, members-done}
-use Rattle.held_region.specs.Places.{placesFrom, length-by-places, at-place}
+use Rattle.lists.specs.Below.{length-by-places, at-place}
+use Rattle.lists.specs.Loops.{placesFrom}
 use Rattle.buckets.specs.Terms.{memberAt, strideAt, bedsAt}
 use Rattle.buckets.specs.Places.{strideOf, stride-past}
 use Rattle.buckets.specs.Written.{MembersKnown, OthersKept, MembersSoFar, MembersWritten}

@@ -1,4 +1,4 @@
--- Two words written into a list of words. Assumes nothing.
+-- Two words written into a list of words.
 use mathlib.Core.Path.{_≡_, refl, _∙_}
 use native.Mathlib.Decide.{ℕ-discrete}
 use native.Mathlib.Omega.{arith}

@@ -1,14 +1,13 @@
--- Which tables are among the patients of a set, as is asked of a held table; everybody's are all tables. Assumes nothing.
-use mathlib.Core.Path.{_≡_, sym, ap, _∙_, subst, fun-ext}
+-- Which tables are among the patients of a set, as is asked of a held table; everybody's are all tables.
+use mathlib.Core.Path.{_≡_, ap, _∙_, subst}
 use native.Mathlib.Omega.{arith}
-use Rattle.definitions.specs.Basics.{ℕ, _^_, _<_, Bool, true, not, _&&_, List, isEmpty, every, keep, contains, below}
+use Rattle.definitions.specs.Basics.{ℕ, Bool, true, List, every, contains}
 use Rattle.definitions.specs.Syntax.{Table, Region}
-use Rattle.theorems.specs.Kept.{every-all}
+use Rattle.lists.specs.Every.{every-all}
+use Rattle.lists.specs.Below.{contains-numbers}
 use Rattle.theorems.specs.Accepted.{Accepted, patients-few, table-right}
-use Rattle.patient_set.specs.Sets.{inSet, members}
-use Rattle.patient_set.specs.Lists.{contains-numbers}
-use Rattle.patient_set.specs.Laws.{member, members-full}
-use Rattle.held_region.specs.Sets.{none-left}
+use Rattle.patient_set.specs.Sets.{members}
+use Rattle.patient_set.specs.Laws.{members-full}
 use Rattle.buckets.specs.Terms.{Prepared}
 use Rattle.buckets.specs.WithTables.{withTables, with-all}
 
@@ -18,14 +17,6 @@ allIn set patients = every (contains (members set)) patients
 
 abbrev pub isAmong : ℕ → Table → Bool
 isAmong set t = allIn set (t .members)
-
--- Nobody of one set is left outside another where all of the one are in the other.
-outside-asked : (w of m : ℕ) → ((q : ℕ) → inSet m q ≡ (inSet w q && not (inSet of q))) → isEmpty (members m) ≡ every (inSet of) (members w)
-unfolding members
-outside-asked w of m is = ap (λ f. isEmpty (keep f (below 32))) (fun-ext is) ∙ none-left (inSet w) (inSet of) (below 32)
-
-pub none-outside : (w of m : ℕ) → of < 2 ^ 32 → ((q : ℕ) → inSet m q ≡ (inSet w q && not (inSet of q))) → isEmpty (members m) ≡ allIn of (members w)
-none-outside w of m fits is = outside-asked w of m is ∙ ap (λ f. every f (members w)) (fun-ext (λ q. sym (member of q fits)))
 
 -- All tables are among all patients.
 abbrev everybody : ℕ

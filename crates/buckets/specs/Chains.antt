@@ -1,4 +1,4 @@
--- When the words of a term are right, and what leaves a chain of terms as it is. Assumes nothing.
+-- When the words of a term are right, and what leaves a chain of terms as it is.
 use mathlib.Core.Path.{sym, ap, ap₂, _∙_, subst}
 use Prim.Native.Nat.{_≤_}
 use native.Mathlib.Decide.{decLt}
@@ -9,7 +9,7 @@ use lib.ListN.{set, List·getD-eq-default}
 use Rattle.definitions.specs.Basics.{ℕ, zero, suc, _+_, _-_, _*_, _<_, _≡_, refl, true, List, [], _∷_, map, length, getD, numbersFrom, sum, product}
 use Rattle.definitions.specs.Syntax.{Table, Region, patientAt}
 use Rattle.definitions.specs.Plans.{Plan, bedOf, entryFor}
-use Rattle.ranking.specs.Members.{_∈_, getD-in}
+use Rattle.lists.specs.Members.{_∈_, getD-in}
 use Rattle.theorems.specs.Accepted.{Accepted, TableRight, member-at, table-right, patients-few, entries-few, beds-some, entry-small}
 use Rattle.held_region.specs.Stores.{tableAt, startOf, start-next, start-most, HasEntries}
 use Rattle.buckets.specs.Terms.{Fitting, highest, startAt, nextAt, memberAt, strideAt, placeAt, Term, Chain}

@@ -1,11 +1,11 @@
--- A table is in the bucket of its last member. Assumes nothing.
+-- A table is in the bucket of its last member.
 use mathlib.Core.Path.{sym, ap, _∙_}
 use mathlib.Core.Bool.{and-false}
 use native.Mathlib.Omega.{arith}
 use borrow.Author.Tests.{ltb-true, lt-ltb, le-ltb, eqb-true}
 use Rattle.definitions.specs.Basics.{ℕ, suc, _-_, _<_, _≡_, refl, Bool, true, false, not, _&&_, _||_, List, [], _∷_, length, getD, eqb, ltb, every, everyTwo, any}
 use Rattle.definitions.specs.Syntax.{Table}
-use Rattle.theorems.specs.Tests.{both}
+use Rattle.lists.specs.Tests.{both}
 use Rattle.partial_rows.specs.Sets.{only}
 use Rattle.buckets.specs.Terms.{highest}
 

@@ -1,4 +1,4 @@
--- The least number of a part of the store, and what it is of a table's entries. Assumes nothing.
+-- The least number of a part of the store, and what it is of a table's entries.
 use mathlib.Core.Path.{sym, ap, ap₂, _∙_}
 use mathlib.Core.Bool.{and-eq-true-iff}
 use Prim.Native.Nat.{_≤_}
@@ -8,7 +8,7 @@ use borrow.Author.Tests.{ltb-true, lt-ltb, le-ltb, eq-eqb, ne-eqb}
 use Rattle.definitions.specs.Basics.{ℕ, suc, _+_, _-_, _<_, _≡_, refl, min, Bool, true, false, cond, Option, none, some, Option·getD, noneOr, List, [], _∷_, map, length, getD, ltb, eqb, numbersFrom, every}
 use Rattle.partial_rows.specs.Bounds.{smaller, leastOf}
 use Rattle.held_region.specs.Meaning.{mark, codeOf}
-use Rattle.held_region.specs.Places.{placesFrom, places-next, places-done}
+use Rattle.lists.specs.Loops.{placesFrom, places-next, places-done}
 
 -- The least of a number and some others.
 unfoldable pub lowest : ℕ → List ℕ → ℕ

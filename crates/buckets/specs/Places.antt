@@ -1,4 +1,4 @@
--- The place of beds among all of their members', as a sum of strides. Assumes nothing.
+-- The place of beds among all of their members', as a sum of strides.
 use mathlib.Core.Path.{sym, ap, ap₂, _∙_}
 use Prim.Native.Nat.{_≤_}
 use native.Mathlib.Decide.{decLt}
@@ -9,8 +9,8 @@ use lib.ListN.{set}
 use lib.Seq.{getD-set-same, getD-set-other}
 use Rattle.definitions.specs.Basics.{ℕ, zero, suc, _+_, _-_, _*_, _<_, _≡_, refl, true, List, [], _∷_, map, length, getD, ltb, numbersFrom, below, sum, product, every, everyTwo}
 use Rattle.definitions.specs.Plans.{Plan, bedOf, place}
-use Rattle.theorems.specs.Tests.{both}
-use Rattle.theorems.specs.Every.{every-at}
+use Rattle.lists.specs.Tests.{both}
+use Rattle.lists.specs.Every.{every-at}
 
 -- The stride of the member at a place: how far the table's place moves with its bed. Past the last member it is 0.
 unfoldable pub strideOf : (ℕ → ℕ) → List ℕ → ℕ → ℕ

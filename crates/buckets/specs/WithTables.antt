@@ -1,4 +1,4 @@
--- The region with only the tables that pass a test: it is accepted where the region is, and its terms are the region's. Assumes nothing.
+-- The region with only the tables that pass a test: it is accepted where the region is, and its terms are the region's.
 use mathlib.Core.Path.{_≡_, refl, ap, _∙_, fun-ext}
 use Prim.Native.Nat.{_≤_}
 use native.Mathlib.Omega.{arith}
@@ -8,10 +8,10 @@ use Rattle.definitions.specs.Limits.{limits, within, patientCount, tableCount}
 use Rattle.definitions.specs.Syntax.{Table, Region, patientAt}
 use Rattle.definitions.specs.Plans.{entryFor}
 use Rattle.definitions.specs.Questions.{countsTrue, countsWithin, patientsWithin, parentsSmaller, membersRight, entryCountsRight, entriesWithin, following, ancestors, membersRelated}
-use Rattle.theorems.specs.Tests.{join}
-use Rattle.theorems.specs.Kept.{every-all, keep-out}
+use Rattle.lists.specs.Tests.{join}
+use Rattle.lists.specs.Every.{every-all}
+use Rattle.lists.specs.Keep.{keep-out, keep-all, keep-short, every-keep}
 use Rattle.theorems.specs.Accepted.{Accepted, patients-counted, tables-counted, counts-within, table-right, tables-few, entries-few}
-use Rattle.patient_set.specs.Lists.{keep-all, length-keep, every-keep}
 use Rattle.buckets.specs.Terms.{Term}
 use Rattle.held_region.specs.Stores.{entriesOf}
 
@@ -53,7 +53,7 @@ module _ (r : Region) (test : Table → Bool) where
     counts-with =
         let (patients, tables, plans) = counts-within r a in
         let count = length (keep test (r .tables)) in
-        let few : count ≤ 64 = omega (arith, length-keep test (r .tables), tables-few r a) in
+        let few : count ≤ 64 = omega (arith, keep-short test (r .tables), tables-few r a) in
         join (join patients (join (le-leb 0 count (omega arith)) (le-leb count 64 few))) plans
 
     entries-with : entryCountsRight (withTables r test) ≡ true

@@ -7,14 +7,13 @@ use held_region::Patient;
 use held_region::Region;
 use held_region::Table;
 use patient_set::PatientSet;
-use region_sets::member_set;
+use region_sets::is_among;
 ghost use mathlib.Core.Path.{_≡_};
 ghost use Prim.Native.Nat.{_≤_, _<_};
 ghost use Rattle.theorems.specs.Accepted.{Accepted};
-ghost use Rattle.held_region.specs.Meaning.{membersOf, said};
-ghost use Rattle.held_region.specs.Related as Related;
+ghost use Rattle.held_region.specs.Meaning.{said};
 ghost use Rattle.buckets.specs.WithTables.{withTables};
-ghost use Rattle.buckets.specs.Among.{allIn, isAmong};
+ghost use Rattle.buckets.specs.Among.{isAmong};
 ghost use Rattle.buckets.specs.Terms.{Prepared};
 ghost use Rattle.buckets.specs.Least.{leastNumber};
 ghost use Rattle.buckets.specs.Written.{PatientsWritten, MembersKnown, MembersWritten, LastKnown, lastOf, TermKnown, TermAdded};
@@ -107,14 +106,6 @@ fn add_term(
     terms[k * 10 + 1] = patients[s * 3 + 2];
     patients[s * 3 + 1] += least;
     patients[s * 3 + 2] = k as u32;
-}
-
-// Are all members of a table in the set?
-fn is_among(table: Table, of: PatientSet) -> bool
-    requires { ⌜ Related.MembersKnown table ⌝ }
-    ensures { λ a. ⌜ a ≡ allIn (of .0) (membersOf table) ⌝ }
-{
-    member_set(table).minus(of).is_empty()
 }
 
 // Every table among the patients of a set as a term in the bucket of its highest member.

@@ -10,15 +10,15 @@ use Rattle.definitions.specs.Limits.{within, entryCount}
 use Rattle.definitions.specs.Questions.{entryCountsRight}
 use Rattle.held_region.specs.declared.Region.{Region}
 use Rattle.held_region.specs.Meaning.{tableIn, membersOf, startIn, said}
-use Rattle.held_region.specs.Places.{askedFrom, ask-all, ask-yes, ask-no, ask-done}
+use Rattle.lists.specs.Loops.{askedFrom, ask-all, ask-yes, ask-no, ask-done}
 use Rattle.held_region.specs.Stores.{entriesOf}
-use Rattle.held_region.specs.Sound.{Sound, bedsIn}
+use Rattle.held_region.specs.Sound.{Sound, bedCountIn}
 use Rattle.held_region.specs.Entries.{countsMatch, counts-asked, total-said, product-small}
 use Rattle.entry_questions.specs.Counting.{EntriesCounted}
 
 -- The product of the bed counts of a table's members.
 abbrev productIn : Region → ℕ → ℕ
-productIn h i = product (map (bedsIn (h .patients)) (membersOf (tableIn h i)))
+productIn h i = product (map (bedCountIn (h .patients)) (membersOf (tableIn h i)))
 
 -- Up to place i the counts are right, and n is their sum.
 pub record Counting (h : Region) (n i : ℕ) : Type 0 where

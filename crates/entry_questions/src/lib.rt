@@ -9,14 +9,14 @@ ghost use mathlib.Core.Path.{_≡_};
 ghost use Prim.Native.Nat.{_≤_};
 ghost use Rattle.definitions.specs.Basics.{product, map};
 ghost use Rattle.held_region.specs.Entries.{codeFits, storeFits, BedsRead, CountsSmall};
-ghost use Rattle.held_region.specs.Sound.{Sound, bedsIn};
+ghost use Rattle.held_region.specs.Sound.{Sound, bedCountIn};
 ghost use Rattle.entry_questions.specs.Counting.{EntriesCounted};
 ghost use Rattle.held_region.specs.Meaning.{membersOf, startIn};
 
 // How many beds the members of a table have together: the product.
 fn bed_product(patients: [Patient; 32], table: Table) -> usize
     requires { ⌜ BedsRead patients table ⌝ }
-    ensures { λ n. ⌜ n ≡ product (map (bedsIn patients) (membersOf table)) ⌝ }
+    ensures { λ n. ⌜ n ≡ product (map (bedCountIn patients) (membersOf table)) ⌝ }
 {
     let mut n: usize = 1;
     let mut i = 0;

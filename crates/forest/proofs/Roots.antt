@@ -1,4 +1,4 @@
--- Roots that a loop fills in by rising number. Assumes nothing.
+-- Roots that a loop fills in by rising number.
 use mathlib.Core.Path.{_≡_, refl, sym, ap, _∙_}
 use native.Mathlib.Decide.{decLt}
 use native.Mathlib.Omega.{arith}
@@ -13,7 +13,8 @@ use Rattle.held_region.specs.declared.Region.{Region}
 use Rattle.held_region.specs.Meaning.{parentOf, patientIn, said}
 use Rattle.held_region.specs.Sound.{ParentsFirst, parents-first}
 use Rattle.held_region.specs.Asked.{patient-said}
-use Rattle.held_region.specs.Ancestors.{parent-below, ancestors-root, ancestors-next}
+use Rattle.theorems.specs.Accepted.{parent-below}
+use Rattle.held_region.specs.Ancestors.{ancestors-root, ancestors-next}
 use Rattle.forest.specs.Trees.{rootFrom}
 
 -- A root's root is itself; any other patient has its parent's.

@@ -8,9 +8,9 @@ use borrow.Author.Tests.{lt-ltb, le-ltb}
 use Rattle.definitions.specs.Basics.{ℕ, suc, _<_, _≡_, true, false, _&&_, Option, none, some, List, length, getD, eqb, ltb}
 use Rattle.definitions.specs.Syntax.{Table, Region}
 use Rattle.definitions.specs.Plans.{constraints}
-use Rattle.ranking.specs.Members.{_∈_}
+use Rattle.lists.specs.Members.{_∈_}
+use Rattle.lists.specs.Every.{any-in, any-out}
 use Rattle.theorems.specs.Accepted.{Accepted, constraint-known}
-use Rattle.theorems.specs.Kept.{any-in, any-out}
 use Rattle.partial_rows.specs.Sets.{Patients, Part, neither, Splits}
 use Rattle.partial_rows.specs.Rows.{holds}
 use Rattle.partial_rows.specs.Parts.{Apart}

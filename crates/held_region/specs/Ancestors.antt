@@ -1,37 +1,23 @@
--- Ancestors, where each parent has a smaller number than the patient's own. Assumes nothing.
-use mathlib.Core.Path.{_≡_, refl, sym, ap, _∙_}
-use mathlib.Core.Bool.{and-eq-true-iff, false≢true}
+-- Ancestors, where each parent has a smaller number than the patient's own.
+use mathlib.Core.Path.{_≡_, refl, ap, _∙_}
+use mathlib.Core.Bool.{and-eq-true-iff}
 use Prim.Native.Nat.{_≤_}
-use native.Mathlib.Decide.{decLt}
 use native.Mathlib.Omega.{arith}
-use lib.ListN.{List·getD-eq-default}
 use borrow.Author.Tests.{ltb-true, lt-ltb}
-use Rattle.patient_set.specs.Lists.{every-weaker, every-at}
-use Rattle.definitions.specs.Basics.{ℕ, zero, suc, _<_, Bool, true, false, Option, none, some, isSome, [], _∷_, length, ltb, every, contains}
+use Rattle.lists.specs.Every.{every-weaken, every-contains}
+use Rattle.definitions.specs.Basics.{ℕ, zero, suc, _<_, Bool, true, false, Option, none, some, [], _∷_, length, ltb, every, contains}
 use Rattle.definitions.specs.Syntax.{Region, patientAt}
 use Rattle.definitions.specs.Questions.{parentsSmaller, following, ancestors}
-use Rattle.held_region.specs.Asked.{parentFits}
-use Rattle.held_region.specs.Places.{every-place}
+use Rattle.theorems.specs.Accepted.{parent-below}
 
 module _ (r : Region) (smaller : parentsSmaller r ≡ true) where
-  -- Who has a parent is a patient, and the parent's number is smaller.
-  pub parent-below : (s p : ℕ) → patientAt r s .parent ≡ some p → (s < length (r .patients)) × (p < s)
-  unfolding parentsSmaller patientAt
-  parent-below s p e = go (decLt s (length (r .patients)))
-    where
-      go : Dec (s < length (r .patients)) → (s < length (r .patients)) × (p < s)
-      go (yes l) = (l, ltb-true p s (sym (ap (λ o. parentFits o s) e) ∙ every-place (λ q. parentFits (patientAt r q .parent) q) (length (r .patients)) s smaller l))
-      go (no l) =
-          let outside : length (r .patients) ≤ s = omega arith in
-          absurd (false≢true (ap isSome (sym (ap (λ q. q .parent) (List·getD-eq-default (r .patients) _ outside)) ∙ e)))
-
   -- As many steps as the number are enough.
   enough : (n s : ℕ) → s ≤ n → (o : Option ℕ) → patientAt r s .parent ≡ o → following r n o ≡ following r (suc n) o
   unfolding following
   enough zero s h none e = refl
-  enough zero s h (some p) e = absurd (omega (arith, parent-below s p e .1))
+  enough zero s h (some p) e = absurd (omega (arith, parent-below r smaller s p e .1))
   enough (suc n) s h none e = refl
-  enough (suc n) s h (some p) e = ap (λ l. p ∷ l) (enough n p (omega (arith, parent-below s p e .1)) (patientAt r p .parent) refl)
+  enough (suc n) s h (some p) e = ap (λ l. p ∷ l) (enough n p (omega (arith, parent-below r smaller s p e .1)) (patientAt r p .parent) refl)
 
   -- A root has no ancestors; another patient has its parent, and the parent's.
   pub ancestors-root : (s : ℕ) → patientAt r s .parent ≡ none → ancestors r s ≡ []
@@ -44,11 +30,11 @@ module _ (r : Region) (smaller : parentsSmaller r ≡ true) where
 
   pub ancestors-next : (s p : ℕ) → patientAt r s .parent ≡ some p → ancestors r s ≡ p ∷ ancestors r p
   unfolding ancestors following
-  ancestors-next s p e = ap (following r (length (r .patients))) e ∙ go (length (r .patients)) (parent-below s p e .0)
+  ancestors-next s p e = ap (following r (length (r .patients))) e ∙ go (length (r .patients)) (parent-below r smaller s p e .0)
     where
       go : (n : ℕ) → s < n → following r n (some p) ≡ p ∷ following r n (patientAt r p .parent)
       go zero l = absurd (omega arith)
-      go (suc n) l = ap (λ m. p ∷ m) (enough n p (omega (arith, parent-below s p e .1)) (patientAt r p .parent) refl)
+      go (suc n) l = ap (λ m. p ∷ m) (enough n p (omega (arith, parent-below r smaller s p e .1)) (patientAt r p .parent) refl)
 
   -- Ancestors have smaller numbers.
   all-smaller : (n s : ℕ) (o : Option ℕ) → patientAt r s .parent ≡ o → every (λ q. ltb q s) (following r n o) ≡ true
@@ -56,10 +42,10 @@ module _ (r : Region) (smaller : parentsSmaller r ≡ true) where
   all-smaller zero s o e = refl
   all-smaller (suc n) s none e = refl
   all-smaller (suc n) s (some p) e =
-      let l : p < s = parent-below s p e .1 in
+      let l : p < s = parent-below r smaller s p e .1 in
       and-eq-true-iff (ltb p s) _ .1 (
         lt-ltb p s l,
-        every-weaker (λ q. ltb q p) (λ q. ltb q s) (λ q m. lt-ltb q s (omega (arith, ltb-true q p m))) (following r n (patientAt r p .parent))
+        every-weaken (λ q. ltb q p) (λ q. ltb q s) (λ q m. lt-ltb q s (omega (arith, ltb-true q p m))) (following r n (patientAt r p .parent))
             (all-smaller n p (patientAt r p .parent) refl),
       )
 
@@ -69,4 +55,4 @@ module _ (r : Region) (smaller : parentsSmaller r ≡ true) where
     where
       go : (found : Bool) → contains (ancestors r a) b ≡ found → found ≡ false
       go false e = refl
-      go true e = absurd (omega (arith, ltb-true b a (every-at (λ q. ltb q a) (ancestors r a) b (all-smaller (length (r .patients)) a (patientAt r a .parent) refl) e)))
+      go true e = absurd (omega (arith, ltb-true b a (every-contains (λ q. ltb q a) (ancestors r a) b (all-smaller (length (r .patients)) a (patientAt r a .parent) refl) e)))

@@ -10,7 +10,8 @@ use Rattle.definitions.specs.Syntax.{patientAt}
 use Rattle.definitions.specs.Questions.{patientsWithin, parentsSmaller}
 use Rattle.held_region.specs.declared.Region.{Region}
 use Rattle.held_region.specs.Meaning.{parentOf, patientOf, patientIn, mark, entryOf, codeOf, tableIn, membersOf, startIn, tableSaid, said}
-use Rattle.held_region.specs.Places.{length-by-places, at-place, every-map, same-tests}
+use Rattle.lists.specs.Every.{every-map}
+use Rattle.lists.specs.Below.{length-by-places, at-place, same-tests}
 use Rattle.held_region.specs.Stores.{startOf, tableAt, start-next, HasEntries}
 
 -- Question 6, of one patient, and of its parent.

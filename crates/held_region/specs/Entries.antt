@@ -1,13 +1,15 @@
 -- The entries of a held region, as questions 8 and 9 ask of them.
-use mathlib.Core.Path.{_≡_, refl, sym, ap, _∙_, subst⁻¹}
-use mathlib.Core.Bool.{and-assoc, and-true, and-eq-true-iff}
+use mathlib.Core.Path.{_≡_, refl, sym, ap, _∙_}
+use mathlib.Core.Bool.{and-eq-true-iff}
 use Prim.Native.Nat.{_≤_}
-use native.Mathlib.Nat.{le-trans, mul-le-mul, pow-zero, pow-succ', pow-le-pow-right, zero-lt-suc}
+use native.Mathlib.Nat.{le-trans, pow-le-pow-right, zero-lt-suc}
 use native.Mathlib.Omega.{arith}
-use borrow.Author.Tests.{ltb-true, leb-true, le-leb, eqb-true}
+use borrow.Author.Tests.{ltb-true, le-leb, eqb-true}
 use Rattle.theorems.specs.Accepted.{at-most}
-use Rattle.patient_set.specs.Lists.{every-weaker}
-use Rattle.definitions.specs.Basics.{ℕ, zero, suc, _+_, _<_, _*_, _^_, Bool, true, false, _&&_, _||_, cond, none, some, noneOr, List, [], _∷_, map, length, getD, eqb, leb, ltb, product, numbersFrom, below, every}
+use Rattle.lists.specs.Every.{every-in, every-weaken, every-map}
+use Rattle.lists.specs.Maps.{map-same, product-most}
+use Rattle.lists.specs.Below.{every-place, same-tests, every-last, every-parts}
+use Rattle.definitions.specs.Basics.{ℕ, zero, suc, _+_, _<_, Bool, true, false, _&&_, _||_, cond, none, some, noneOr, List, map, length, getD, eqb, leb, ltb, product, below, every}
 use Rattle.definitions.specs.Limits.{limits, within, entry, entryCount}
 use Rattle.definitions.specs.Syntax as Said
 use Rattle.definitions.specs.Syntax.{bedCounts}
@@ -17,9 +19,8 @@ use Rattle.held_region.specs.declared.Table.{Table}
 use Rattle.held_region.specs.declared.Region.{Region}
 use Rattle.held_region.specs.Meaning.{mark, entryOf, tableIn, membersOf, sumBefore, startIn, tableSaid, said}
 use Rattle.held_region.specs.Stores.{startOf, entriesOf, start-all}
-use Rattle.held_region.specs.Places.{every-map, every-place, same-maps, same-tests}
 use Rattle.held_region.specs.Asked.{patient-said, tables-by-places, tables-said, entries-count, starts-said}
-use Rattle.held_region.specs.Sound.{Sound, bedsIn, beds-most, members-fit, members-few, members-held, member-below}
+use Rattle.held_region.specs.Sound.{Sound, bedCountIn, beds-most, members-fit, members-few, members-held, member-below}
 
 -- The two halves of question 8.
 abbrev pub countsMatch : Said.Region → Bool
@@ -37,19 +38,12 @@ total-most r yes-eight = at-most entryCount (entriesOf (r .tables)) (and-eq-true
 pub record BedsRead (patients : List Patient) (t : Table) : Type 0 where
   pub few : t .members ≤ 4
   pub known : (i : ℕ) → i < t .members → getD (t .first) i 0 < 32
-  pub small : (i : ℕ) → i < t .members → bedsIn patients (getD (t .first) i 0) ≤ 16
+  pub small : (i : ℕ) → i < t .members → bedCountIn patients (getD (t .first) i 0) ≤ 16
 
 -- What the sum of all entry counts relies on.
 pub record CountsSmall (h : Region) : Type 0 where
   pub tables : h .t ≤ 64
   pub entries : (i : ℕ) → i < h .t → tableIn h i .entries ≤ 65_536
-
--- A product of bed counts stays small.
-pub product-most : (k : ℕ) (f : ℕ → ℕ) (l : List ℕ) → every (λ x. leb (f x) k) l ≡ true → product (map f l) ≤ k ^ length l
-product-most k f [] all = omega (arith, pow-zero k)
-product-most k f (x ∷ l) all =
-    let parts = and-eq-true-iff (leb (f x) k) (every (λ y. leb (f y) k) l) .0 all in
-    subst⁻¹ (λ n. f x * product (map f l) ≤ n) (pow-succ' k (length l)) (mul-le-mul (leb-true (f x) k (parts .0)) (product-most k f l (parts .1)))
 
 module _ (h : Region) (store : List ℕ) where
   pub counts-by-places : countsMatch (said h store) ≡ every (λ i. eqb (tableIn h i .entries) (product (bedCounts (said h store) (membersOf (tableIn h i))))) (below (h .t))
@@ -77,18 +71,18 @@ module _ (h : Region) (sound : Sound h) where
         }
 
     -- The bed counts that are said are those that are read.
-    same-beds : (store : List ℕ) → bedCounts (said h store) (membersOf table) ≡ map (bedsIn (h .patients)) (membersOf table)
+    same-beds : (store : List ℕ) → bedCounts (said h store) (membersOf table) ≡ map (bedCountIn (h .patients)) (membersOf table)
     same-beds store =
-        same-maps (λ s. ltb s (h .v)) _ _ (λ s m. ap (λ p. p .bedCount) (patient-said h store s (ltb-true s (h .v) m))) (membersOf table) (members-fit h sound i l .1)
+        map-same _ _ (membersOf table) (λ s k. ap (λ p. p .bedCount) (patient-said h store s (ltb-true s (h .v) (every-in _ (membersOf table) (members-fit h sound i l .1) k))))
 
-    pub product-small : product (map (bedsIn (h .patients)) (membersOf table)) ≤ 65_536
+    pub product-small : product (map (bedCountIn (h .patients)) (membersOf table)) ≤ 65_536
     product-small =
         le-trans
-        (product-most 16 (bedsIn (h .patients)) (membersOf table)
-        (every-weaker (λ s. ltb s (h .v)) (λ s. leb (bedsIn (h .patients) s) 16) (λ s m. le-leb _ 16 (beds-most h sound s (ltb-true s (h .v) m))) (membersOf table) (members-fit h sound i l .1)))
+        (product-most 16 (bedCountIn (h .patients)) (membersOf table)
+        (every-weaken (λ s. ltb s (h .v)) (λ s. leb (bedCountIn (h .patients) s) 16) (λ s m. le-leb _ 16 (beds-most h sound s (ltb-true s (h .v) m))) (membersOf table) (members-fit h sound i l .1)))
         (pow-le-pow-right (zero-lt-suc 15) (members-few h sound i l))
 
-  pub counts-asked : (store : List ℕ) → countsMatch (said h store) ≡ every (λ i. eqb (tableIn h i .entries) (product (map (bedsIn (h .patients)) (membersOf (tableIn h i))))) (below (h .t))
+  pub counts-asked : (store : List ℕ) → countsMatch (said h store) ≡ every (λ i. eqb (tableIn h i .entries) (product (map (bedCountIn (h .patients)) (membersOf (tableIn h i))))) (below (h .t))
   counts-asked store = counts-by-places h store ∙ same-tests _ _ (h .t) (λ i l. ap (λ beds. eqb (tableIn h i .entries) (product beds)) (same-beds i l store))
 
   pub counts-small : (store : List ℕ) → countsMatch (said h store) ≡ true → CountsSmall h
@@ -96,7 +90,7 @@ module _ (h : Region) (sound : Sound h) where
       record {
         tables = sound .places .tables;
         entries = λ i l.
-            let equal = eqb-true (tableIn h i .entries) (product (map (bedsIn (h .patients)) (membersOf (tableIn h i)))) (every-place _ (h .t) i (sym (counts-asked store) ∙ match) l) in
+            let equal = eqb-true (tableIn h i .entries) (product (map (bedCountIn (h .patients)) (membersOf (tableIn h i)))) (every-place _ (h .t) i (sym (counts-asked store) ∙ match) l) in
             omega (arith, product-small i l);
       }
 
@@ -116,29 +110,6 @@ code-asked code = go (eqb code mark)
     go : (b : Bool) → noneOr (within entry) (cond b none (some code)) ≡ (b || within entry code)
     go true = refl
     go false = refl
-
--- A test of all places, one more at the end; the first places, and those after them.
-every-last-from : (f : ℕ → Bool) (k n : ℕ) → every f (numbersFrom k (suc n)) ≡ (every f (numbersFrom k n) && f (k + n))
-every-last-from f k zero = and-true (f k) ∙ ap f (omega arith)
-every-last-from f k (suc n) =
-    let next : suc k + n ≡ k + suc n = omega arith in
-    ap (λ b. f k && b) (every-last-from f (suc k) n ∙ ap (λ m. every f (numbersFrom (suc k) n) && f m) next)
-    ∙ sym (and-assoc (f k) (every f (numbersFrom (suc k) n)) (f (k + suc n)))
-
-every-last : (f : ℕ → Bool) (n : ℕ) → every f (below (suc n)) ≡ (every f (below n) && f n)
-every-last f n =
-    let same : 0 + n ≡ n = omega arith in
-    every-last-from f 0 n ∙ ap (λ m. every f (below n) && f m) same
-
-every-parts : (f : ℕ → Bool) (a b : ℕ) → every f (below (a + b)) ≡ (every f (below a) && every (λ k. f (a + k)) (below b))
-every-parts f a zero =
-    let same : a + 0 ≡ a = omega arith in
-    ap (λ n. every f (below n)) same ∙ sym (and-true (every f (below a)))
-every-parts f a (suc b) =
-    let next : a + suc b ≡ suc (a + b) = omega arith in
-    ap (λ n. every f (below n)) next ∙ every-last f (a + b) ∙ ap (λ x. x && f (a + b)) (every-parts f a b)
-    ∙ and-assoc (every f (below a)) (every (λ k. f (a + k)) (below b)) (f (a + b))
-    ∙ ap (λ x. every f (below a) && x) (sym (every-last (λ k. f (a + k)) b))
 
 -- Parts that lie one behind the other, tested part by part.
 by-parts : (f : ℕ → Bool) (count : ℕ → ℕ) (t : ℕ) → every (λ i. every (λ k. f (sumBefore count i + k)) (below (count i))) (below t) ≡ every f (below (sumBefore count t))

@@ -1,12 +1,10 @@
 pub mod Meaning
-pub mod Places
 pub mod Stores
 pub mod Asked
 pub mod Members
 pub mod Sound
 pub mod Entries
 pub mod Ancestors
-pub mod Chains
 pub mod Sets
 pub mod Related
 pub mod Refusals

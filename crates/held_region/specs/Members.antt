@@ -1,11 +1,14 @@
--- The members of a table, as question 7 asks of them: walked once, each above the one before it. Assumes nothing.
+-- The members of a table, as question 7 asks of them: walked once, each above the one before it.
 use mathlib.Core.Path.{_≡_, refl, sym, ap, _∙_}
 use mathlib.Core.Bool.{and-false}
 use Prim.Native.Nat.{_≤_}
 use native.Mathlib.Numerals.{add-one}
 use native.Mathlib.Omega.{arith}
 use borrow.Author.Tests.{ltb-true, lt-ltb, le-ltb, le-leb, lt-leb, leb-true}
-use Rattle.patient_set.specs.Lists.{every-weaker}
+use Rattle.lists.specs.Every.{every-weaken, every-map}
+use Rattle.lists.specs.Below.{length-by-places, every-place}
+use Rattle.lists.specs.Rising.{from-zero}
+use Rattle.lists.specs.Loops.{placesFrom, places-all, places-next, places-done}
 use Rattle.definitions.specs.Basics.{ℕ, suc, _+_, _<_, Bool, true, false, _&&_, List, [], _∷_, map, length, getD, leb, ltb, below, every, everyTwo}
 use Rattle.definitions.specs.Limits.{within, memberCount}
 use Rattle.definitions.specs.Syntax as Said
@@ -13,8 +16,6 @@ use Rattle.definitions.specs.Questions.{membersRight}
 use Rattle.held_region.specs.declared.Table.{Table}
 use Rattle.held_region.specs.declared.Region.{Region}
 use Rattle.held_region.specs.Meaning.{tableIn, membersOf, tableSaid, said}
-use Rattle.held_region.specs.Chains.{from-zero}
-use Rattle.held_region.specs.Places.{length-by-places, every-map, every-place, placesFrom, places-all, places-next, places-done}
 
 -- Question 7, of one table among v patients.
 abbrev pub membersFit : ℕ → List ℕ → Bool
@@ -44,7 +45,7 @@ rises v least (s ∷ l) =
 
     sorted : (a b : Bool) → leb least s ≡ b → (c : Bool) → every (ltb s) l ≡ c → (a && (b && (c && (bound && two)))) ≡ (b && low && (a && bound && (c && two)))
     sorted true true e true r =
-        sym (ap (λ x. x && (bound && two)) (every-weaker (ltb s) (leb least) (λ q h. le-leb least q (omega (arith, ltb-true s q h, leb-true least s e))) l r))
+        sym (ap (λ x. x && (bound && two)) (every-weaken (ltb s) (leb least) (λ q h. le-leb least q (omega (arith, ltb-true s q h, leb-true least s e))) l r))
     sorted true true e false r = sym (ap (λ x. low && x) (and-false bound) ∙ and-false low)
     sorted true false e c r = refl
     sorted false true e c r = sym (and-false low)

@@ -1,4 +1,4 @@
--- Question 10, asked of sets of members and ancestors. Assumes nothing.
+-- Question 10, asked of sets of members and ancestors.
 use mathlib.Core.Path.{_≡_, refl, sym, ap, _∙_, fun-ext}
 use mathlib.Core.Bool.{or-comm}
 use Prim.Native.Nat.{_≤_}
@@ -7,7 +7,9 @@ use native.Mathlib.Omega.{arith}
 use lib.ListN.{set}
 use lib.Seq.{getD-set-same, getD-set-other}
 use borrow.Author.Tests.{ltb-true, lt-ltb, le-ltb}
-use Rattle.patient_set.specs.Lists.{every-weaker}
+use Rattle.lists.specs.Every.{every-in, every-weaken, every-same, every-map}
+use Rattle.lists.specs.Below.{same-keep}
+use Rattle.lists.specs.Rising.{chain, same-two}
 use Rattle.patient_set.specs.Laws.{members-below}
 use Rattle.patient_set.specs.declared.PatientSet.{PatientSet}
 use Rattle.patient_set.specs.Sets.{inSet, members}
@@ -18,17 +20,20 @@ use Rattle.definitions.specs.Questions.{ancestors, membersRelated}
 use Rattle.held_region.specs.declared.Table.{Table}
 use Rattle.held_region.specs.declared.Region.{Region}
 use Rattle.held_region.specs.Meaning.{parentOf, patientIn, tableIn, membersOf, tableSaid, said}
-use Rattle.held_region.specs.Places.{every-map}
+use Rattle.held_region.specs.Members.{every-member}
 use Rattle.held_region.specs.Asked.{patients-said, patient-said, tables-by-places}
 use Rattle.held_region.specs.Sound.{Sound, ParentsFirst, parents-first, members-fit, members-held}
-use Rattle.held_region.specs.Ancestors.{parent-below, ancestors-root, ancestors-next, no-later}
-use Rattle.held_region.specs.Chains.{chain, same-on, same-two, same-keep}
+use Rattle.theorems.specs.Accepted.{parent-below}
+use Rattle.held_region.specs.Ancestors.{ancestors-root, ancestors-next, no-later}
 
 -- A table whose members are all held, patients of a set, and rise.
 pub record MembersKnown (t : Table) : Type 0 where
   pub few : t .members ≤ 4
   pub known : every (λ s. ltb s 32) (membersOf t) ≡ true
   pub rising : everyTwo ltb (membersOf t) ≡ true
+
+pub member-known : (t : Table) → MembersKnown t → (j : ℕ) → j < t .members → getD (t .first) j 0 < 32
+member-known t right j m = ltb-true _ _ (every-member t (λ s. ltb s 32) (right .known) j m)
 
 -- Is q in the set of s?
 abbrev pub setIn : List PatientSet → ℕ → ℕ → Bool
@@ -99,7 +104,7 @@ module _ (h : Region) (first : ParentsFirst h) where
   table-chained : (store : List ℕ) (sets : List PatientSet) (l : List ℕ) → AncestorsHeld h (h .v) sets → every (λ s. ltb s (h .v)) l ≡ true → everyTwo ltb l ≡ true
       → chained (setIn sets) l ≡ related (said h store) l
   table-chained store sets l held known up =
-      same-on (λ s. ltb s (h .v)) _ _ (λ b m. ap (λ f. every f (keep (λ q. ltb q b) l)) (fun-ext (held store b (ltb-true b (h .v) m)))) l known
+      every-same _ _ l (λ b k. ap (λ f. every f (keep (λ q. ltb q b) l)) (fun-ext (held store b (ltb-true b (h .v) (every-in _ l known k)))))
       ∙ chain (λ a b. contains (ancestors (said h store) b) a) l up
       ∙ sym (same-two (λ a b. contains (ancestors (said h store) b) a) _ (λ a b m. ap (λ x. x || contains (ancestors (said h store) b) a) (no-later (said h store) (parents-first h first store) a b m)) l up)
 
@@ -111,7 +116,7 @@ module _ (h : Region) (sound : Sound h) (i : ℕ) (l : i < h .t) where
   members-known =
       record {
         few = members-held h sound i l;
-        known = every-weaker (λ s. ltb s (h .v)) (λ s. ltb s 32) (λ s m. lt-ltb s 32 (omega (arith, ltb-true s (h .v) m, sound .places .patients))) (membersOf table) (members-fit h sound i l .1);
+        known = every-weaken (λ s. ltb s (h .v)) (λ s. ltb s 32) (λ s m. lt-ltb s 32 (omega (arith, ltb-true s (h .v) m, sound .places .patients))) (membersOf table) (members-fit h sound i l .1);
         rising = members-fit h sound i l .2;
       }
 

@@ -1,4 +1,4 @@
--- Sets of patients that a loop fills, or walks from the lowest on. Assumes nothing.
+-- Sets of patients that a loop fills, or walks from the lowest on.
 use mathlib.Core.Path.{_≡_, refl, sym, ap, _∙_, fun-ext}
 use mathlib.Core.Bool.{or-false, and-true, and-false, false≢true}
 use Prim.Native.Nat.{_≤_}
@@ -6,11 +6,11 @@ use native.Mathlib.Decide.{decLt, decLe}
 use native.Mathlib.Omega.{arith}
 use lib.Dec.{lit<}
 use borrow.Author.Tests.{lt-ltb, le-ltb, eq-eqb, ne-eqb}
-use Rattle.patient_set.specs.Lists.{keep-keep}
+use Rattle.lists.specs.Keep.{keep-keep, keep-empty}
+use Rattle.lists.specs.Rising.{kept-below}
 use Rattle.patient_set.specs.Laws.{outside}
 use Rattle.patient_set.specs.Sets.{inSet, members, first}
-use Rattle.definitions.specs.Basics.{ℕ, _+_, _<_, Bool, true, false, not, _&&_, _||_, cond, List, [], _∷_, eqb, ltb, isEmpty, below, every, everyTwo, keep, contains}
-use Rattle.held_region.specs.Chains.{kept-below}
+use Rattle.definitions.specs.Basics.{ℕ, _+_, _<_, Bool, true, false, not, _&&_, _||_, List, [], _∷_, eqb, ltb, isEmpty, below, every, everyTwo, keep, contains}
 
 -- Nobody is in the empty set.
 pub in-none : (q : ℕ) → inSet 0 q ≡ false
@@ -37,21 +37,11 @@ pub set-members : (w : ℕ) (l : List ℕ) → everyTwo ltb l ≡ true → every
 unfolding members
 set-members w l up known is = ap (λ f. keep f (below 32)) (fun-ext is) ∙ kept-below 32 l up known
 
--- No patient is left of those that pass one test and not another where all that pass the one pass the other.
-pub none-left : (f g : ℕ → Bool) (l : List ℕ) → isEmpty (keep (λ q. f q && not (g q)) l) ≡ every g (keep f l)
-none-left f g [] = refl
-none-left f g (x ∷ l) = step (f x) (g x) refl (none-left f g l)
-  where
-    step : (a b : Bool) → g x ≡ b → isEmpty (keep (λ q. f q && not (g q)) l) ≡ every g (keep f l)
-        → isEmpty (cond (a && not b) (x ∷ keep (λ q. f q && not (g q)) l) (keep (λ q. f q && not (g q)) l)) ≡ every g (cond a (x ∷ keep f l) (keep f l))
-    step true true e rest = rest ∙ ap (λ b. b && every g (keep f l)) (sym e)
-    step true false e rest = ap (λ b. b && every g (keep f l)) (sym e)
-    step false b e rest = rest
-
+-- Nobody of a set is lower than b and missing in another set where all that are lower are in it.
 pub lower-left : (w a m b : ℕ) → ((q : ℕ) → inSet m q ≡ (inSet w q && ltb q b && not (inSet a q))) → isEmpty (members m) ≡ every (inSet a) (keep (λ q. ltb q b) (members w))
 unfolding members
 lower-left w a m b is =
-    ap (λ f. isEmpty (keep f (below 32))) (fun-ext is) ∙ none-left (λ q. inSet w q && ltb q b) (inSet a) (below 32)
+    ap (λ f. isEmpty (keep f (below 32))) (fun-ext is) ∙ keep-empty (λ q. inSet w q && ltb q b) (inSet a) (below 32)
     ∙ ap (every (inSet a)) (sym (keep-keep (λ q. ltb q b) (inSet w) (below 32)))
 
 -- A loop that asks a test of each patient of a set, the lowest first: a no is the answer, a yes asks the rest, and of none the answer is yes.

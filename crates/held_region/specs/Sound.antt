@@ -11,7 +11,7 @@ use Rattle.theorems.specs.Accepted.{Accepted, at-most}
 use Rattle.held_region.specs.declared.Patient.{Patient}
 use Rattle.held_region.specs.declared.Region.{Region}
 use Rattle.held_region.specs.Meaning.{noPatient, patientOf, patientIn, tableIn, membersOf, said}
-use Rattle.held_region.specs.Places.{length-by-places, every-place}
+use Rattle.lists.specs.Below.{length-by-places, every-place}
 use Rattle.held_region.specs.Asked.{patientFits, patients-asked, parents-asked}
 use Rattle.held_region.specs.Members.{membersFit, members-asked, every-member}
 
@@ -55,12 +55,12 @@ patients-sound h sound store = patients-asked h store ∙ sym (patients-asked h 
 pub parents-first : (h : Region) → ParentsFirst h → (store : List ℕ) → parentsSmaller (said h store) ≡ true
 parents-first h first store = parents-asked h store ∙ sym (parents-asked h (first .store)) ∙ first .smaller
 
-abbrev pub bedsIn : List Patient → ℕ → ℕ
-bedsIn patients s = getD patients s noPatient .beds
+abbrev pub bedCountIn : List Patient → ℕ → ℕ
+bedCountIn patients s = getD patients s noPatient .beds
 
 module _ (h : Region) (sound : Sound h) where
   -- A patient has at most 16 beds.
-  pub beds-most : (s : ℕ) → s < h .v → bedsIn (h .patients) s ≤ 16
+  pub beds-most : (s : ℕ) → s < h .v → bedCountIn (h .patients) s ≤ 16
   unfolding limits
   beds-most s l =
       let fits : patientFits (patientOf (patientIn h s)) ≡ true = every-place _ (h .v) s (sym (patients-asked h (sound .store)) ∙ sound .patients) l in

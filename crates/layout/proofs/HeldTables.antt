@@ -1,4 +1,4 @@
--- The tables that are held, one line after the other. Assumes nothing.
+-- The tables that are held, one line after the other.
 use mathlib.Core.Path.{_≡_, refl, sym, ap, _∙_}
 use mathlib.Core.List.{append-nil, append-assoc}
 use mathlib.Core.Bool.{true, false, false≢true}

@@ -1,6 +1,6 @@
 -- The layout of a file, line by line: what each of its parts says makes the tree, and where one part is missing there is none.
 use mathlib.Core.Path.{_≡_, refl, sym, ap, _∙_}
-use mathlib.Core.List.{append-assoc, append-cancel-right}
+use mathlib.Core.List.{append-cancel-right}
 use mathlib.Core.Option.{Option·none-ne-some, Option·some-injective}
 use lib.ListN.{take, drop, take-append-drop}
 use Prim.Native.Nat.{_≤_}
@@ -8,7 +8,7 @@ use Rattle.definitions.specs.Basics.{ℕ, Option, none, some, bind, List, [], _
 use Rattle.definitions.specs.Syntax as Said
 use Rattle.definitions.specs.Layout.{many, whole, lines, regionLine, patientLine, tableLine, endLine, regionLines, layout}
 use Rattle.theorems.specs.Lines.{flatten-lines}
-use Rattle.theorems.specs.Spelling.{drop-last}
+use Rattle.lists.specs.Maps.{flatten-append, drop-last}
 use Rattle.table_reader.specs.TableReading.{Found, Holding}
 use Rattle.layout.specs.declared.Laid.{Laid}
 use Rattle.layout.specs.Reading.{HeldPatients}
@@ -90,11 +90,6 @@ many-end {A} f (l ∷ ls) {taken} {rest} e = go (f l) (many f ls) (λ t r e. man
         let h = ih bs more refl in record { front = l ∷ h .front; is = ap (λ k. l ∷ k) (h .is ∙ ap (λ k. h .front ++ k) (left-same e)) }
 
 -- Where the lines from place q on are one line, the bytes of the lines before it are those before q.
-flatten-append : (a b : List (List ℕ)) → flatten (a ++ b) ≡ flatten a ++ flatten b
-unfolding flatten
-flatten-append [] b = refl
-flatten-append (l ∷ a) b = ap (λ k. l ++ k) (flatten-append a b) ∙ sym (append-assoc l (flatten a) (flatten b))
-
 pub body-before : (s : List ℕ) (q : ℕ) {last : List ℕ} → EndsWith (lines s) (last ∷ []) → lines (drop q s) ≡ last ∷ [] → flatten (dropLast (lines s)) ≡ take q s
 body-before s q {last} e l =
     ap (λ ls. flatten (dropLast ls)) (e .is) ∙ ap flatten (drop-last (e .front) last) ∙ append-cancel-right (flatten (e .front)) (take q s) (drop q s) (

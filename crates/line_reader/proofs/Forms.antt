@@ -1,4 +1,4 @@
--- A form read field by field: what is left to read is the whole line. Assumes nothing.
+-- A form read field by field: what is left to read is the whole line.
 use mathlib.Core.Path.{_≡_, refl, sym, ap, _∙_}
 use mathlib.Core.Bool.{Bool, true, false}
 use mathlib.Core.List.{List, [], _∷_, _++_}

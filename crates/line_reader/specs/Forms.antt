@@ -1,4 +1,4 @@
--- A form without lists: its opening word, its fields by their kinds, one space before each, and its end. Assumes nothing.
+-- A form without lists: its opening word, its fields by their kinds, one space before each, and its end.
 use mathlib.Core.Path.{sym, ap}
 use native.Mathlib.Omega.{arith}
 use borrow.Author.Tests.{ltb-true, ne-eqb}

@@ -1,4 +1,4 @@
--- A line is what stands up to its line end. Assumes nothing.
+-- A line is what stands up to its line end.
 use mathlib.Core.Path.{ap}
 use native.Mathlib.Omega.{arith}
 use borrow.Author.Tests.{eq-eqb, ne-eqb, eqb-true, eqb-false}

@@ -4,7 +4,7 @@ use mathlib.Core.Logic.{_⊎_, inl, inr}
 use mathlib.Core.Bool.{true≢false, and-false}
 use native.Mathlib.Omega.{arith}
 use Prim.Native.Nat.{_≤_}
-use Rattle.definitions.specs.Basics.{ℕ, suc, _≡_, refl, Bool, true, false, not, _&&_, cond, List, [], _∷_, length, isEmpty, every, everyTwo, keep, contains}
+use Rattle.definitions.specs.Basics.{ℕ, suc, _≡_, refl, Bool, true, false, not, _&&_, _||_, cond, List, [], _∷_, map, length, isEmpty, every, any, everyTwo, keep, contains}
 use Rattle.lists.specs.Tests.{both, join, same-answer}
 use Rattle.lists.specs.Members.{_∈_, here, there, here-or-there, none-in-nil}
 use Rattle.lists.specs.Every.{every-in, every-all, contains-in, contains-out}
@@ -87,3 +87,13 @@ pub contains-keep : (f : ℕ → Bool) (l : List ℕ) (q : ℕ) → contains (ke
 contains-keep f l q = same-answer
     (λ e. let (k, passes) = keep-out f l (contains-out (keep f l) q e) in join (contains-in l k) passes)
     (λ e. let (found, passes) = both (contains l q) e in contains-in (keep f l) (keep-in f l (contains-out l q found) passes))
+
+-- Some element passes where something is kept.
+pub any-kept : {A : Type 0} (f : A → Bool) (g : ℕ → A) (l : List ℕ) → any f (map g l) ≡ not (isEmpty (keep (λ s. f (g s)) l))
+any-kept f g [] = refl
+any-kept f g (x ∷ l) = go (f (g x)) (any-kept f g l)
+  where
+    go : (b : Bool) → any f (map g l) ≡ not (isEmpty (keep (λ s. f (g s)) l))
+        → (b || any f (map g l)) ≡ not (isEmpty (cond b (x ∷ keep (λ s. f (g s)) l) (keep (λ s. f (g s)) l)))
+    go true e = refl
+    go false e = e

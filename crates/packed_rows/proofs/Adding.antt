@@ -1,4 +1,4 @@
--- Two rows added word by word. Assumes nothing.
+-- Two rows added word by word.
 use mathlib.Core.Path.{_≡_, refl, sym, ap, _∙_}
 use native.Mathlib.Omega.{arith}
 use borrow.Author.Count.{below-more}

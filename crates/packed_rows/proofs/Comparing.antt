@@ -1,4 +1,4 @@
--- Two rows compared: the costs, then word by word. Assumes nothing.
+-- Two rows compared: the costs, then word by word.
 use mathlib.Core.Path.{_≡_, sym, ap, ap₂, _∙_}
 use native.Mathlib.Numerals.{add-one}
 use native.Mathlib.Omega.{arith}

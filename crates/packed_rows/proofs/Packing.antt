@@ -1,4 +1,4 @@
--- Beds packed one by one into a word, and the words of all. Assumes nothing.
+-- Beds packed one by one into a word, and the words of all.
 use mathlib.Core.Path.{_≡_, sym, ap, _∙_}
 use native.Mathlib.Numerals.{unary-clauses}
 use native.Mathlib.Omega.{arith}
@@ -7,7 +7,7 @@ use lib.ListN.{length-append, length-replicate, getD-replicate, List·getD-appen
 use lib.Seq.{getD-take, getD-append-add}
 use Rattle.definitions.specs.Basics.{ℕ, _+_, _-_, _*_, _%_, _<_, List, [], _∷_, _++_, map, flatMap, length, getD, take, replicate, below}
 use Rattle.definitions.specs.Plans.{bedOf}
-use Rattle.theorems.specs.Below.{by-number}
+use Rattle.lists.specs.Below.{by-number}
 use Rattle.packed_rows.specs.Packed.{bedsOfWord, packedBeds, packable}
 use Rattle.packed_rows.specs.Laws.{bedsFrom, push-bed}
 use Rattle.packed_rows.specs.Packing.{front-long}

@@ -1,11 +1,11 @@
--- The beds of a word taken out one by one, and those of all words. Assumes nothing.
+-- The beds of a word taken out one by one, and those of all words.
 use mathlib.Core.Path.{_≡_, refl, sym, ap, _∙_}
 use native.Mathlib.Numerals.{unary-clauses}
 use native.Mathlib.Omega.{arith}
 use lib.ListN.{set}
 use lib.Seq.{sets}
 use Rattle.definitions.specs.Basics.{ℕ, _+_, _/_, _%_, _<_, List, [], _∷_, flatMap, length, getD, replicate}
-use Rattle.theorems.specs.Below.{by-number}
+use Rattle.lists.specs.Below.{by-number}
 use Rattle.packed_rows.specs.Packed.{bedsOfWord, packedBeds}
 
 -- The beds of a word that fits 32 bits.

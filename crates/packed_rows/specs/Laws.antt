@@ -1,4 +1,4 @@
--- Packed beds: how many there are, how they compare, add and are packed one by one. Assumes nothing.
+-- Packed beds: how many there are, how they compare, add and are packed one by one.
 use mathlib.Core.Path.{_≡_, refl, sym, ap, ap₂, _∙_}
 use native.Mathlib.Omega.{arith}
 use lib.ListN.{length-append}

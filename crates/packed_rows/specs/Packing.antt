@@ -1,4 +1,4 @@
--- A row as it is packed for v patients: bed 0 from patient v on, and cut to v patients it has the beds, where four bits hold each.
+-- A row as it is packed for v patients: bed 0 from patient v on, and without that padding it has the beds, where four bits hold each.
 use mathlib.Core.Path.{_≡_, ap, _∙_}
 use native.Mathlib.Nat.{mod-eq-of-lt}
 use native.Mathlib.Omega.{arith}
@@ -7,7 +7,7 @@ use lib.ListN.{length-map}
 use lib.Seq.{length-take-le, getD-take}
 use Rattle.definitions.specs.Basics.{ℕ, suc, _%_, _<_, List, [], _∷_, map, length, take}
 use Rattle.definitions.specs.Plans.{Row, bedOf}
-use Rattle.partial_rows.specs.Padding.{cut, Padded, padded-with, cut-with}
+use Rattle.partial_rows.specs.Padding.{unpadded, Padded, padded-with, unpadded-with}
 use Rattle.packed_rows.specs.Packed.{packable}
 
 -- The row that is packed.
@@ -28,9 +28,9 @@ module _ (v cost : ℕ) (beds : List ℕ) (few : v ≤ 32) (long : length beds �
   pub pack-padded : Padded v (packedRow v cost beds)
   pack-padded = padded-with v cost (map (λ b. b % 16) (take v beds)) few (front-long v beds few long)
 
-  pub pack-cut : ((s : ℕ) → s < v → bedOf beds s < 16) → cut v (packedRow v cost beds) ≡ record { cost = cost; beds = take v beds }
-  pack-cut low =
-      cut-with v cost (map (λ b. b % 16) (take v beds)) (front-long v beds few long)
+  pub pack-unpadded : ((s : ℕ) → s < v → bedOf beds s < 16) → unpadded v (packedRow v cost beds) ≡ record { cost = cost; beds = take v beds }
+  pack-unpadded low =
+      unpadded-with v cost (map (λ b. b % 16) (take v beds)) (front-long v beds few long)
       ∙ ap (λ (l : List ℕ). record { cost = cost; beds = l }) (four-bits (take v beds) (λ s h.
       let less : s < v = omega (arith, length-take-le v beds (omega arith)) in
       rw (getD-take v beds s 0 less) (low s less)))

@@ -1,16 +1,16 @@
 -- Beds for a set of patients: of none, of two parts, and the beds that a plan has in a set.
-use mathlib.Core.Path.{sym, ap, _∙_}
+use mathlib.Core.Path.{sym, _∙_}
 use mathlib.Core.Logic.{_↔_}
 use mathlib.Core.Bool.{true≢false}
 use native.Mathlib.Decide.{decLt}
 use native.Mathlib.Omega.{arith}
-use lib.ListN.{length-map, length-replicate, getD-replicate, List·getD-eq-default}
+use lib.ListN.{length-replicate, getD-replicate, List·getD-eq-default}
 use lib.Seq.{ext-getD}
-use Rattle.definitions.specs.Basics.{ℕ, zero, suc, _+_, _<_, _≡_, refl, Bool, true, false, cond, List, [], _∷_, map, length, getD, numbersFrom}
-use Rattle.definitions.specs.Syntax.{Patient, Region, patientNumbers, patientAt}
+use Rattle.definitions.specs.Basics.{ℕ, zero, suc, _+_, _<_, _≡_, refl, Bool, true, false, cond, List, [], _∷_, map, length, getD}
+use Rattle.definitions.specs.Syntax.{Patient, Region, patientAt}
 use Rattle.definitions.specs.Plans.{Plan, bedOf}
 use Rattle.theorems.specs.List.{Fits}
-use Rattle.theorems.specs.Below.{below-long}
+use Rattle.lists.specs.Below.{length-by-places, at-place}
 use Rattle.partial_rows.specs.Adding.{addBeds, add-at, add-length}
 use Rattle.partial_rows.specs.Sets.{Patients, Part, first, second, neither, Splits, swap-parts}
 use Rattle.partial_rows.specs.Rows.{noBeds, bedsIn, BedIn, BedsOf}
@@ -57,21 +57,14 @@ module _ {region : Region} where
       go n x y second h k = omega arith
       go n x y neither h k = omega arith
 
--- What stands at a place of a list that is given by numbers.
-map-numbers-at : (f : ℕ → ℕ) (a n s : ℕ) → s < n → getD (map f (numbersFrom a n)) s 0 ≡ f (a + s)
-map-numbers-at f a zero s h = absurd (omega arith)
-map-numbers-at f a (suc n) zero h = ap f (omega arith)
-map-numbers-at f a (suc n) (suc s) h = map-numbers-at f (suc a) n s (omega arith) ∙ ap f (omega arith)
-
 module _ (region : Region) where
   beds-in-at : (D : Patients) (plan : Plan) (s : ℕ) → s < length (region .patients) → bedOf (bedsIn region D plan) s ≡ cond (D s) (bedOf plan s) 0
   unfolding bedsIn
-  beds-in-at D plan s h = map-numbers-at (λ r. cond (D r) (bedOf plan r) 0) 0 (length (region .patients)) s h
-      ∙ ap (λ r. cond (D r) (bedOf plan r) 0) (omega arith)
+  beds-in-at D plan s h = at-place (λ r. cond (D r) (bedOf plan r) 0) 0 (length (region .patients)) s h
 
   beds-in-length : (D : Patients) (plan : Plan) → length (bedsIn region D plan) ≡ length (region .patients)
   unfolding bedsIn
-  beds-in-length D plan = length-map (patientNumbers region) _ ∙ below-long (length (region .patients))
+  beds-in-length D plan = length-by-places _ 0 (length (region .patients))
 
   -- Beds for a set fall into those in either part.
   beds-in-part : {D E F : Patients} {beds : List ℕ} → Splits D E F → BedsOf region D beds → BedsOf region E (bedsIn region E beds)

@@ -1,21 +1,17 @@
 -- Lower bounds of the cost of a set's rows.
-use mathlib.Core.Path.{sym, ap, _∙_}
+use mathlib.Core.Path.{sym, _∙_}
 use mathlib.Core.Option.{Option·none-ne-some}
 use native.Mathlib.Nat.{le-refl}
 use native.Mathlib.Omega.{arith}
-use lib.ListN.{set}
 use Prim.Native.Nat.{_≤_}
-use Rattle.definitions.specs.Basics.{ℕ, zero, suc, _-_, _<_, min, _≡_, refl, Bool, true, false, not, _&&_, Option, none, some, Option·getD}
-use Rattle.definitions.specs.Basics.{List, [], _∷_, map, getD, sum, keep}
-use Rattle.definitions.specs.Syntax.{Table, Region, patientAt}
-use Rattle.definitions.specs.Plans.{Plan, entryFor, costOver, constraints, Row}
-use Rattle.theorems.specs.Sums.{Halves, halves, sum-split}
-use Rattle.partial_rows.specs.Adding.{addBeds, addRows}
-use Rattle.partial_rows.specs.Sets.{Patients, only, Splits}
-use Rattle.partial_rows.specs.Rows.{holds, tablesOf, decidedTables, LowerBound, Step, Position}
-use Rattle.partial_rows.specs.Costs.{keep-same, keep-keep, cost-cons}
-use Rattle.partial_rows.specs.Splitting.{row-together}
-use Rattle.partial_rows.specs.Branches.{placed-next, bed-step}
+use Rattle.definitions.specs.Basics.{ℕ, zero, suc, min, _≡_, Option, none, some, Option·getD}
+use Rattle.definitions.specs.Basics.{List, [], _∷_, map, getD, sum}
+use Rattle.definitions.specs.Syntax.{Table, Region}
+use Rattle.definitions.specs.Plans.{Plan, entryFor, costOver}
+use Rattle.theorems.specs.Sums.{Halves, halves}
+use Rattle.partial_rows.specs.Sets.{Patients}
+use Rattle.partial_rows.specs.Rows.{LowerBound}
+use Rattle.partial_rows.specs.Costs.{cost-cons}
 
 -- The smaller of two entries, a number before a forbidden one; the least of some.
 abbrev pub smaller : Option ℕ → Option ℕ → Option ℕ
@@ -69,35 +65,3 @@ module _ (region : Region) (D : Patients) (placed : Plan) where
   -- Nothing costs less than 0.
   pub bound-zero : LowerBound region D placed 0
   bound-zero w r = omega arith
-
-  -- The least numbers of some of the set's tables, added.
-  pub bound-tables : (test : Table → Bool) → ((t : Table) → test t ≡ true → holds D t ≡ true)
-      → LowerBound region D placed (sum (map leastEntry (keep test (constraints region))))
-  unfolding tablesOf costOver
-  bound-tables test held w r =
-      omega (arith, parts .whole, least-sum region plan (keep test (constraints region)) (parts .x) (ap (λ l. costOver l region plan) (sym kept) ∙ parts .left))
-    where
-      plan : Plan
-      plan = addBeds placed (w .beds)
-
-      parts : Halves (costOver (keep test (tablesOf region D)) region plan) (costOver (keep (λ t. not (test t)) (tablesOf region D)) region plan) (w .cost)
-      parts = halves _ _ (w .cost) (sym (sum-split (entryFor region plan) test (tablesOf region D)) ∙ r .priced)
-
-      kept : keep test (keep (holds D) (constraints region)) ≡ keep test (constraints region)
-      kept = keep-keep test (holds D) (constraints region) ∙ keep-same _ test (constraints region) (λ t k. go (holds D t) (test t) (held t))
-        where
-          go : (a b : Bool) → (b ≡ true → a ≡ true) → (a && b) ≡ b
-          go true b h = refl
-          go false true h = h refl
-          go false false h = refl
-
--- Once a part is placed, what its step costs comes off the bound; so for one patient, with the bed that it gets.
-pub bound-step : (region : Region) {D E F : Patients} → Splits D E F → (placed : Plan) (u : Row) (n : ℕ) → Step region E F placed u
-    → LowerBound region D placed n → LowerBound region F (addBeds placed (u .beds)) (n - u .cost)
-bound-step region split placed u n p bound v q = omega (arith, bound (addRows u v) (row-together region split placed u v p q))
-
-pub bound-bed : {region : Region} {D F : Patients} (s : ℕ) (split : Splits D (only s) F) {placed : Plan} {u : Row} → Position region D placed u
-    → (b c n : ℕ) → b < patientAt region s .bedCount → costOver (decidedTables region (only s) F) region (set placed s b) ≡ some c
-    → LowerBound region D placed n → LowerBound region F (set placed s b) (n - c)
-bound-bed {region} s split {placed} position b c n fits priced bound =
-    rw (placed-next s split position b) at (bound-step region split placed _ n (bed-step s split position b c fits priced) bound)

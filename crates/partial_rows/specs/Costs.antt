@@ -1,35 +1,14 @@
 -- What a sum over tables depends on, and how the tables of a set fall into those of two parts.
 use mathlib.Core.Path.{ap, ap₂, _∙_}
-use Rattle.definitions.specs.Basics.{ℕ, _≡_, refl, Bool, true, false, not, _&&_, _||_, cond, Option, none, some, Option·map, bind, List, [], _∷_, map, getD, sum, keep, any, onAll}
+use Rattle.definitions.specs.Basics.{ℕ, _≡_, refl, Bool, true, false, not, _&&_, _||_, none, Option·map, List, [], _∷_, getD, sum, keep, any}
 use Rattle.definitions.specs.Syntax.{Table, Region, patientAt}
 use Rattle.definitions.specs.Plans.{Plan, bedOf, place, entryFor, costOver, constraints}
-use Rattle.ranking.specs.Members.{_∈_, here, there}
-use Rattle.theorems.specs.Sums.{plus, sum-split}
+use Rattle.lists.specs.Members.{_∈_}
+use Rattle.lists.specs.Keep.{keep-keep, keep-same}
+use Rattle.lists.specs.Maps.{map-same, on-all-same}
+use Rattle.theorems.specs.Sums.{plus, sum-cons, sum-split}
 use Rattle.partial_rows.specs.Sets.{Patients, Part, first, second, neither, Splits}
 use Rattle.partial_rows.specs.Rows.{holds, tablesOf, decidedTables}
-
--- What functions give on a list, and which elements tests keep, by what they do on its elements.
-module _ {A : Type 0} where
-  map-same : {B : Type 0} (f g : A → B) (l : List A) → ((x : A) → x ∈ l → f x ≡ g x) → map f l ≡ map g l
-  map-same f g [] h = refl
-  map-same {B} f g (x ∷ l) h = ap₂ {C = List B} (λ y ys. y ∷ ys) (h x (here refl)) (map-same f g l (λ y k. h y (there k)))
-
-  on-all-same : {B : Type 0} (f g : A → Option B) (l : List A) → ((x : A) → x ∈ l → f x ≡ g x) → onAll f l ≡ onAll g l
-  on-all-same f g [] h = refl
-  on-all-same f g (x ∷ l) h = rw (h x (here refl), on-all-same f g l (λ y k. h y (there k)))
-
-  pub keep-same : (f g : A → Bool) (l : List A) → ((x : A) → x ∈ l → f x ≡ g x) → keep f l ≡ keep g l
-  keep-same f g [] h = refl
-  keep-same f g (x ∷ l) h = rw (h x (here refl), keep-same f g l (λ y k. h y (there k)))
-
-  pub keep-keep : (f g : A → Bool) (l : List A) → keep f (keep g l) ≡ keep (λ x. g x && f x) l
-  keep-keep f g [] = refl
-  keep-keep f g (x ∷ l) = go (g x) (keep-keep f g l)
-    where
-      go : (b : Bool) → keep f (keep g l) ≡ keep (λ y. g y && f y) l
-          → keep f (cond b (x ∷ keep g l) (keep g l)) ≡ cond (b && f x) (x ∷ keep (λ y. g y && f y) l) (keep (λ y. g y && f y) l)
-      go true ih = rw ih
-      go false ih = ih
 
 -- A sum over tables depends only on the beds of their members.
 pub cost-same : (region : Region) (plan other : Plan) (tables : List Table)
@@ -41,13 +20,8 @@ cost-same region plan other tables h = ap (Option·map sum) (on-all-same (entryF
 -- The first table's entry and the sum over the others.
 pub cost-cons : (region : Region) (plan : Plan) (t : Table) (tables : List Table)
     → costOver (t ∷ tables) region plan ≡ plus (entryFor region plan t) (costOver tables region plan)
-unfolding costOver bind
-cost-cons region plan t tables = go (entryFor region plan t) (onAll (entryFor region plan) tables)
-  where
-    go : (o : Option ℕ) (r : Option (List ℕ)) → Option·map sum (bind o (λ y. Option·map (λ ys. y ∷ ys) r)) ≡ plus o (Option·map sum r)
-    go none r = refl
-    go (some y) none = refl
-    go (some y) (some ys) = refl
+unfolding costOver
+cost-cons region plan t tables = sum-cons (entryFor region plan) t tables
 
 -- A set that is split: a table has a member in it where it has one in either part.
 pub holds-split : {D E F : Patients} → Splits D E F → (t : Table) → holds D t ≡ (holds E t || holds F t)

@@ -1,4 +1,4 @@
--- Rows of 32 beds in which those who are no patients have bed 0, and their cuts to the patients' beds.
+-- Rows of 32 beds in which those who are no patients have bed 0, and the same rows without that padding.
 use mathlib.Core.Path.{sym, ap, ap₂, _∙_}
 use native.Mathlib.Omega.{arith}
 use lib.ListN.{drop, length-append, length-replicate, take-append-drop}
@@ -13,8 +13,8 @@ use Rattle.partial_rows.specs.Adding.{addBeds, addRows, add-length, add-
 use Rattle.partial_rows.specs.Appending.{then-eq, compare-append, isTie, same-tie}
 
 -- A row's beds of the first v patients.
-abbrev pub cut : ℕ → Row → Row
-cut v z = record { cost = z .cost; beds = take v (z .beds) }
+abbrev pub unpadded : ℕ → Row → Row
+unpadded v z = record { cost = z .cost; beds = take v (z .beds) }
 
 -- A row of 32 beds, with bed 0 from patient v on.
 pub record Padded (v : ℕ) (z : Row) : Type 0 where
@@ -57,22 +57,22 @@ drop-add-beds (suc v) (x ∷ xs) (y ∷ ys) e = drop-add-beds v xs ys (omega ari
 beds-padded : (v : ℕ) (z : Row) → Padded v z → z .beds ≡ take v (z .beds) ++ replicate (32 - v) 0
 beds-padded v z p = sym (take-append-drop v (z .beds)) ∙ ap (λ (l : List ℕ). take v (z .beds) ++ l) (p .rest)
 
-cut-length : (v : ℕ) (z : Row) → v ≤ 32 → Padded v z → length (cut v z .beds) ≡ v
-cut-length v z h p = length-take-le v (z .beds) (omega (arith, p .long))
+unpadded-length : (v : ℕ) (z : Row) → v ≤ 32 → Padded v z → length (unpadded v z .beds) ≡ v
+unpadded-length v z h p = length-take-le v (z .beds) (omega (arith, p .long))
 
--- The cut keeps how padded rows compare, and whether their beds are the same.
-pub cut-compare : (v : ℕ) (x y : Row) → v ≤ 32 → Padded v x → Padded v y → compareRows (cut v x) (cut v y) ≡ compareRows x y
-cut-compare v x y h p q = ap (thenBy (compare (x .cost) (y .cost)))
-    (compare-front (take v (x .beds)) (take v (y .beds)) (replicate (32 - v) 0) (cut-length v x h p ∙ sym (cut-length v y h q))
+-- Without the padding rows compare as with it, and their beds are the same where they were.
+pub unpadded-compare : (v : ℕ) (x y : Row) → v ≤ 32 → Padded v x → Padded v y → compareRows (unpadded v x) (unpadded v y) ≡ compareRows x y
+unpadded-compare v x y h p q = ap (thenBy (compare (x .cost) (y .cost)))
+    (compare-front (take v (x .beds)) (take v (y .beds)) (replicate (32 - v) 0) (unpadded-length v x h p ∙ sym (unpadded-length v y h q))
     ∙ ap₂ compareBeds (sym (beds-padded v x p)) (sym (beds-padded v y q)))
 
-pub cut-same : (v : ℕ) (x y : Row) → v ≤ 32 → Padded v x → Padded v y → sameBeds (cut v x) (cut v y) ≡ sameBeds x y
-cut-same v x y h p q = same-front (take v (x .beds)) (take v (y .beds)) (replicate (32 - v) 0) (cut-length v x h p ∙ sym (cut-length v y h q))
+pub unpadded-same : (v : ℕ) (x y : Row) → v ≤ 32 → Padded v x → Padded v y → sameBeds (unpadded v x) (unpadded v y) ≡ sameBeds x y
+unpadded-same v x y h p q = same-front (take v (x .beds)) (take v (y .beds)) (replicate (32 - v) 0) (unpadded-length v x h p ∙ sym (unpadded-length v y h q))
     ∙ ap₂ (same eqb) (sym (beds-padded v x p)) (sym (beds-padded v y q))
 
--- To add and to cut, in either order; padded rows added are padded.
-pub cut-add : (v : ℕ) (x y : Row) → length (x .beds) ≡ length (y .beds) → cut v (addRows x y) ≡ addRows (cut v x) (cut v y)
-cut-add v x y e = λ i. record { cost = x .cost + y .cost; beds = take-add-beds v (x .beds) (y .beds) e i }
+-- To add and to take the padding away, in either order; padded rows added are padded.
+pub unpadded-add : (v : ℕ) (x y : Row) → length (x .beds) ≡ length (y .beds) → unpadded v (addRows x y) ≡ addRows (unpadded v x) (unpadded v y)
+unpadded-add v x y e = λ i. record { cost = x .cost + y .cost; beds = take-add-beds v (x .beds) (y .beds) e i }
 
 pub padded-add : (v : ℕ) (x y : Row) → v ≤ 32 → Padded v x → Padded v y → Padded v (addRows x y)
 padded-add v x y h p q = record {
@@ -83,23 +83,23 @@ padded-add v x y h p q = record {
     nothing : addBeds (replicate (32 - v) 0) (replicate (32 - v) 0) ≡ replicate (32 - v) 0
     nothing = add-zeros (32 - v) (replicate (32 - v) 0) (omega (arith, length-replicate {A = ℕ} (32 - v) 0))
 
--- Padded rows with one cut are one row.
-pub cut-one : (v : ℕ) (x y : Row) → Padded v x → Padded v y → cut v x ≡ cut v y → x ≡ y
-cut-one v x y p q e = λ i. record { cost = e i .cost; beds = beds i }
+-- Padded rows that are one row without the padding are one row.
+pub unpadded-one : (v : ℕ) (x y : Row) → Padded v x → Padded v y → unpadded v x ≡ unpadded v y → x ≡ y
+unpadded-one v x y p q e = λ i. record { cost = e i .cost; beds = beds i }
   where
     beds : x .beds ≡ y .beds
     beds = beds-padded v x p ∙ ap (λ (z : Row). z .beds ++ replicate (32 - v) 0) e ∙ sym (beds-padded v y q)
 
--- The row of v beds with zeros behind them is padded, and its cut is the row.
+-- The row of v beds with zeros behind them is padded, and without the padding it is the row.
 pub padded-with : (v cost : ℕ) (beds : List ℕ) → v ≤ 32 → length beds ≡ v → Padded v (record { cost = cost; beds = beds ++ replicate (32 - v) 0 })
 padded-with v cost beds h e = record {
   long = omega (arith, length-append beds (replicate (32 - v) 0), length-replicate {A = ℕ} (32 - v) 0);
   rest = drop-at beds (replicate (32 - v) 0) v e;
 }
 
-pub cut-with : (v cost : ℕ) (beds : List ℕ) → length beds ≡ v
-    → cut v (record { cost = cost; beds = beds ++ replicate (32 - v) 0 }) ≡ record { cost = cost; beds = beds }
-cut-with v cost beds e = λ i. record { cost = cost; beds = take-at beds (replicate (32 - v) 0) v e i }
+pub unpadded-with : (v cost : ℕ) (beds : List ℕ) → length beds ≡ v
+    → unpadded v (record { cost = cost; beds = beds ++ replicate (32 - v) 0 }) ≡ record { cost = cost; beds = beds }
+unpadded-with v cost beds e = λ i. record { cost = cost; beds = take-at beds (replicate (32 - v) 0) v e i }
 
 -- Where all beds are 0, each is.
 pub zero-bed : (n s : ℕ) → bedOf (replicate n 0) s ≡ 0

@@ -7,14 +7,14 @@ use Prim.Native.Nat.{_≤_}
 use Rattle.definitions.specs.Basics.{ℕ, _+_, _≡_, refl, Bool, true, false, not, _&&_, List, length, take, sort}
 use Rattle.definitions.specs.Syntax.{Table, Region}
 use Rattle.definitions.specs.Plans.{Plan, bedOf, constraints, Row, compareRows}
-use Rattle.ranking.specs.Members.{_∈_}
+use Rattle.lists.specs.Members.{_∈_}
+use Rattle.lists.specs.Keep.{keep-same}
 use Rattle.ranking.specs.First.{First, first-iff}
 use Rattle.ranking.specs.Combining.{Combined, Injective, Rising, cross, first-combined, first-cross}
 use Rattle.theorems.specs.List.{rowOrder}
 use Rattle.partial_rows.specs.Adding.{addBeds, addRows, add-at, add-rising, add-rising-right}
 use Rattle.partial_rows.specs.Sets.{Patients, Splits, swap-parts, not-both}
 use Rattle.partial_rows.specs.Rows.{holds, tablesOf, decidedTables, BedsOf, RowOf, Step}
-use Rattle.partial_rows.specs.Costs.{keep-same}
 use Rattle.partial_rows.specs.Beds.{outside, beds-same}
 use Rattle.partial_rows.specs.Contexts.{row-context}
 use Rattle.partial_rows.specs.Splitting.{unseen, row-by-beds, row-together, row-apart}

@@ -4,7 +4,7 @@ use Prim.Native.Nat.{_≤_}
 use Rattle.definitions.specs.Basics.{ℕ, _+_, _<_, _≡_, Bool, true, false, not, _&&_, _||_, cond, some, List, map, length, replicate, any, keep}
 use Rattle.definitions.specs.Syntax.{Table, Region, patientNumbers, patientAt}
 use Rattle.definitions.specs.Plans.{Plan, bedOf, costOver, constraints, Row}
-use Rattle.ranking.specs.Members.{_∈_}
+use Rattle.lists.specs.Members.{_∈_}
 use Rattle.partial_rows.specs.Adding.{addBeds, addRows}
 use Rattle.partial_rows.specs.Sets.{Patients}
 

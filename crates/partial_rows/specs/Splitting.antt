@@ -7,9 +7,10 @@ use borrow.Author.Tests.{not-true}
 use Rattle.definitions.specs.Basics.{ℕ, _+_, _≡_, true, false, not, _&&_, Option, some, List}
 use Rattle.definitions.specs.Syntax.{Table, Region}
 use Rattle.definitions.specs.Plans.{Plan, bedOf, costOver, constraints, Row}
-use Rattle.ranking.specs.Members.{_∈_}
-use Rattle.theorems.specs.Tests.{both}
-use Rattle.theorems.specs.Kept.{any-in, keep-out}
+use Rattle.lists.specs.Tests.{both}
+use Rattle.lists.specs.Members.{_∈_}
+use Rattle.lists.specs.Every.{any-in}
+use Rattle.lists.specs.Keep.{keep-out}
 use Rattle.theorems.specs.Sums.{plus, Halves, halves}
 use Rattle.partial_rows.specs.Adding.{addBeds, addRows, add-at, add-beds-assoc}
 use Rattle.partial_rows.specs.Sets.{Patients, Splits, not-both}

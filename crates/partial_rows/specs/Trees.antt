@@ -1,21 +1,20 @@
 -- The trees of the forest that the parents make: no table joins two of them, so their rows may be found one tree after another.
 use mathlib.Core.Path.{sym, ap, _∙_}
-use mathlib.Core.Logic.{_⊎_, inl, inr}
+use mathlib.Core.Logic.{inl, inr}
 use mathlib.Core.Bool.{true≢false, not-eq-not}
 use mathlib.Core.Option.{Option·none-ne-some}
 use native.Mathlib.Omega.{arith}
-use borrow.Author.Tests.{ltb-true, lt-ltb, le-ltb, eqb-true, eq-eqb, ne-eqb}
+use borrow.Author.Tests.{ltb-true, lt-ltb, le-ltb, eq-eqb, ne-eqb}
 use Prim.Native.Nat.{_≤_}
 use Rattle.definitions.specs.Basics.{ℕ, zero, suc, _<_, Ordering, _≡_, refl, Bool, true, false, _||_, Option, none, some, List, [], _∷_, length}
-use Rattle.definitions.specs.Basics.{eqb, ltb, contains}
+use Rattle.definitions.specs.Basics.{eqb, ltb}
 use Rattle.definitions.specs.Syntax.{Table, Region, patientAt}
 use Rattle.definitions.specs.Plans.{constraints}
 use Rattle.definitions.specs.Questions.{following, ancestors}
-use Rattle.ranking.specs.Members.{_∈_, here, there, here-or-there, none-in-nil}
+use Rattle.lists.specs.Members.{_∈_, here-or-there, none-in-nil}
+use Rattle.lists.specs.Every.{any-out}
 use Rattle.ranking.specs.Orders.{View, before, equal, after, ℕ-view}
-use Rattle.theorems.specs.Tests.{same-answer}
-use Rattle.theorems.specs.Kept.{any-out, contains-in, contains-out}
-use Rattle.theorems.specs.Accepted.{Accepted, parent-smaller, constraint-related}
+use Rattle.theorems.specs.Accepted.{Accepted, parent-below, constraint-related}
 use Rattle.partial_rows.specs.Sets.{Patients, Part, first, second, neither, Splits}
 use Rattle.partial_rows.specs.Rows.{Closed}
 use Rattle.partial_rows.specs.Parts.{Apart}
@@ -42,16 +41,12 @@ data Rooted (region : Region) (r : ℕ) : ℕ → Type 0 where
   up : {s : ℕ} (p : ℕ) → patientAt region s .parent ≡ some p → Rooted region r p → Rooted region r s
 
 module _ {region : Region} where
-  -- It ends at one patient, which has no parent.
+  -- It ends at one patient.
   rooted-one : {s r q : ℕ} → Rooted region r s → Rooted region q s → r ≡ q
   rooted-one (top e h) (top d k) = h ∙ sym k
   rooted-one (top e h) (up p d k) = absurd (Option·none-ne-some p (sym e ∙ d))
   rooted-one (up p e h) (top d k) = absurd (Option·none-ne-some p (sym d ∙ e))
   rooted-one (up p e h) (up o d k) = let same : o ≡ p = cc in rooted-one h (rw same at k)
-
-  rooted-top : {s r : ℕ} → Rooted region r s → patientAt region r .parent ≡ none
-  rooted-top (top e h) = rw h e
-  rooted-top (up p e h) = rooted-top h
 
   -- The patients on the way end there too.
   rooted-on : {s r b : ℕ} (k : ℕ) → b ∈ following region k (patientAt region s .parent) → Rooted region r s → Rooted region r b
@@ -69,60 +64,30 @@ module _ (region : Region) (accepted : Accepted region) where
     where
       go : (o : Option ℕ) → patientAt region s .parent ≡ o → Rooted region s s
       go none e = top e refl
-      go (some p) e = absurd (omega (arith, few p e, parent-smaller region accepted s p e .0))
+      go (some p) e = absurd (omega (arith, few p e, parent-below region (accepted .parentsFit) s p e .1))
   rooted-after (suc k) s few = go (patientAt region s .parent) refl (rooted-after k)
     where
       go : (o : Option ℕ) → patientAt region s .parent ≡ o
           → ((p : ℕ) → ((q : ℕ) → patientAt region p .parent ≡ some q → p ≤ k) → Rooted region (lastFrom p (following region k (patientAt region p .parent))) p)
           → Rooted region (lastFrom s (following region (suc k) o)) s
       go none e ih = top e refl
-      go (some p) e ih = up p e (ih p (λ q d. omega (arith, few p e, parent-smaller region accepted s p e .0)))
+      go (some p) e ih = up p e (ih p (λ q d. omega (arith, few p e, parent-below region (accepted .parentsFit) s p e .1)))
 
   rooted : (s : ℕ) → Rooted region (rootOf region s) s
   unfolding rootOf ancestors
-  rooted s = rooted-after (length (region .patients)) s (λ p e. omega (arith, parent-smaller region accepted s p e .1))
+  rooted s = rooted-after (length (region .patients)) s (λ p e. omega (arith, parent-below region (accepted .parentsFit) s p e .0))
 
-  -- A patient has the root of its ancestors, and the root has no parent and no larger number.
+  -- A patient has the root of its ancestors, and the root has no larger number.
   root-of-ancestor : (a b : ℕ) → b ∈ ancestors region a → rootOf region a ≡ rootOf region b
   unfolding ancestors
   root-of-ancestor a b i = rooted-one (rooted-on (length (region .patients)) i (rooted a)) (rooted b)
-
-  root-top : (s : ℕ) → patientAt region (rootOf region s) .parent ≡ none
-  root-top s = rooted-top (rooted s)
 
   root-at-most : (s : ℕ) → rootOf region s ≤ s
   root-at-most s = go (rooted s)
     where
       go : {r s : ℕ} → Rooted region r s → r ≤ s
       go (top e h) = omega arith
-      go {s} (up p e h) = omega (arith, go h, parent-smaller region accepted s p e .0)
-
-  -- The tree of a patient holds patients only.
-  pub tree-known : (r s : ℕ) → r < length (region .patients) → treeOf region r s ≡ true → s < length (region .patients)
-  tree-known r s h e = go (rw (eqb-true (rootOf region s) r e) at (rooted s))
-    where
-      go : Rooted region r s → s < length (region .patients)
-      go (top q d) = rw (← d) h
-      go (up p q d) = parent-smaller region accepted s p q .1
-
-  -- The tree of a root: the root, and the patients that have it as an ancestor.
-  pub tree-members : (r s : ℕ) → patientAt region r .parent ≡ none → treeOf region r s ≡ contains (s ∷ ancestors region s) r
-  tree-members r s e = same-answer (λ q. contains-in (s ∷ ancestors region s) (rw (eqb-true (rootOf region s) r q) at last))
-      (λ q. eq-eqb (rootOf region s) r (root (here-or-there (contains-out (s ∷ ancestors region s) r q))))
-    where
-      last-in : (s : ℕ) (l : List ℕ) → lastFrom s l ∈ s ∷ l
-      last-in s [] = here refl
-      last-in s (p ∷ l) = there (last-in p l)
-
-      last : rootOf region s ∈ s ∷ ancestors region s
-      last = unfold rootOf in last-in s (ancestors region s)
-
-      itself : rootOf region r ≡ r
-      itself = rooted-one (rooted r) (top e refl)
-
-      root : (r ≡ s) ⊎ (r ∈ ancestors region s) → rootOf region s ≡ r
-      root (inl q) = ap (rootOf region) (sym q) ∙ itself
-      root (inr i) = root-of-ancestor s r i ∙ itself
+      go {s} (up p e h) = omega (arith, go h, parent-below region (accepted .parentsFit) s p e .1)
 
   -- ---- tables
 
@@ -165,16 +130,6 @@ module _ (region : Region) (accepted : Accepted region) where
   -- No table joins them.
   pub trees-apart : (k : ℕ) → Apart region (rootsBelow region k) (treeOf region k)
   trees-apart k = roots-apart region accepted (λ r. ltb r k) (λ r. eqb r k) (λ r h. ne-eqb r k (λ e. omega (arith, ltb-true r k h)))
-
-  -- A patient with a parent is nobody's root.
-  pub roots-skip : (k p : ℕ) → patientAt region k .parent ≡ some p → (s : ℕ) → rootsBelow region (suc k) s ≡ rootsBelow region k s
-  roots-skip k p e s = go (trees-split region k s)
-      (ne-eqb (rootOf region s) k (λ q. Option·none-ne-some p (sym (root-top region accepted s) ∙ ap (λ r. patientAt region r .parent) q ∙ e)))
-    where
-      go : {a b c : Bool} → Part a b c → c ≡ false → a ≡ b
-      go first h = refl
-      go second h = absurd (true≢false h)
-      go neither h = refl
 
   -- Every patient has one of the patients for its root.
   pub roots-all : (s : ℕ) → s < length (region .patients) → rootsBelow region (length (region .patients)) s ≡ true

@@ -1,27 +1,22 @@
 -- The two ends: the rows of the whole region are what its list may hold, and of no patients there is one row.
 use mathlib.Core.Path.{sym, _∙_}
 use mathlib.Core.Logic.{_↔_}
-use mathlib.Core.Bool.{true≢false, not-eq-not}
+use mathlib.Core.Bool.{true≢false}
 use native.Mathlib.Omega.{arith}
-use Rattle.definitions.specs.Basics.{ℕ, _<_, _≡_, refl, true, false, List, [], _∷_, length, keep}
+use Rattle.definitions.specs.Basics.{ℕ, _<_, _≡_, refl, true, false, List, [], length}
 use Rattle.definitions.specs.Syntax.{Table, Region}
 use Rattle.definitions.specs.Plans.{Plan, costOver, constraints, total, Row, listOf}
-use Rattle.ranking.specs.Members.{_∈_}
+use Rattle.lists.specs.Members.{_∈_}
+use Rattle.lists.specs.Every.{every-all, any-in, any-false}
+use Rattle.lists.specs.Keep.{keep-all, keep-none}
 use Rattle.ranking.specs.First.{First, first-iff, first-unique}
 use Rattle.theorems.specs.List.{rowOrder, Allowed, list-first}
-use Rattle.theorems.specs.Kept.{any-in, any-out, keep-all}
 use Rattle.theorems.specs.Accepted.{Accepted, constraint-held, constraint-known}
 use Rattle.partial_rows.specs.Adding.{addBeds, add-zeros}
 use Rattle.partial_rows.specs.Sets.{Patients}
 use Rattle.partial_rows.specs.Rows.{holds, tablesOf, noBeds, emptyRow, BedsOf, RowOf}
-use Rattle.partial_rows.specs.Costs.{keep-same}
 use Rattle.partial_rows.specs.Beds.{beds-same, empty-beds, fits-beds}
 use Rattle.partial_rows.specs.Splitting.{row-by-beds}
-
--- What is kept by a test that none passes.
-keep-none : {A : Type 0} (l : List A) → keep (λ x. false) l ≡ []
-keep-none [] = refl
-keep-none (x ∷ l) = keep-none l
 
 -- ---- the whole region
 
@@ -34,7 +29,7 @@ module _ (region : Region) (D : Patients) (all : (s : ℕ) → s < length (regio
     (held : (t : Table) → t ∈ constraints region → holds D t ≡ true) where
   pub tables-all : tablesOf region D ≡ constraints region
   unfolding tablesOf
-  tables-all = keep-same (holds D) (λ t. true) (constraints region) held ∙ keep-all (constraints region)
+  tables-all = keep-all (holds D) (constraints region) (every-all (holds D) (constraints region) held)
 
   whole-cost : (w : Row) → BedsOf region D (w .beds) → costOver (tablesOf region D) region (addBeds (noBeds region) (w .beds)) ≡ total region (w .beds)
   unfolding total
@@ -56,8 +51,7 @@ module _ (region : Region) (D : Patients) (all : (s : ℕ) → s < length (regio
 module _ (region : Region) (placed : Plan) (E : Patients) (gone : (s : ℕ) → E s ≡ false) where
   tables-none : tablesOf region E ≡ []
   unfolding tablesOf
-  tables-none = keep-same (holds E) (λ t. false) (constraints region)
-      (λ t k. not-eq-not .0 (λ e. let (s, i, q) = any-out E (t .members) e in true≢false (sym q ∙ gone s))) ∙ keep-none (constraints region)
+  tables-none = keep-none (holds E) (constraints region) (λ t k. any-false E (t .members) .1 (λ s i. gone s))
 
   empty-row : RowOf region E placed (emptyRow region)
   unfolding costOver

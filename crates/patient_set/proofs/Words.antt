@@ -1,4 +1,4 @@
--- What the machine's operations on words do to each patient. Assumes nothing.
+-- What the machine's operations on words do to each patient.
 use mathlib.Core.Path.{_≡_, refl, sym, ap, ap₂, _∙_}
 use mathlib.Core.Bool.{Bool, true, false, not, cond, _&&_, _||_}
 use mathlib.Core.List.{List, _∷_}

@@ -1,4 +1,4 @@
--- The laws of sets of patients, in terms of `inSet` and `members` alone. Assumes nothing.
+-- The laws of sets of patients, in terms of `inSet` and `members` alone.
 use mathlib.Core.Path.{_≡_, refl, sym, ap, ap₂, _∙_, subst, fun-ext}
 use mathlib.Core.Bool.{false≢true, and-false}
 use Prim.Native.Nat.{_≤_, suc-le-suc}
@@ -12,7 +12,11 @@ use lib.Pow.{shr-shr, shr-lt, pow-mono}
 use borrow.Author.Tests.{ltb-true, eq-eqb, ne-eqb}
 use Rattle.definitions.specs.Basics.{ℕ, zero, suc, _+_, _-_, _*_, _/_, _%_, _^_, _<_, Bool, true, false, not, _&&_, cond, List, [], _∷_, eqb, ltb, length, isEmpty, every, everyTwo, keep, contains, below}
 use Rattle.patient_set.specs.Sets.{inSet, members, first}
-use Rattle.patient_set.specs.Lists.{keep-keep, length-keep, every-keep, everyTwo-keep, every-at, contains-keep, contains-numbers, contains-first, first-least, keep-rest, keep-front}
+use Rattle.lists.specs.Members.{here}
+use Rattle.lists.specs.Every.{contains-in, every-contains}
+use Rattle.lists.specs.Keep.{keep-short, every-keep, everyTwo-keep, keep-keep, contains-keep}
+use Rattle.lists.specs.Below.{contains-numbers, keep-front}
+use Rattle.lists.specs.Rising.{keep-rest}
 
 -- The word 0 is the empty set.
 pub members-empty : members 0 ≡ []
@@ -114,26 +118,17 @@ empty-size w = go (members w)
 -- A set has at most 32 patients.
 pub size-most : (w : ℕ) → length (members w) ≤ 32
 unfolding members
-size-most w = length-keep (inSet w) (below 32)
+size-most w = keep-short (inSet w) (below 32)
+
+-- The first of a list is in it.
+contains-first : (d : ℕ) (l : List ℕ) → isEmpty l ≡ false → contains l (first d l) ≡ true
+contains-first d [] h = absurd (false≢true (sym h))
+contains-first d (x ∷ l) h = contains-in (x ∷ l) (here refl)
 
 -- The lowest of a set that is not empty is a patient of the set.
 pub lowest-patient : (w : ℕ) → isEmpty (members w) ≡ false → first 32 (members w) < 32
 lowest-patient w h =
-    ltb-true (first 32 (members w)) 32 (every-at (λ q. ltb q 32) (members w) (first 32 (members w)) (all-patients w) (contains-first 32 (members w) h))
-
-pub lowest-in : (w : ℕ) → w < 2 ^ 32 → isEmpty (members w) ≡ false → inSet w (first 32 (members w)) ≡ true
-lowest-in w l h = sym (member w _ l) ∙ contains-first 32 (members w) h
-
--- No patient of the set is lower.
-pub lowest-least : (w q : ℕ) → w < 2 ^ 32 → inSet w q ≡ true → first 32 (members w) ≤ q
-lowest-least w q l h = first-least 32 (members w) q (rising w) (member w q l ∙ h)
-
-pub none-lower : (w q : ℕ) → w < 2 ^ 32 → q < first 32 (members w) → inSet w q ≡ false
-none-lower w q l h = go (inSet w q) refl
-  where
-    go : (b : Bool) → inSet w q ≡ b → b ≡ false
-    go true e = absurd (omega (arith, lowest-least w q l e))
-    go false e = refl
+    ltb-true (first 32 (members w)) 32 (every-contains (λ q. ltb q 32) (members w) (first 32 (members w)) (all-patients w) (contains-first 32 (members w) h))
 
 -- A set w that is not empty, and r, which is w minus the set o of its lowest: the hypotheses are what the functions ensure.
 module _ (w low o r : ℕ) (some : isEmpty (members w) ≡ false) (lowest : low ≡ first 32 (members w))

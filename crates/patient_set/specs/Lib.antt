@@ -1,3 +1,2 @@
 pub mod Sets
-pub mod Lists
 pub mod Laws

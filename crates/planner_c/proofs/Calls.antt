@@ -1,4 +1,4 @@
--- The calls from C, from what the entries give and what is written of it. Assumes nothing.
+-- The calls from C, from what the entries give and what is written of it.
 use mathlib.Core.Path.{_≡_, sym, ap, _∙_}
 use Prim.Native.Nat.{_≤_, _<_, _-_}
 use native.Mathlib.Omega.{arith}

@@ -1,4 +1,4 @@
--- List and sheet as calls from C, from what the entry gives and what is written of it. Assumes nothing.
+-- List and sheet as calls from C, from what the entry gives and what is written of it.
 use mathlib.Core.Path.{_≡_, refl, sym, ap, ap₂, _∙_}
 use mathlib.Core.Bool.{and-assoc, and-false, and-true}
 use Prim.Native.Nat.{_≤_, _<_, _-_}
@@ -18,7 +18,7 @@ use Rattle.definitions.specs.Questions.{clinicPresent, planAllowed, askedByList
 use Rattle.definitions.specs.Outcomes.{Found, ListOutcome, written, foundBy, listFound, sheetFound, outcomeOf}
 use Rattle.definitions.specs.Boundary.{bytesOf, roomForNumbers, resultAfter, callOf, listCall, sheetCall}
 use Rattle.theorems.specs.Answers.{asked-twice}
-use Rattle.theorems.specs.Tests.{both}
+use Rattle.lists.specs.Tests.{both}
 use Rattle.theorems.specs.Accepted.{accepted, plans-wanted}
 use Rattle.byte_areas.specs.Costs.{held-costs, stored-costs}
 use Rattle.region_answers.specs.Found.{foundWith, AsksTwelve}

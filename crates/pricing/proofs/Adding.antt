@@ -1,4 +1,4 @@
--- The loop that adds to the sum of each bed the entry for it. Assumes nothing.
+-- The loop that adds to the sum of each bed the entry for it.
 use mathlib.Core.Path.{_≡_, refl, sym, ap, ap₂, _∙_}
 use Prim.Native.Nat.{_≤_}
 use native.Mathlib.Omega.{arith}

@@ -1,4 +1,4 @@
--- The loop that follows the terms of a bucket and adds up their entries for each bed of a patient. Assumes nothing.
+-- The loop that follows the terms of a bucket and adds up their entries for each bed of a patient.
 use mathlib.Core.Path.{_≡_, sym, ap, _∙_, subst}
 use Prim.Native.Nat.{_≤_}
 use native.Mathlib.Omega.{arith}

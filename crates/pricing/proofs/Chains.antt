@@ -1,4 +1,4 @@
--- A loop that follows the terms of a bucket and adds up their entries for a plan. Assumes nothing.
+-- A loop that follows the terms of a bucket and adds up their entries for a plan.
 use mathlib.Core.Path.{_≡_, refl, sym, ap, _∙_, subst}
 use mathlib.Core.Option.{Option·none-ne-some}
 use Prim.Native.Nat.{_≤_}
@@ -7,8 +7,8 @@ use native.Mathlib.Omega.{arith}
 use Rattle.definitions.specs.Basics.{ℕ, suc, _+_, _*_, _<_, true, Option, some, List, [], _∷_, length, getD}
 use Rattle.definitions.specs.Syntax.{Table, Region}
 use Rattle.definitions.specs.Plans.{Plan, bedOf, constraints, entryFor, costOver}
-use Rattle.ranking.specs.Members.{_∈_, here, there}
-use Rattle.theorems.specs.Kept.{keep-out}
+use Rattle.lists.specs.Members.{_∈_, here, there}
+use Rattle.lists.specs.Keep.{keep-out}
 use Rattle.theorems.specs.Sums.{plus, plus-assoc}
 use Rattle.partial_rows.specs.Rows.{decidedTables}
 use Rattle.partial_rows.specs.Costs.{cost-cons}

@@ -1,4 +1,4 @@
--- Beds that are read one by one. Assumes nothing.
+-- Beds that are read one by one.
 use mathlib.Core.Path.{_≡_, sym, ap, ap₂, _∙_}
 use Prim.Native.Nat.{_≤_}
 use native.Mathlib.Decide.{decLt}
@@ -10,7 +10,7 @@ use Rattle.definitions.specs.Basics.{ℕ, _+_, _<_, Bool, true, false, _&&_, Li
 use Rattle.definitions.specs.Syntax.{patientAt}
 use Rattle.definitions.specs.Plans.{bedOf}
 use Rattle.definitions.specs.Questions.{planFits}
-use Rattle.held_region.specs.Places.{same-tests}
+use Rattle.lists.specs.Below.{same-tests}
 use Rattle.buckets.specs.Terms.{bedsAt}
 use Rattle.pricing.specs.Pricing.{PlanAsked}
 

@@ -1,11 +1,11 @@
--- A loop that adds up what a function gives at each place below n, as the beds of a term's members. Assumes nothing.
+-- A loop that adds up what a function gives at each place below n, as the beds of a term's members.
 use mathlib.Core.Path.{_≡_, sym, ap, ap₂, _∙_}
 use native.Mathlib.Omega.{arith}
 use native.Mathlib.Nat.{add-assoc, add-zero, mul-le-mul}
 use Rattle.definitions.specs.Basics.{ℕ, _+_, _*_, _<_, List, map, sum, below}
 use Rattle.definitions.specs.Plans.{bedOf}
 use Rattle.buckets.specs.Terms.{startAt, memberAt, strideAt, placeAt}
-use Rattle.held_region.specs.Places.{placesFrom, places-all, places-next, places-done}
+use Rattle.lists.specs.Loops.{placesFrom, places-all, places-next, places-done}
 use Prim.Native.Nat.{_≤_}
 use Rattle.pricing.specs.Pricing.{Reads}
 

@@ -1,4 +1,4 @@
--- A plan's total, bucket by bucket, from patient 0 on. Assumes nothing.
+-- A plan's total, bucket by bucket, from patient 0 on.
 use mathlib.Core.Path.{_≡_, refl, sym, ap, _∙_, fun-ext}
 use mathlib.Core.Bool.{not-eq-not}
 use mathlib.Core.Option.{Option·none-ne-some}
@@ -7,13 +7,13 @@ use native.Mathlib.Nat.{add-zero}
 use native.Mathlib.Omega.{arith}
 use borrow.Author.Tests.{lt-ltb, le-ltb, le-leb, lt-leb, leb-true, eq-eqb, ne-eqb}
 use lib.Seq.{getD-take}
-use Rattle.definitions.specs.Basics.{ℕ, _+_, _*_, _<_, Ordering, Bool, true, false, Option, none, some, List, [], _∷_, length, take, keep, eqb, ltb, leb}
+use Rattle.definitions.specs.Basics.{ℕ, _+_, _*_, _<_, Ordering, true, Option, none, some, List, length, take, eqb, ltb, leb}
 use Rattle.definitions.specs.Syntax.{Region}
 use Rattle.definitions.specs.Plans.{Plan, costOver, constraints, total}
-use Rattle.ranking.specs.Members.{_∈_, here, there}
+use Rattle.lists.specs.Every.{any-out}
+use Rattle.lists.specs.Keep.{keep-none}
 use Rattle.ranking.specs.Orders.{View, before, equal, after, ℕ-view}
 use Rattle.theorems.specs.Accepted.{Accepted, constraint-known}
-use Rattle.theorems.specs.Kept.{any-out}
 use Rattle.theorems.specs.Sums.{plus}
 use Rattle.partial_rows.specs.Sets.{only, Part, first, second, neither, Splits}
 use Rattle.partial_rows.specs.Rows.{holds, tablesOf}
@@ -23,11 +23,6 @@ use Rattle.buckets.specs.Terms.{Fitting, bucketOf, Prepared}
 use Rattle.pricing.specs.Pricing.{costIn, Asks, Gives, AsksAll, GivesAll}
 use Rattle.pricing.specs.declared.Cost.{Cost}
 use Rattle.pricing.specs.declared.Cost.the-variants.{Forbidden, Of}
-
--- A test that no element passes keeps none.
-keep-none-in : {A : Type 0} (f : A → Bool) (l : List A) → ((x : A) → x ∈ l → f x ≡ false) → keep f l ≡ []
-keep-none-in f [] h = refl
-keep-none-in f (x ∷ l) h = rw (h x (here refl)) (keep-none-in f l (λ y k. h y (there k)))
 
 -- The patients from s on are s and those above it.
 from-split : (s : ℕ) → Splits (leb s) (only s) (ltb s)
@@ -66,7 +61,7 @@ module _ (r : Region) (beds : Plan) where
     -- No table has a member from V on.
     cost-none : (v : ℕ) → length (r .patients) ≤ v → costFrom v ≡ some 0
     unfolding costFrom costOver tablesOf
-    cost-none v le = ap (λ l. costOver l r beds) (keep-none-in (holds (leb v)) (constraints r) (λ t k. not-eq-not .0 (λ e.
+    cost-none v le = ap (λ l. costOver l r beds) (keep-none (holds (leb v)) (constraints r) (λ t k. not-eq-not .0 (λ e.
         let (s, i, q) = any-out (leb v) (t .members) e in omega (arith, constraint-known r accepted t k s i, leb-true v s q))))
 
     -- The beds past V do not matter.

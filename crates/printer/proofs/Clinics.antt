@@ -1,4 +1,4 @@
--- A clinic's sheet: nothing where the clinic has no patients, or the rows from the second part of the work area. Assumes nothing.
+-- A clinic's sheet: nothing where the clinic has no patients, or the rows from the second part of the work area.
 use mathlib.Core.Path.{_≡_, refl, sym, ap, _∙_}
 use native.Mathlib.Omega.{arith}
 use Rattle.definitions.specs.Basics.{ℕ, Bool, true, false, not, cond, List, [], _∷_, length, isEmpty, text}

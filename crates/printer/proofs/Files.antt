@@ -1,4 +1,4 @@
--- The text of a file: a refusal by questions 1 to 10, or the text of its region. Assumes nothing.
+-- The text of a file: a refusal by questions 1 to 10, or the text of its region.
 use mathlib.Core.Path.{_≡_, refl, sym, ap, _∙_}
 use native.Mathlib.Omega.{arith}
 use Prim.Native.Nat.{_≤_}

@@ -1,4 +1,4 @@
--- The text of a region whose list lies in the work area: the refusal by question 13, or the list and the sheets. Assumes nothing.
+-- The text of a region whose list lies in the work area: the refusal by question 13, or the list and the sheets.
 use mathlib.Core.Path.{_≡_, sym, ap, _∙_}
 use native.Mathlib.Omega.{arith}
 use Prim.Native.Nat.{_≤_}
@@ -10,7 +10,7 @@ use Rattle.definitions.specs.Output.{printedRows}
 use Rattle.held_region.specs.declared.Region as Code
 use Rattle.held_region.specs.Meaning.{said}
 use Rattle.row_list.specs.Rows.{rowsIn}
-use Rattle.row_list.specs.Laws.{cut-long}
+use Rattle.row_list.specs.Laws.{unpadded-long}
 use Rattle.row_sums.specs.Sums.{part}
 use Rattle.row_sums.specs.Areas.{part-long}
 use Rattle.search.specs.Trees.{GivesRegion}
@@ -34,7 +34,7 @@ module _ (h : Code.Region) (store : List ℕ) (out work : List ℕ) (asks : Asks
 
   -- As many rows as the list has.
   counted : n ≡ length (listOf r)
-  counted = sym (cut-long (h .v) n (part 0 area)) ∙ ap length (gives .list)
+  counted = sym (unpadded-long (h .v) n (part 0 area)) ∙ ap length (gives .list)
 
   -- Question 13 is answered no.
   module _ (none-found : n ≡ 0) where

@@ -1,4 +1,4 @@
--- The sheets of all clinics, one after another, of whatever file the held region holds. Assumes nothing.
+-- The sheets of all clinics, one after another, of whatever file the held region holds.
 use mathlib.Core.Path.{refl, sym, _∙_}
 use mathlib.Core.List.{append-nil}
 use native.Mathlib.Omega.{arith}

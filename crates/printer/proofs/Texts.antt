@@ -1,4 +1,4 @@
--- The text of a region in its parts, and the sheets that are left of it, clinic by clinic. Assumes nothing.
+-- The text of a region in its parts, and the sheets that are left of it, clinic by clinic.
 use mathlib.Core.Path.{_≡_, refl, sym, ap, _∙_}
 use mathlib.Core.List.{append-assoc, append-nil}
 use native.Mathlib.Numerals.{add-one}

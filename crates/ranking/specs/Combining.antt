@@ -5,8 +5,7 @@ use native.Mathlib.Omega.{arith}
 use lib.ListN.{length-map}
 use Prim.Native.Nat.{_≤_}
 use Rattle.definitions.specs.Basics.{ℕ, _≡_, refl, List, [], _∷_, map, flatMap, take, sort}
-use Rattle.ranking.specs.Members.{_∈_, _⊆_, here, there, here-or-there, none-in-nil, Distinct, Enumerates, distinct-append, distinct-map}
-use Rattle.ranking.specs.Members.{in-append-left, in-append-right, in-append-cases, in-map, in-map-cases, in-cast}
+use Rattle.lists.specs.Members.{_∈_, _⊆_, Distinct, Enumerates, distinct-append, distinct-map, here, there, here-or-there, none-in-nil, in-append-left, in-append-right, in-append-cases, in-map, in-map-cases, in-cast}
 use Rattle.ranking.specs.Orders.{Order}
 use Rattle.ranking.specs.First.{First, FullBefore, Covered, sorted-distinct, first-covered}
 use Rattle.ranking.specs.Sorting.{first-of}

@@ -3,8 +3,8 @@ use mathlib.Core.Path.{sym, ap₂}
 use mathlib.Core.Logic.{_⊎_, inl, inr, _↔_}
 use native.Mathlib.Omega.{arith}
 use Prim.Native.Nat.{_≤_}
-use Rattle.definitions.specs.Basics.{ℕ, zero, suc, _<_, Ordering, _≡_, refl, List, [], _∷_, length, getD, take}
-use Rattle.ranking.specs.Members.{_∈_, _⊆_, here, there, here-or-there, none-in-nil, getD-in, Distinct}
+use Rattle.definitions.specs.Basics.{ℕ, zero, suc, Ordering, _≡_, refl, List, [], _∷_, length, getD, take}
+use Rattle.lists.specs.Members.{_∈_, _⊆_, getD-in, Distinct, here, there, here-or-there, none-in-nil}
 use Rattle.ranking.specs.Orders.{Order, View, before, equal, after}
 
 module _ {A : Type 0} (O : Order A) where
@@ -40,13 +40,7 @@ module _ {A : Type 0} (O : Order A) where
   abbrev pub Past : (A → Type 0) → A → A → Type 0
   Past P x z = P z × O .Lt x z
 
-  -- Sorted, by places; a sorted list is distinct.
-  pub sorted-at : (l : List A) (i j : ℕ) (d : A) → Sorted l → i < j → j < length l → O .Lt (getD l i d) (getD l j d)
-  sorted-at [] i j d s lt le = absurd (omega arith)
-  sorted-at (x ∷ l) i zero d s lt le = absurd (omega arith)
-  sorted-at (x ∷ l) zero (suc j) d s lt le = s .0 (getD l j d) (getD-in l j d (omega arith))
-  sorted-at (x ∷ l) (suc i) (suc j) d s lt le = sorted-at l i j d (s .1) (omega arith) (omega arith)
-
+  -- A sorted list is distinct.
   pub sorted-distinct : (l : List A) → Sorted l → Distinct l
   sorted-distinct [] s = tt
   sorted-distinct (x ∷ l) s = (λ h. O .irrefl (s .0 x h), sorted-distinct l (s .1))

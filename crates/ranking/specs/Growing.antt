@@ -3,7 +3,7 @@ use mathlib.Core.Logic.{_⊎_, inl, inr}
 use native.Mathlib.Omega.{arith}
 use Prim.Native.Nat.{_≤_}
 use Rattle.definitions.specs.Basics.{ℕ, suc, Ordering, _≡_, List, [], length, getD, take, insert}
-use Rattle.ranking.specs.Members.{_∈_, _⊆_, none-in-nil}
+use Rattle.lists.specs.Members.{_∈_, _⊆_, none-in-nil}
 use Rattle.ranking.specs.Orders.{Order, View, before, equal, after}
 use Rattle.ranking.specs.First.{Sorted, Covered, First, first-iff, first-cut, first-covered}
 use Rattle.ranking.specs.Sorting.{first-insert}

@@ -1,4 +1,3 @@
-pub mod Members
 pub mod Orders
 pub mod First
 pub mod Sorting

@@ -4,7 +4,7 @@ use mathlib.Core.Logic.{inl, inr}
 use native.Mathlib.Omega.{arith}
 use lib.ListN.{length-map}
 use Rattle.definitions.specs.Basics.{ℕ, Ordering, Ordering·lt, Ordering·eq, Ordering·gt, _≡_, refl, List, [], _∷_, map, insert}
-use Rattle.ranking.specs.Members.{_∈_, here, there, in-map, in-map-cases, in-cast}
+use Rattle.lists.specs.Members.{_∈_, here, there, in-map, in-map-cases, in-cast}
 use Rattle.ranking.specs.Orders.{Order, View, before, equal, after}
 use Rattle.ranking.specs.First.{First, Sorted, FullBefore}
 use Rattle.ranking.specs.Sorting.{step}

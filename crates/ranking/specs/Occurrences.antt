@@ -4,7 +4,7 @@ use mathlib.Core.Logic.{_⊎_, inl, inr}
 use mathlib.Core.Bool.{true≢false}
 use native.Mathlib.Omega.{arith}
 use Rattle.definitions.specs.Basics.{ℕ, zero, suc, _≡_, refl, Bool, true, false, _||_, Ordering, List, [], _∷_, map, length, any, firstOccurrences}
-use Rattle.ranking.specs.Members.{_∈_, here, there, here-or-there, none-in-nil, in-map-cases, in-cast, Distinct}
+use Rattle.lists.specs.Members.{_∈_, Distinct, here, there, here-or-there, none-in-nil, in-map-cases, in-cast}
 use Rattle.ranking.specs.Orders.{Order, View, before, equal, after}
 use Rattle.ranking.specs.First.{First, Least, Past, first-zero, first-least, first-tail, first-cons}
 

@@ -2,7 +2,7 @@
 use mathlib.Core.Path.{ap}
 use mathlib.Core.Logic.{_⊎_, inl, inr}
 use Rattle.definitions.specs.Basics.{ℕ, suc, _≡_, refl, Bool, List, [], _∷_, map, length, firstOccurrences}
-use Rattle.ranking.specs.Members.{here}
+use Rattle.lists.specs.Members.{here}
 use Rattle.ranking.specs.Orders.{Order}
 use Rattle.ranking.specs.First.{First, Least, first-zero, first-nil, first-least}
 use Rattle.ranking.specs.Occurrences.{Tests, Rows, rows-first}

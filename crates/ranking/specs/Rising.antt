@@ -4,7 +4,7 @@ use native.Mathlib.Omega.{arith}
 use native.Mathlib.Decide.{decLt}
 use Prim.Native.Nat.{_≤_}
 use Rattle.definitions.specs.Basics.{ℕ, zero, suc, _<_, Ordering, Ordering·lt, Ordering·eq, Ordering·gt, List, [], _∷_, length, getD, take, insert, sort}
-use Rattle.ranking.specs.Members.{_∈_, here, there}
+use Rattle.lists.specs.Members.{_∈_, here, there}
 use Rattle.ranking.specs.Orders.{Order, View, before, equal, after}
 use Rattle.ranking.specs.First.{Sorted}
 use Rattle.ranking.specs.Sorting.{step}

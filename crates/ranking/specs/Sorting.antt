@@ -7,7 +7,7 @@ use lib.ListN.{drop, length-take}
 use lib.Seq.{take-take}
 use Rattle.definitions.specs.Basics.{ℕ, zero, suc, _<_, min, Ordering, Ordering·lt, Ordering·eq, Ordering·gt}
 use Rattle.definitions.specs.Basics.{_≡_, refl, List, [], _∷_, _++_, length, getD, take, insert, sort}
-use Rattle.ranking.specs.Members.{_∈_, _⊆_, here, there, here-or-there, none-in-nil, Distinct, Enumerates}
+use Rattle.lists.specs.Members.{_∈_, _⊆_, Distinct, Enumerates, here, there, here-or-there, none-in-nil}
 use Rattle.ranking.specs.Orders.{Order, View, before, equal, after}
 use Rattle.ranking.specs.First.{First, Past, first-iff, first-zero, first-none, first-nil, first-least, first-tail, first-cons, first-unique, first-take}
 

@@ -11,11 +11,12 @@ use Rattle.definitions.specs.Syntax as Said
 use Rattle.definitions.specs.Syntax.{patientAt, bedCounts}
 use Rattle.definitions.specs.Spelling.{spellBody}
 use Rattle.definitions.specs.Questions.{Asked, firstNo, countsTrue, countsWithin, patientsWithin, parentsSmaller, membersRight, entryCountsRight, entriesWithin, membersRelated, checksum}
-use Rattle.theorems.specs.Tests.{both}
+use Rattle.lists.specs.Tests.{both}
+use Rattle.lists.specs.Every.{every-map}
+use Rattle.lists.specs.Below.{length-by-places, by-places, every-place, same-tests}
 use Rattle.theorems.specs.Accepted.{at-most}
 use Rattle.held_region.specs.declared.Region.{Region}
 use Rattle.held_region.specs.Meaning.{noPatient, patientOf, patientIn, mark, entryOf, codeOf, noTable, tableIn, membersOf, startIn, tableSaid, summed, said}
-use Rattle.held_region.specs.Places.{length-by-places, by-places, every-map, every-place, same-tests}
 use Rattle.held_region.specs.Stores.{startOf, entriesOf, tableAt, start-next, start-all}
 use Rattle.held_region.specs.Asked.{patientFits, parentFits, tables-by-places}
 use Rattle.held_region.specs.Members.{membersFit, members-asked}

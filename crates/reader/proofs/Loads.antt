@@ -12,9 +12,9 @@ use Rattle.definitions.specs.Syntax as Said
 use Rattle.definitions.specs.Layout.{lines, layout}
 use Rattle.definitions.specs.Spelling.{spellable}
 use Rattle.definitions.specs.Questions.{firstNo, shortEnough, laidOut, countsTrue, sumTrue, checksum, regionOf, Asked}
-use Rattle.theorems.specs.Tests.{both, join}
+use Rattle.lists.specs.Tests.{both, join}
+use Rattle.lists.specs.Every.{every-weaken}
 use Rattle.theorems.specs.Accepted.{region-said}
-use Rattle.theorems.specs.Every.{every-weaken}
 use Rattle.theorems.specs.Items.{someAll}
 use Rattle.theorems.specs.Forms.{okTable}
 use Rattle.theorems.specs.Files.{well-formed-lines}

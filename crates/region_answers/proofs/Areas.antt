@@ -1,4 +1,4 @@
--- The lent areas of list and sheet: how long they are, and what is written to them. Assumes nothing.
+-- The lent areas of list and sheet: how long they are, and what is written to them.
 use mathlib.Core.Path.{_≡_, sym, ap, ap₂, _∙_}
 use mathlib.Core.Bool.{and-assoc}
 use Prim.Native.Nat.{_≤_}
@@ -9,13 +9,13 @@ use Rattle.definitions.specs.Basics.{ℕ, _*_, _<_, Bool, true, _&&_, List, [],
 use Rattle.definitions.specs.Plans.{Row}
 use Rattle.definitions.specs.Questions.{workSize, roomForRows, areasLongEnough}
 use Rattle.definitions.specs.Outcomes.{written, outcomeOf}
-use Rattle.ranking.specs.Members.{_∈_, getD-in}
-use Rattle.theorems.specs.Tests.{both}
+use Rattle.lists.specs.Tests.{both}
+use Rattle.lists.specs.Members.{_∈_, getD-in}
 use Rattle.theorems.specs.Accepted.{Accepted}
 use Rattle.held_region.specs.declared.Region.{Region}
 use Rattle.held_region.specs.Meaning.{said}
 use Rattle.row_list.specs.Rows.{rowIn, rowsIn}
-use Rattle.row_list.specs.Laws.{cut-long, cut-at}
+use Rattle.row_list.specs.Laws.{unpadded-long, unpadded-at}
 use Rattle.row_writer.specs.Writing.{longEnough, RowsWritten}
 use Rattle.search.specs.Trees.{AsksRegion}
 use Rattle.region_answers.specs.Found.{outcomeWith}
@@ -49,13 +49,13 @@ module _ (h : Region) (store : List ℕ) {long : Bool} (beds costs work : List �
 -- Rows that lie in an area.
 module _ (v n : ℕ) (area : List ℕ) {rows : List Row} (is : rowsIn v n area ≡ rows) where
   pub rows-counted : n ≡ length rows
-  rows-counted = sym (cut-long v n area) ∙ ap length is
+  rows-counted = sym (unpadded-long v n area) ∙ ap length is
 
   -- Costs of at most 64,000,000 fit the 32 bits that they get.
   pub narrow : ((z : Row) → z ∈ rows → z .cost ≤ 64_000_000) → (i : ℕ) → i < n → rowIn v area i .cost < 4_294_967_296
   narrow small i l =
       let d : Row = record { cost = 0; beds = [] } in
-      let row : rowIn v area i ≡ getD rows i d = cut-at v n area i d l ∙ ap (λ z. getD z i d) is in
+      let row : rowIn v area i ≡ getD rows i d = unpadded-at v n area i d l ∙ ap (λ z. getD z i d) is in
       let most = small (getD rows i d) (getD-in rows i d (omega (arith, rows-counted))) in
       omega (arith, ap (λ (z : Row). z .cost) row, most)
 

@@ -6,7 +6,7 @@ use Rattle.definitions.specs.Basics.{ℕ}
 use Rattle.definitions.specs.Syntax as Said
 use Rattle.definitions.specs.Plans.{Row}
 use Rattle.definitions.specs.Sheets.{ownRow, sheetOf}
-use Rattle.ranking.specs.Members.{_∈_}
+use Rattle.lists.specs.Members.{_∈_}
 use Rattle.theorems.specs.Accepted.{Accepted, own-small}
 use Rattle.theorems.specs.SheetRows.{sheet-rows}
 

@@ -1,4 +1,4 @@
--- The list of a loaded region: what is written of it, and the answer. Assumes nothing.
+-- The list of a loaded region: what is written of it, and the answer.
 use mathlib.Core.Path.{_≡_, refl, sym, ap, _∙_}
 use Prim.Native.Nat.{_≤_}
 use native.Mathlib.Nat.{le-trans, mul-le-mul-right}
@@ -8,10 +8,10 @@ use Rattle.definitions.specs.Syntax as Said
 use Rattle.definitions.specs.Plans.{Row, listOf}
 use Rattle.definitions.specs.Questions.{areasLongEnough}
 use Rattle.definitions.specs.Outcomes.{written, outcomeOf}
-use Rattle.ranking.specs.Members.{_∈_}
+use Rattle.lists.specs.Members.{_∈_}
 use Rattle.theorems.specs.Accepted.{Accepted, total-small}
 use Rattle.theorems.specs.List.{list-first}
-use Rattle.partial_rows.specs.Padding.{cut}
+use Rattle.partial_rows.specs.Padding.{unpadded}
 use Rattle.held_region.specs.declared.Region.{Region}
 use Rattle.held_region.specs.Meaning.{said}
 use Rattle.row_list.specs.Rows.{rowsIn}
@@ -34,7 +34,7 @@ module _ (h : Region) (store : List ℕ) (accepted : Accepted (said h store)) {n
 
   found : rowsIn (h .v) n area ≡ listOf (said h store)
   unfolding part
-  found = sym (ap (map (cut (h .v))) (rows-take n 384 area (omega (arith, most)))) ∙ gives .list
+  found = sym (ap (map (unpadded (h .v))) (rows-take n 384 area (omega (arith, most)))) ∙ gives .list
 
   pub found-count : n ≡ length (listOf (said h store))
   found-count = rows-counted (h .v) n area found

@@ -8,7 +8,7 @@ use Rattle.definitions.specs.Syntax as Said
 use Rattle.definitions.specs.Plans.{total}
 use Rattle.definitions.specs.Questions.{firstNo, planFits}
 use Rattle.definitions.specs.Outcomes.{priced}
-use Rattle.theorems.specs.Tests.{both}
+use Rattle.lists.specs.Tests.{both}
 use Rattle.theorems.specs.Accepted.{Accepted}
 use Rattle.held_region.specs.declared.Region.{Region}
 use Rattle.held_region.specs.Meaning.{said}

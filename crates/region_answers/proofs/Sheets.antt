@@ -1,4 +1,4 @@
--- The sheet of a loaded region: what is written of it, and the answer. Assumes nothing.
+-- The sheet of a loaded region: what is written of it, and the answer.
 use mathlib.Core.Path.{_≡_, sym, ap, _∙_}
 use Prim.Native.Nat.{_≤_}
 use native.Mathlib.Nat.{le-trans, mul-le-mul}

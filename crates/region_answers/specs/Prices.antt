@@ -8,10 +8,10 @@ use Rattle.definitions.specs.Syntax as Said
 use Rattle.definitions.specs.Plans.{Plan, bedOf, total}
 use Rattle.definitions.specs.Questions.{Asked, firstNo, regionOf, askedByCheck, checkOf, planFits}
 use Rattle.definitions.specs.Outcomes.{PriceOutcome, priced, priceFound}
-use Rattle.theorems.specs.Tests.{both}
+use Rattle.lists.specs.Tests.{both}
+use Rattle.lists.specs.Below.{every-place}
 use Rattle.theorems.specs.Accepted.{Accepted, patients-counted}
 use Rattle.theorems.specs.Refusals.{after-check, refused-before}
-use Rattle.held_region.specs.Places.{every-place}
 use Rattle.buckets.specs.Terms.{Fitting}
 use Rattle.answers.specs.declared.Priced.{Priced}
 use Rattle.answers.specs.Answers.{notAllowed, pricedOutcome}

@@ -1,4 +1,4 @@
--- A set has patients where its size is not 0. Assumes nothing.
+-- A set has patients where its size is not 0.
 use mathlib.Core.Path.{_≡_, _∙_}
 use native.Mathlib.Omega.{arith}
 use Prim.Native.Nat.{_≤_}

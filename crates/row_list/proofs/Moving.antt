@@ -1,4 +1,4 @@
--- Words moved six places further, the last first, and what a list is once a row is written into the gap. Assumes nothing.
+-- Words moved six places further, the last first, and what a list is once a row is written into the gap.
 use mathlib.Core.Path.{_≡_, refl, sym, ap, _∙_, subst}
 use mathlib.Core.Logic.{_⊎_, inl, inr}
 use native.Mathlib.Decide.{decLt, ℕ-discrete}
@@ -14,7 +14,7 @@ use Rattle.packed_rows.specs.Packed.{rowOf}
 use Rattle.packed_rows.specs.declared.Row.{Row}
 use Rattle.row_list.specs.Rows.{wholeRow, wholeRows, Stored, Room, Inserted}
 use Rattle.row_list.specs.Laws.{row-words, rows-long, rows-at}
-use Rattle.ranking.specs.Members.{_∈_, here-or-there, in-append-cases, in-take, in-drop}
+use Rattle.lists.specs.Members.{_∈_, in-take, in-drop, here-or-there, in-append-cases}
 use Rattle.ranking.specs.Rising.{Rising}
 use Rattle.theorems.specs.List.{rowOrder}
 use Rattle.row_list.specs.Steps.{Place, Moved}

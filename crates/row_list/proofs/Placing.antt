@@ -1,4 +1,4 @@
--- The place of a new row among rows in order, found by halving. Assumes nothing.
+-- The place of a new row among rows in order, found by halving.
 use mathlib.Core.Path.{_≡_}
 use mathlib.Core.Bool.{true≢false, false≢true}
 use native.Mathlib.Omega.{arith}

@@ -1,4 +1,4 @@
--- The words of a row's beds, read one by one. Assumes nothing.
+-- The words of a row's beds, read one by one.
 use mathlib.Core.Path.{_≡_, refl, sym, _∙_}
 use native.Mathlib.Omega.{arith}
 use Prim.Native.Nat.{ℕ, _+_, _*_, _<_, _≤_}
@@ -8,7 +8,7 @@ use lib.Seq.{getD-set-same, getD-set-other, take-all}
 use Rattle.definitions.specs.Basics.{List, getD, replicate}
 use Rattle.packed_rows.specs.Packed.{rowOf}
 use Rattle.packed_rows.specs.declared.Row.{Row}
-use Rattle.row_list.specs.Below.{below-take}
+use Rattle.lists.specs.Below.{below-take}
 use Rattle.row_list.specs.Rows.{wordsIn, wholeRow}
 
 -- The first j words of row i are read.

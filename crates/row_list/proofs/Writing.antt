@@ -1,4 +1,4 @@
--- A row written word by word: its cost, and the words of its beds. Assumes nothing.
+-- A row written word by word: its cost, and the words of its beds.
 use mathlib.Core.Path.{_≡_, refl, _∙_}
 use native.Mathlib.Decide.{decLt}
 use native.Mathlib.Nat.{mod-add-div'}
@@ -10,7 +10,7 @@ use lib.Seq.{getD-set-same, getD-set-other, take-all}
 use Rattle.definitions.specs.Basics.{List, getD}
 use Rattle.packed_rows.specs.Packed.{rowOf}
 use Rattle.packed_rows.specs.declared.Row.{Row}
-use Rattle.row_list.specs.Below.{below-take}
+use Rattle.lists.specs.Below.{below-take}
 use Rattle.row_list.specs.Rows.{wordsIn, wholeRow, Stored}
 use Rattle.row_list.specs.Laws.{row-words}
 

@@ -1,5 +1,4 @@
 -- Rows that lie in an area of numbers.
 pub mod Rows
-pub mod Below
 pub mod Laws
 pub mod Steps

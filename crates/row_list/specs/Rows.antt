@@ -4,10 +4,10 @@ use Prim.Native.Nat.{_≤_}
 use Rattle.definitions.specs.Basics.{ℕ, _+_, _*_, _<_, _≡_, List, map, length, getD, take, below, insert}
 use Rattle.definitions.specs.Plans as Said
 use Rattle.definitions.specs.Plans.{compareRows}
-use Rattle.ranking.specs.Members.{_∈_}
+use Rattle.lists.specs.Members.{_∈_}
 use Rattle.ranking.specs.Rising.{Rising}
 use Rattle.theorems.specs.List.{rowOrder}
-use Rattle.partial_rows.specs.Padding.{cut}
+use Rattle.partial_rows.specs.Padding.{unpadded}
 use Rattle.packed_rows.specs.Packed.{packedBeds, rowOf}
 use Rattle.packed_rows.specs.declared.Row.{Row}
 
@@ -23,10 +23,10 @@ wholeRows n area = map (wholeRow area) (below n)
 
 -- The same rows, for v patients.
 abbrev pub rowIn : ℕ → List ℕ → ℕ → Said.Row
-rowIn v area i = cut v (wholeRow area i)
+rowIn v area i = unpadded v (wholeRow area i)
 
 abbrev pub rowsIn : ℕ → ℕ → List ℕ → List Said.Row
-rowsIn v n area = map (cut v) (wholeRows n area)
+rowsIn v n area = map (unpadded v) (wholeRows n area)
 
 -- The area after row i was written: the row, and the others as they were.
 pub record Stored (i : ℕ) (x : Row) (area after : List ℕ) : Type 0 where

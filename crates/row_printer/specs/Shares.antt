@@ -1,10 +1,10 @@
--- Clinics share the patients: what their counts add up to. Assumes nothing.
+-- Clinics share the patients: what their counts add up to.
 use mathlib.Core.Path.{_≡_, refl}
 use native.Mathlib.Omega.{arith}
 use borrow.Author.Tests.{eqb-true}
 use Prim.Native.Nat.{_≤_}
 use Rattle.definitions.specs.Basics.{ℕ, _+_, Bool, true, false, cond, List, [], _∷_, map, length, eqb, sum, keep}
-use Rattle.ranking.specs.Members.{_∈_, here, there, Distinct}
+use Rattle.lists.specs.Members.{_∈_, Distinct, here, there}
 
 -- A sum over the kept elements is at most that over all.
 pub sum-keep : (f : ℕ → Bool) (k : ℕ → ℕ) (l : List ℕ) → sum (map k (keep f l)) ≤ sum (map k l)

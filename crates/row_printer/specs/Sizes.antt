@@ -1,4 +1,4 @@
--- How long printed lines are, for rows within a region's limits. Assumes nothing.
+-- How long printed lines are, for rows within a region's limits.
 use mathlib.Core.Path.{_≡_, refl, ap, _∙_}
 use native.Mathlib.Nat.{le-trans, mul-le-mul-right}
 use native.Mathlib.Omega.{arith}
@@ -8,7 +8,7 @@ use Rattle.definitions.specs.Basics.{ℕ, zero, suc, _+_, _*_, _<_, List, [], _
 use Rattle.definitions.specs.Spelling.{decimal, bracketed, line}
 use Rattle.definitions.specs.Plans.{Row}
 use Rattle.definitions.specs.Output.{printedRow, printedRows}
-use Rattle.ranking.specs.Members.{_∈_, here, there}
+use Rattle.lists.specs.Members.{_∈_, here, there}
 use Rattle.theorems.specs.Numbers.{decimal-length}
 use Rattle.text_writer.specs.Parts.{gap, apart, bracketed-apart}
 use Rattle.row_printer.specs.Printing.{counted}

@@ -1,4 +1,4 @@
--- The whole text that is printed for a file is at most `printedMost` bytes. Assumes nothing.
+-- The whole text that is printed for a file is at most `printedMost` bytes.
 use mathlib.Core.Path.{_≡_, refl}
 use mathlib.Core.Logic.{inl, inr}
 use native.Mathlib.Nat.{le-trans, mul-le-mul-right}
@@ -16,12 +16,13 @@ use Rattle.definitions.specs.Sheets.{part, ownRow, sheetOf}
 use Rattle.definitions.specs.Questions.{regionOf, clinicPresent, askedByCheck, askedByList}
 use Rattle.definitions.specs.Isolation.{yieldNumber}
 use Rattle.definitions.specs.Output.{printedRows, clinicsPresent, printedAnswer, printed}
-use Rattle.ranking.specs.Members.{_∈_, here, there, here-or-there, none-in-nil, in-map-cases}
-use Rattle.theorems.specs.Kept.{every-in, keep-out, keep-short}
-use Rattle.theorems.specs.Below.{below-long}
+use Rattle.lists.specs.Members.{_∈_, here, there, here-or-there, none-in-nil, in-map-cases}
+use Rattle.lists.specs.Every.{every-in}
+use Rattle.lists.specs.Keep.{keep-out, keep-short}
+use Rattle.lists.specs.Below.{numbers-enumerate, below-long}
 use Rattle.theorems.specs.Refusals.{yield-says}
 use Rattle.theorems.specs.Accepted.{Accepted, patients-few, plans-wanted, beds-within, own-small, total-small}
-use Rattle.theorems.specs.List.{Fits, list-first, numbers-enumerate}
+use Rattle.theorems.specs.List.{Fits, list-first}
 use Rattle.theorems.specs.Isolation.{fits-length}
 use Rattle.theorems.specs.Yields.{yielding}
 use Rattle.theorems.specs.SheetRows.{sheet-rows}

@@ -10,7 +10,7 @@ ghost use Prim.Native.Nat.{_≤_};
 ghost use Rattle.definitions.specs.Basics.{[], _∷_, text};
 ghost use Rattle.definitions.specs.Spelling.{decimal, line};
 ghost use Rattle.definitions.specs.Output.{printedRow, printedRows};
-ghost use Rattle.partial_rows.specs.Padding.{cut};
+ghost use Rattle.partial_rows.specs.Padding.{unpadded};
 ghost use Rattle.packed_rows.specs.Packed.{rowOf};
 ghost use Rattle.row_list.specs.Rows.{rowsIn};
 ghost use Rattle.text_writer.specs.Wrote.{Room, Wrote};
@@ -18,8 +18,8 @@ ghost use Rattle.row_printer.specs.Printing.{counted, Printable};
 
 // The line of a row, which has a bed for each of v patients.
 fn print_row(out: &mut [u8], at: usize, row: Row, v: usize) -> usize
-    requires { ⌜ (v ≤ 32) × (Room (printedRow (cut v (rowOf row))) at (now out)) ⌝ }
-    ensures { λ r. ⌜ Wrote (printedRow (cut v (rowOf row))) at (now (out .entry)) (now (out .exit)) r ⌝ }
+    requires { ⌜ (v ≤ 32) × (Room (printedRow (unpadded v (rowOf row))) at (now out)) ⌝ }
+    ensures { λ r. ⌜ Wrote (printedRow (unpadded v (rowOf row))) at (now (out .entry)) (now (out .exit)) r ⌝ }
 {
     let beds = beds_of(row);
     let cost_at = write_text(out, at, b"(row ");

@@ -1,4 +1,4 @@
--- The sums copied over the first list, row by row. Assumes nothing.
+-- The sums copied over the first list, row by row.
 use mathlib.Core.Path.{_≡_, refl, sym, ap, ap₂, _∙_}
 use native.Mathlib.Numerals.{add-one}
 use native.Mathlib.Omega.{arith}

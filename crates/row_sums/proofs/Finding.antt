@@ -1,11 +1,11 @@
--- The sums of all rows of two lists: where each list is in order and a sum shows its rows, no sum comes twice. Assumes nothing.
+-- The sums of all rows of two lists: where each list is in order and a sum shows its rows, no sum comes twice.
 use mathlib.Core.Path.{_≡_, sym, _∙_}
 use mathlib.Core.Logic.{inl, inr}
 use native.Mathlib.Omega.{arith}
 use Prim.Native.Nat.{_≤_}
 use Rattle.definitions.specs.Basics.{ℕ, zero, suc, List, [], _∷_, _++_, take, sort}
 use Rattle.definitions.specs.Plans.{compareRows}
-use Rattle.ranking.specs.Members.{_∈_, _⊆_, here, there, here-or-there, none-in-nil, in-append-left, in-append-right, in-append-cases, Distinct}
+use Rattle.lists.specs.Members.{_∈_, _⊆_, Distinct, here, there, here-or-there, none-in-nil, in-append-left, in-append-right, in-append-cases}
 use Rattle.ranking.specs.First.{First, Sorted, sorted-distinct, first-iff}
 use Rattle.ranking.specs.Sorting.{first-of}
 use Rattle.ranking.specs.Rising.{sorted-rising}

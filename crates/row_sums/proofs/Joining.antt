@@ -1,4 +1,4 @@
--- One more sum, and one more row with all of its sums. Assumes nothing.
+-- One more sum, and one more row with all of its sums.
 use mathlib.Core.Path.{_≡_, refl, sym, ap, ap₂, subst, subst⁻¹, _∙_}
 use native.Mathlib.Numerals.{add-one}
 use native.Mathlib.Omega.{arith}
@@ -7,7 +7,7 @@ use lib.Seq.{take-nil}
 use Rattle.definitions.specs.Basics.{ℕ, _+_, _<_, List, _∷_, _++_, map, length, take, insert, sort, flatMap}
 use Rattle.definitions.specs.Plans as Said
 use Rattle.definitions.specs.Plans.{compareRows}
-use Rattle.ranking.specs.Members.{_∈_, getD-in}
+use Rattle.lists.specs.Members.{_∈_, getD-in}
 use Rattle.ranking.specs.Sorting.{take-insert}
 use Rattle.ranking.specs.Combining.{cross}
 use Rattle.ranking.specs.Rising.{Rising, rising-sort, rising-take}

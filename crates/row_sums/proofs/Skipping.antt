@@ -1,4 +1,4 @@
--- A sum that costs more than the last row of a full list need not be made: it would not enter. Assumes nothing.
+-- A sum that costs more than the last row of a full list need not be made: it would not enter.
 use mathlib.Core.Path.{_≡_, refl, sym, ap, _∙_}
 use mathlib.Core.Logic.{inl}
 use native.Mathlib.Numerals.{add-one}
@@ -12,9 +12,9 @@ use Rattle.definitions.specs.Basics.{ℕ, zero, suc, _+_, _-_, _<_, true, eqb, 
 use Rattle.definitions.specs.Basics.{length, getD, take, sort}
 use Rattle.definitions.specs.Plans as Said
 use Rattle.definitions.specs.Plans.{compareRows}
-use Rattle.ranking.specs.Members.{_∈_, getD-in}
+use Rattle.lists.specs.Tests.{both}
+use Rattle.lists.specs.Members.{_∈_, getD-in}
 use Rattle.ranking.specs.Rising.{rising-at, rising-sort, insert-behind}
-use Rattle.theorems.specs.Tests.{both}
 use Rattle.theorems.specs.List.{rowOrder}
 use Rattle.partial_rows.specs.Adding.{addRows}
 use Rattle.packed_rows.specs.declared.Row.{Row}

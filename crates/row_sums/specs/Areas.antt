@@ -1,4 +1,4 @@
--- The work area with one of its parts replaced: that part is new, and the others are as they were. Assumes nothing.
+-- The work area with one of its parts replaced: that part is new, and the others are as they were.
 use mathlib.Core.Path.{_≡_, sym, ap, _∙_}
 use native.Mathlib.Omega.{arith}
 use Prim.Native.Nat.{_≤_}

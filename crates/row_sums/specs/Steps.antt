@@ -2,7 +2,7 @@
 use Prim.Native.Nat.{_≤_}
 use Rattle.definitions.specs.Basics.{ℕ, zero, suc, _+_, _-_, _<_, _≡_, Bool, _&&_, eqb, ltb, List, [], _∷_, _++_, map, length, take, sort}
 use Rattle.definitions.specs.Plans.{Row, compareRows}
-use Rattle.ranking.specs.Members.{_∈_}
+use Rattle.lists.specs.Members.{_∈_}
 use Rattle.ranking.specs.Combining.{cross}
 use Rattle.ranking.specs.Rising.{Rising}
 use Rattle.theorems.specs.List.{rowOrder}

@@ -3,7 +3,7 @@ use Prim.Native.Nat.{_≤_}
 use lib.ListN.{drop}
 use Rattle.definitions.specs.Basics.{ℕ, _*_, _<_, _≡_, List, length, take}
 use Rattle.definitions.specs.Plans.{Row}
-use Rattle.ranking.specs.Members.{_∈_}
+use Rattle.lists.specs.Members.{_∈_}
 use Rattle.ranking.specs.First.{First, Sorted}
 use Rattle.ranking.specs.Combining.{Combined, Injective}
 use Rattle.theorems.specs.List.{rowOrder}

@@ -1,4 +1,4 @@
--- Values written one by one, and rows one by one: what is left to write is the rest of the whole. Assumes nothing.
+-- Values written one by one, and rows one by one: what is left to write is the rest of the whole.
 use mathlib.Core.Path.{_≡_, sym, ap, _∙_}
 use mathlib.Core.List.{append-assoc, append-nil}
 use native.Mathlib.Numerals.{add-one}
@@ -11,11 +11,11 @@ use lib.Seq.{sets, sets-eq, length-sets, drop-cons, drop-drop, take-all, length-
 use Rattle.definitions.specs.Basics.{ℕ, suc, _+_, _-_, _*_, _<_, List, [], _∷_, _++_, length, getD, take, replicate}
 use Rattle.definitions.specs.Outcomes.{written}
 use Rattle.definitions.specs.Plans.{Row}
-use Rattle.partial_rows.specs.Padding.{cut}
+use Rattle.partial_rows.specs.Padding.{unpadded}
 use Rattle.packed_rows.specs.declared.Row as Held
 use Rattle.packed_rows.specs.Packed.{packedBeds, rowOf}
 use Rattle.row_list.specs.Rows.{wholeRow, rowIn, rowsIn}
-use Rattle.row_list.specs.Laws.{row-long, cut-long, cut-from}
+use Rattle.row_list.specs.Laws.{row-long, unpadded-long, unpadded-from}
 use Rattle.row_writer.specs.Writing.{RowsWritten}
 
 module _ (vs : List ℕ) (j : ℕ) (area : List ℕ) where
@@ -41,11 +41,11 @@ part-back area vs back i h e =
 module _ (v n : ℕ) (list : List ℕ) (width : ℕ) (values : Row → List ℕ) (r : ℕ) where
   pub next-row : (area after : List ℕ) → r < n → after ≡ sets area (r * width) (values (rowIn v list r))
       → written (r + 1) width values (drop (r + 1) (rowsIn v n list)) after ≡ written r width values (drop r (rowsIn v n list)) area
-  next-row area after h e = rw (add-one, e) (sym (ap (λ (l : List Row). written r width values l area) (cut-from v n list r h)))
+  next-row area after h e = rw (add-one, e) (sym (ap (λ (l : List Row). written r width values l area) (unpadded-from v n list r h)))
 
   pub all-rows : (area : List ℕ) → n ≤ r → written r width values (drop r (rowsIn v n list)) area ≡ area
   all-rows area h =
-      let none : drop r (rowsIn v n list) ≡ [] = drop-of-length-le (rowsIn v n list) {i = r} (omega (arith, cut-long v n list)) in
+      let none : drop r (rowsIn v n list) ≡ [] = drop-of-length-le (rowsIn v n list) {i = r} (omega (arith, unpadded-long v n list)) in
       ap (λ (l : List Row). written r width values l area) none
 
 -- An area filled to its end.
@@ -82,7 +82,7 @@ module _ (v n : ℕ) (list beds₀ costs₀ beds costs : List ℕ) (start r : �
   }
     where
       bedsOf : take v (packedBeds (row .words)) ≡ rowIn v list r .beds
-      bedsOf = ap (λ (w : Row). cut v w .beds) read
+      bedsOf = ap (λ (w : Row). unpadded v w .beds) read
 
       wide : length (take v (packedBeds (row .words))) ≡ v
       wide = length-take-le v (packedBeds (row .words)) (omega (arith, ap (λ (w : Row). length (w .beds)) read ∙ row-long list r))

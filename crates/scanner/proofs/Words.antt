@@ -1,4 +1,4 @@
--- Passing a word: what is left to pass is what was asked. Assumes nothing.
+-- Passing a word: what is left to pass is what was asked.
 use mathlib.Core.Path.{_≡_, refl, sym, ap, ap₂, _∙_}
 use mathlib.Core.List.{List, _∷_}
 use Prim.Native.Nat.{ℕ, suc, _+_, _≤_, _<_, max}

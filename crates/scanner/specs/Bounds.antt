@@ -1,4 +1,4 @@
--- A number, and a hyphen or a number, are bounded. Assumes nothing.
+-- A number, and a hyphen or a number, are bounded.
 use mathlib.Core.Path.{sym, ap, _∙_}
 use mathlib.Core.Bool.{false≢true}
 use Prim.Native.Char.{code}
@@ -6,8 +6,9 @@ use native.Mathlib.Omega.{arith}
 use borrow.Author.Tests.{eqb-true, leb-true, ne-eqb}
 use Rattle.definitions.specs.Basics.{ℕ, _≡_, refl, Bool, true, false, Option, none, some, Option·map, List, [], _∷_, _++_, eqb, leb, every, noneOr}
 use Rattle.definitions.specs.Layout.{giveIf, isDigit, numberOf, number, hyphenOrNumber}
+use Rattle.lists.specs.Tests.{both}
 use Rattle.scanner.specs.declared.Class.the-variants.{Hyphen, Other}
-use Rattle.scanner.specs.Spans.{both, front, back, front-on, front-off, front-back, front-front, back-front, back-passes}
+use Rattle.scanner.specs.Spans.{front, back, front-on, front-off, front-back, front-front, back-front, back-passes}
 use Rattle.scanner.specs.Classes.{classOf, firstClass, class-says}
 use Rattle.scanner.specs.Numbers.{number-cut}
 use Rattle.scanner.specs.Separators.{hyphen-there, hyphen-missing}
@@ -16,7 +17,7 @@ use Rattle.scanner.specs.Items.{inItem, Bounded}
 -- A digit is no space and no bracket.
 digit-inside : (b : ℕ) → isDigit b ≡ true → inItem b ≡ true
 digit-inside b h =
-    let l = leb-true (code "0") b (both (leb (code "0") b) (leb b (code "9")) h .0) in
+    let l = leb-true (code "0") b (both (leb (code "0") b) h .0) in
     rw (ne-eqb b (code " ") (λ e. omega arith), ne-eqb b (code ")") (λ e. omega arith))
 
 number-before : (xs : List ℕ) → number xs ≡ Option·map (λ r. (r .0, r .1 ++ back inItem xs)) (number (front inItem xs))

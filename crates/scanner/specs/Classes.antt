@@ -1,11 +1,11 @@
--- The reader's class of a byte, and what a class says of its byte. Assumes nothing.
+-- The reader's class of a byte, and what a class says of its byte.
 use Prim.Native.Nat.{_≤_}
 use Prim.Native.Char.{code}
 use native.Mathlib.Omega.{arith}
 use borrow.Author.Tests.{eq-eqb, eqb-true, leb-true}
 use Rattle.definitions.specs.Basics.{ℕ, _-_, _≡_, refl, Bool, true, false, cond, _&&_, List, [], _∷_, eqb, leb}
 use Rattle.definitions.specs.Layout.{isDigit}
-use Rattle.scanner.specs.Spans.{both}
+use Rattle.lists.specs.Tests.{both}
 use Rattle.scanner.specs.declared.Class.{Class}
 use Rattle.scanner.specs.declared.Class.the-variants.{Digit, Open, Close, Space, Hyphen, Letter, LineEnd, Other}
 
@@ -67,8 +67,8 @@ pub record DigitOf (b d : ℕ) : Type 0 where
 
 pub digit-says : (b : ℕ) {d : ℕ} → classOf b ≡ Digit d → DigitOf b d
 digit-says b {d} e =
-    let h = both (isDigit b) (eqb d (b - code "0")) (class-says b e) in
-    let r = both (leb (code "0") b) (leb b (code "9")) (h .0) in
+    let h = both (isDigit b) (class-says b e) in
+    let r = both (leb (code "0") b) (h .0) in
     let l = leb-true (code "0") b (r .0) in
     let u = leb-true b (code "9") (r .1) in
     let v = eqb-true d (b - code "0") (h .1) in

@@ -1,11 +1,12 @@
--- The items of a list one after the other. Assumes nothing.
+-- The items of a list one after the other.
 use mathlib.Core.Path.{sym, ap, _∙_}
 use mathlib.Core.Bool.{false≢true}
 use Prim.Native.Char.{code}
 use borrow.Author.Tests.{eqb-true}
 use Rattle.definitions.specs.Basics.{ℕ, _≡_, refl, Bool, true, false, not, _&&_, cond, Option, none, some, bind, Option·map, List, [], _∷_, _++_, eqb, every, isEmpty, noneOr, length, onAll}
 use Rattle.definitions.specs.Layout.{Reader, _>>=_, _>>_, give, giveIf, many, passing, word, whole, pieces, ontoFirst, items}
-use Rattle.scanner.specs.Spans.{both, front, back, front-on, back-on, many-cuts, front-passes, back-fails}
+use Rattle.lists.specs.Tests.{both}
+use Rattle.scanner.specs.Spans.{front, back, front-on, back-on, many-cuts, front-passes, back-fails}
 use Rattle.scanner.specs.Separators.{separator}
 
 -- Is a byte inside a list? Is it inside an item? A list ends at its bracket, an item at a space too.
@@ -117,7 +118,7 @@ module _ {A : Type 0} (item : Reader ℕ A) where
   unfolding bind
   after-item a [] h [] f = sym (after-end a)
   after-item a [] h (b ∷ bs) f = after-whole a b bs (kind b) (f b bs refl)
-  after-item a (y ∷ ys) h c f = nowhere (word ")" (afterList c)) ∙ sym (after-part a y (ys ++ c) (kind y) (both (inItem y) (every inItem ys) h .0))
+  after-item a (y ∷ ys) h c f = nowhere (word ")" (afterList c)) ∙ sym (after-part a y (ys ++ c) (kind y) (both (inItem y) h .0))
 
   -- One after the other: a list is an item and what follows it.
   pub items-step : Bounded item → (xs : List ℕ) → itemsFrom item xs ≡ (do a ← item; afterItem a) xs

@@ -1,4 +1,4 @@
--- Reading a number digit by digit: the rest of the reading, after k digits of value v, and what each byte does to it. Assumes nothing.
+-- Reading a number digit by digit: the rest of the reading, after k digits of value v, and what each byte does to it.
 use mathlib.Core.Path.{sym, ap, ap₂, _∙_}
 use mathlib.Core.Bool.{_||_, and-false, or-true, or-false}
 use Prim.Native.Nat.{_≤_}

@@ -1,4 +1,4 @@
--- A form as its parts, one after the other, and how far a line has been read by it. Assumes nothing.
+-- A form as its parts, one after the other, and how far a line has been read by it.
 use mathlib.Core.Path.{ap, _∙_}
 use Prim.Native.Nat.{_≤_, _<_}
 use lib.ListN.{drop, drop-of-length-le}

@@ -1,14 +1,9 @@
--- A list cut before its first element that fails a test: what `many` reads, and what it leaves. Assumes nothing.
+-- A list cut before its first element that fails a test: what `many` reads, and what it leaves.
 use mathlib.Core.Path.{ap, sym, _∙_}
 use native.Mathlib.Omega.{arith}
-use mathlib.Core.Bool.{_&&_, false≢true}
 use Rattle.definitions.specs.Basics.{ℕ, _≡_, refl, Bool, true, false, some, bind, List, [], _∷_, _++_, every}
 use Rattle.definitions.specs.Layout.{many, passing}
-
--- Two tests that both hold.
-pub both : (a b : Bool) → (a && b) ≡ true → (a ≡ true) × (b ≡ true)
-both true b e = (refl, e)
-both false b e = (e, absurd (false≢true e))
+use Rattle.lists.specs.Tests.{both}
 
 module _ (f : ℕ → Bool) where
   -- What stands before that element, and the rest from it on.
@@ -91,7 +86,7 @@ module _ (f g : ℕ → Bool) (stricter : (b : ℕ) → f b ≡ true → g b ≡
 -- What is left of a list passes what the whole list passes.
 pub back-passes : (f g : ℕ → Bool) (xs : List ℕ) → every g xs ≡ true → every g (back f xs) ≡ true
 back-passes f g [] h = refl
-back-passes f g (b ∷ bs) h = go (f b) refl (back-passes f g bs (both (g b) (every g bs) h .1))
+back-passes f g (b ∷ bs) h = go (f b) refl (back-passes f g bs (both (g b) h .1))
   where
     go : (t : Bool) → f b ≡ t → every g (back f bs) ≡ true → every g (back f (b ∷ bs)) ≡ true
     go true e ih = rw (back-on f b bs e) ih

@@ -1,4 +1,4 @@
--- How `exactly` goes from byte to byte, and by the class of a byte. Assumes nothing.
+-- How `exactly` goes from byte to byte, and by the class of a byte.
 use mathlib.Core.Path.{sym, _∙_, ap}
 use native.Mathlib.Omega.{arith}
 use borrow.Author.Tests.{eq-eqb, ne-eqb, eqb-true}

@@ -1,4 +1,4 @@
--- When a branch is cut: the list is full, and the branch's best row is not before its last. Assumes nothing.
+-- When a branch is cut: the list is full, and the branch's best row is not before its last.
 use mathlib.Core.Path.{_≡_, sym, ap}
 use borrow.Author.Tests.{eq-eqb, ne-eqb}
 use native.Mathlib.Omega.{arith}

@@ -1,4 +1,4 @@
--- The list of all trees: one tree after another, from the list of nobody to the list of the region. Assumes nothing.
+-- The list of all trees: one tree after another, from the list of nobody to the list of the region.
 use mathlib.Core.Path.{_≡_, refl, sym, ap, _∙_, subst, subst⁻¹, fun-ext}
 use mathlib.Core.Logic.{inl, inr}
 use mathlib.Core.Bool.{true≢false, and-false}
@@ -9,12 +9,13 @@ use native.Mathlib.Omega.{arith}
 use borrow.Author.Tests.{lt-ltb, le-ltb}
 use Rattle.definitions.specs.Basics.{ℕ, suc, _+_, _<_, Bool, true, false, _&&_, List, [], _∷_, length, getD, replicate, eqb, ltb, below, contains}
 use Rattle.definitions.specs.Syntax.{Region}
-use Rattle.ranking.specs.Members.{here, here-or-there, none-in-nil}
+use Rattle.lists.specs.Members.{here, here-or-there, none-in-nil}
+use Rattle.lists.specs.Keep.{contains-keep}
+use Rattle.lists.specs.Below.{contains-numbers}
 use Rattle.ranking.specs.First.{First}
 use Rattle.theorems.specs.List.{rowOrder}
 use Rattle.theorems.specs.Accepted.{Accepted, patients-few, plans-wanted}
 use Rattle.patient_set.specs.Sets.{inSet, members}
-use Rattle.patient_set.specs.Lists.{contains-keep, contains-numbers}
 use Rattle.partial_rows.specs.Sets.{Patients, Part, first, second, neither, Splits}
 use Rattle.partial_rows.specs.Rows.{noBeds, emptyRow, RowOf}
 use Rattle.partial_rows.specs.Parts.{Apart}

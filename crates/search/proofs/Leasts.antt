@@ -1,4 +1,4 @@
--- A loop that adds up the least numbers of the buckets of a set, the lowest patient first. Assumes nothing.
+-- A loop that adds up the least numbers of the buckets of a set, the lowest patient first.
 use mathlib.Core.Path.{_≡_, refl, ap}
 use Prim.Native.Nat.{_≤_}
 use native.Mathlib.Nat.{zero-add}

@@ -1,4 +1,4 @@
--- The list of nobody, and the list with one more tree. Assumes nothing.
+-- The list of nobody, and the list with one more tree.
 use mathlib.Core.Path.{_≡_, refl, sym, ap, ap₂, _∙_, subst, subst⁻¹}
 use mathlib.Core.Bool.{or-true}
 use borrow.Author.Tests.{eq-eqb}
@@ -11,7 +11,7 @@ use Rattle.definitions.specs.Basics.{ℕ, zero, suc, _+_, _*_, _<_, Bool, true,
 use Rattle.definitions.specs.Syntax.{Region}
 use Rattle.definitions.specs.Plans.{Plan, Row, bedOf}
 use mathlib.Core.Logic.{inl, inr}
-use Rattle.ranking.specs.Members.{_∈_, here-or-there, none-in-nil, in-map}
+use Rattle.lists.specs.Members.{_∈_, here-or-there, none-in-nil, in-map}
 use Rattle.ranking.specs.First.{First, first-iff, Sorted}
 use Rattle.ranking.specs.Growing.{Grown, Ready, ready-nil}
 use Rattle.ranking.specs.Combining.{Combined, Injective}
@@ -23,7 +23,7 @@ use Rattle.patient_set.specs.Laws.{size-most}
 use Rattle.partial_rows.specs.Sets.{Patients, Splits, not-both}
 use Rattle.partial_rows.specs.Rows.{holds, tablesOf, noBeds, emptyRow, RowOf, Position, Branch}
 use Rattle.partial_rows.specs.Adding.{addBeds, addRows}
-use Rattle.partial_rows.specs.Padding.{cut, Padded, padded-zero, zero-bed}
+use Rattle.partial_rows.specs.Padding.{unpadded, Padded, padded-zero, zero-bed}
 use Rattle.partial_rows.specs.Beds.{no-bed, inside, outside}
 use Rattle.partial_rows.specs.Contexts.{row-context}
 use Rattle.partial_rows.specs.Parts.{parts-injective, parts-combined}
@@ -40,7 +40,7 @@ use Rattle.row_sums.specs.Areas.{replaced, replaced-long, part-long, part-new, 
 use Rattle.search.specs.Lowest.{Upward}
 use Rattle.search.specs.Walks.{Branching, leftIn, headRow, Light, Heads, BranchOf, AllPadded, Asks, Gives}
 use Rattle.search.specs.Trees.{LeastSummed, AsksStart, GivesStart, Treed, AsksTree, GivesTree}
-use Rattle.search.proofs.Padded.{cut-keeps, row-padded, row-cut, sum-padded, injective-back, first-cut}
+use Rattle.search.proofs.Padded.{unpadded-keeps, row-padded, row-unpadded, sum-padded, injective-back, first-unpadded}
 
 pub take-zeros : (v n : ℕ) → v ≤ n → take {A = ℕ} v (replicate n 0) ≡ replicate v 0
 take-zeros zero n h = refl
@@ -52,7 +52,7 @@ take-zeros (suc v) (suc n) h = ap (λ l. 0 ∷ l) (take-zeros v n (omega arith))
 pub started : (v : ℕ) (work new : List ℕ) (x : Code.Row) → AsksStart v work → rowOf x ≡ packedRow v 0 (replicate 32 0) → Stored 0 x (part 0 work) new → GivesStart v work (replaced 0 new work)
 started v work new x asks packed stored = record {
   long = replaced-long 0 work new fits long;
-  row = ap (map (cut v)) whole ∙ ap (λ (z : Row). z ∷ []) row;
+  row = ap (map (unpadded v)) whole ∙ ap (λ (z : Row). z ∷ []) row;
   padded = λ z k. elim (here-or-there (subst (λ (l : List Row). z ∈ l) whole k)) [
     | inl e ↦ subst⁻¹ (Padded v) e (row-padded v 0 (replicate 32 0) (asks .patients) refl x packed)
     | inr t ↦ absurd (none-in-nil t)
@@ -68,9 +68,9 @@ started v work new x asks packed stored = record {
     whole : wholeAt 1 0 (replaced 0 new work) ≡ rowOf x ∷ []
     whole = ap (wholeRows 1) (part-new 0 work new fits long) ∙ rows-more 0 new ∙ ap₂ (λ (l : List Row) (z : Row). l ++ (z ∷ [])) (rows-none new) (stored .row)
 
-    row : cut v (rowOf x) ≡ record { cost = 0; beds = replicate v 0 }
+    row : unpadded v (rowOf x) ≡ record { cost = 0; beds = replicate v 0 }
     row =
-        row-cut v 0 (replicate 32 0) (asks .patients) refl x packed (λ s h. omega (arith, zero-bed 32 s))
+        row-unpadded v 0 (replicate 32 0) (asks .patients) refl x packed (λ s h. omega (arith, zero-bed 32 s))
         ∙ ap (λ (beds : List ℕ). record { cost = 0; beds = beds }) (take-zeros v 32 (asks .patients))
 
 -- ---- the head of a walk over a whole set
@@ -132,9 +132,9 @@ module _ {r : Region} {D E : Patients} {store patients terms : List ℕ} {v m n 
     -- The walk from there finds the first rows of the set.
     pub tree-first : {area now : List ℕ} {found : ℕ} → Gives store patients terms v 0 m area head now found → First rowOrder m (RowOf r (contains (members set)) (noBeds r)) (rowsIn v found now)
     tree-first {area} {now} {found} gives =
-        let empty : Ready rowOrder m (rowsIn v 0 area) (BranchOf r v head) = subst⁻¹ (λ l. Ready rowOrder m l (BranchOf r v head)) (ap (map (cut v)) (rows-none area)) ready-nil in
+        let empty : Ready rowOrder m (rowsIn v 0 area) (BranchOf r v head) = subst⁻¹ (λ l. Ready rowOrder m l (BranchOf r v head)) (ap (map (unpadded v)) (rows-none area)) ready-nil in
         let grown : Grown rowOrder m [] (BranchOf r v head) (rowsIn v found now) =
-        subst (λ l. Grown rowOrder m l (BranchOf r v head) (rowsIn v found now)) (ap (map (cut v)) (rows-none area)) (gives .grown r heads-start empty) in
+        subst (λ l. Grown rowOrder m l (BranchOf r v head) (rowsIn v found now)) (ap (map (unpadded v)) (rows-none area)) (gives .grown r heads-start empty) in
         let branch : BranchOf r v head ≡ Branch r (contains (members set)) (head .plan .beds) (emptyRow r) = λ i. Branch r (fresh-left i) (head .plan .beds) (fresh-row i) in
         let first = walk-finds r (contains (members set)) (head .plan .beds) (subst (λ Q. Grown rowOrder m [] Q (rowsIn v found now)) branch grown) in
         first-iff (λ z. row-context (λ t k h s i. fresh-free s ∙ sym (no-bed r s))) (λ z. row-context (λ t k h s i. no-bed r s ∙ sym (fresh-free s))) first
@@ -158,16 +158,16 @@ module _ (r : Region) (accepted : Accepted r) (D : Patients) (placed : Plan) whe
           omega arith
 
 -- The sum of rows of two parts fits, since one of each two beds is 0.
-sum-fits : (r : Region) → Accepted r → {D E F : Patients} → Splits D E F → (placed : Plan) (v : ℕ) (x y : Row) → Padded v x → Padded v y → RowOf r E placed (cut v x) → RowOf r F placed (cut v y)
+sum-fits : (r : Region) → Accepted r → {D E F : Patients} → Splits D E F → (placed : Plan) (v : ℕ) (x y : Row) → Padded v x → Padded v y → RowOf r E placed (unpadded v x) → RowOf r F placed (unpadded v y)
     → Fit x y
 sum-fits r accepted {D} {E} {F} split placed v x y p q one two = record {
-  cost = omega (arith, rows-cost r accepted E placed (cut v x) one, rows-cost r accepted F placed (cut v y) two);
+  cost = omega (arith, rows-cost r accepted E placed (unpadded v x) one, rows-cost r accepted F placed (unpadded v y) two);
   beds = λ s. elim (decLt s v) [ yes h ↦ known s h (E s) refl | no h ↦ omega (arith, padded-zero v x s p (omega arith), padded-zero v y s q (omega arith)) ];
 }
   where
     known : (s : ℕ) → s < v → (b : Bool) → E s ≡ b → bedOf (x .beds) s + bedOf (y .beds) s < 16
-    known s h true e = omega (arith, getD-take v (x .beds) s 0 h, getD-take v (y .beds) s 0 h, rows-bed r accepted E placed (cut v x) one s, outside (two .fits) s (not-both split s e))
-    known s h false e = omega (arith, getD-take v (x .beds) s 0 h, getD-take v (y .beds) s 0 h, outside (one .fits) s e, rows-bed r accepted F placed (cut v y) two s)
+    known s h true e = omega (arith, getD-take v (x .beds) s 0 h, getD-take v (y .beds) s 0 h, rows-bed r accepted E placed (unpadded v x) one s, outside (two .fits) s (not-both split s e))
+    known s h false e = omega (arith, getD-take v (x .beds) s 0 h, getD-take v (y .beds) s 0 h, outside (one .fits) s e, rows-bed r accepted F placed (unpadded v y) two s)
 
 -- ---- one more tree
 
@@ -227,13 +227,13 @@ module _ {store patients terms : List ℕ} {v m n : ℕ} {work : List ℕ} {set 
             sums .first (in-order (wholeAt n 0 walked) first-padded (one .sorted)) (in-order (wholeAt found 1 walked) second-padded (two .sorted))
             (injective-back v (asks .few) (wholeAt n 0 walked) (wholeAt found 1 walked) first-padded second-padded shows)
           where
-            in-order : (l : List Row) → ((z : Row) → z ∈ l → Padded v z) → Sorted rowOrder (map (cut v) l) → Sorted rowOrder l
-            in-order = sorted-back rowOrder rowOrder (cut v) (Padded v) (cut-keeps v (asks .few))
+            in-order : (l : List Row) → ((z : Row) → z ∈ l → Padded v z) → Sorted rowOrder (map (unpadded v) l) → Sorted rowOrder l
+            in-order = sorted-back rowOrder rowOrder (unpadded v) (Padded v) (unpadded-keeps v (asks .few))
 
         both-first : First rowOrder m (RowOf r D (noBeds r)) (listAt v k 0 after)
         both-first =
             parts-combined r (treed .split) (treed .apart) (noBeds r) (omega arith) (omega arith) one two
-            (first-cut v (asks .few) (wholeAt n 0 walked) (wholeAt found 1 walked) first-padded second-padded whole-first)
+            (first-unpadded v (asks .few) (wholeAt n 0 walked) (wholeAt found 1 walked) first-padded second-padded whole-first)
 
     pub asks-combine : Sums.Asks m n found walked
     asks-combine =
@@ -245,7 +245,7 @@ module _ {store patients terms : List ℕ} {v m n : ℕ} {work : List ℕ} {set 
           long = omega (arith, asks .long, replaced-long 1 work new fits long);
           fits = λ x y i j.
               sum-fits (asks .region) (asks .treed .prepared .accepted) (asks .treed .split) (noBeds (asks .region)) v x y (first-padded x i) (second-padded y j)
-              (one (asks .region) (asks .treed) .sound (in-map (cut v) i)) (two (asks .region) (asks .treed) .sound (in-map (cut v) j));
+              (one (asks .region) (asks .treed) .sound (in-map (unpadded v) i)) (two (asks .region) (asks .treed) .sound (in-map (unpadded v) j));
         }
 
     pub tree-added : {after : List ℕ} {k : ℕ} → Sums.Gives m n found walked after k → GivesTree store patients terms v m n work set after k

@@ -1,4 +1,4 @@
--- One more bed on a walk: what it asks for, and the head below it. Assumes nothing.
+-- One more bed on a walk: what it asks for, and the head below it.
 use mathlib.Core.Path.{_≡_, refl, sym, ap, _∙_, subst⁻¹}
 use Prim.Native.Nat.{_≤_}
 use native.Mathlib.Omega.{arith}

@@ -1,4 +1,4 @@
--- The walk's loop over the beds of the lowest patient left. Assumes nothing.
+-- The walk's loop over the beds of the lowest patient left.
 use mathlib.Core.Path.{_≡_, refl, sym, ap, _∙_, subst, subst⁻¹}
 use mathlib.Core.Bool.{true≢false, false≢true}
 use Prim.Native.Nat.{_≤_}
@@ -12,23 +12,23 @@ use Rattle.definitions.specs.Plans.{Row, costOver, compareRows}
 use Rattle.ranking.specs.Orders.{View, before, equal, after}
 use Rattle.ranking.specs.Growing.{Grown, Ready}
 use Rattle.ranking.specs.Rising.{sorted-rising}
-use Rattle.theorems.specs.Tests.{both}
+use Rattle.lists.specs.Tests.{both}
 use Rattle.theorems.specs.List.{rowOrder}
 use Rattle.theorems.specs.Accepted.{beds-few}
 use Rattle.patient_set.specs.Sets.{first}
 use Rattle.partial_rows.specs.Sets.{only, Splits}
 use Rattle.partial_rows.specs.Rows.{Branch, decidedTables, withBed}
-use Rattle.partial_rows.specs.Padding.{cut, Padded}
+use Rattle.partial_rows.specs.Padding.{unpadded, Padded}
 use Rattle.partial_rows.specs.Walk.{BranchBelow, walk-leaf, walk-cut, walk-none, ready-bed, walk-bed, walk-skip, walk-all}
 use Rattle.buckets.specs.Terms.{bedsAt}
 use Rattle.packed_rows.specs.declared.Row as Code
 use Rattle.packed_rows.specs.Packed.{rowOf, isBefore}
 use Rattle.packed_rows.specs.Packing.{packedRow}
 use Rattle.row_list.specs.Rows.{rowIn, rowsIn, Room, Inserted}
-use Rattle.row_list.specs.Laws.{cut-long, cut-at}
+use Rattle.row_list.specs.Laws.{unpadded-long, unpadded-at}
 use Rattle.search.specs.Walks.{Branching, remaining, leftIn, headRow, Heads, BranchOf, AsksNext, Below, Decides, AllPadded, isPast, AsksCut, Asks, Gives}
 use Rattle.search.proofs.Steps.{known, low-beds, split, decided, fits-next, asks-few, asks-room, below-split, row-below, light-below, heads-below, bound-holds}
-use Rattle.search.proofs.Padded.{row-padded, row-cut, inserted-cut, inserted-padded}
+use Rattle.search.proofs.Padded.{row-padded, row-unpadded, inserted-unpadded, inserted-padded}
 
 -- A row that is not before another.
 not-before : (v w : Row) → isBefore (compareRows v w) ≡ false → rowOrder .Lt v w → ⊥
@@ -61,7 +61,7 @@ module _ {store patients terms : List ℕ} {v n m : ℕ} {area : List ℕ} {head
         long = ins .long;
         padded = inserted-padded v n m area few (asks .padded) x row ins;
         grown = λ r heads ready.
-            let rows = inserted-cut v n m area few (asks .padded) x row ins (sorted-rising rowOrder (rowsIn v n area) (ready .sorted)) ∙ ap (λ (z : Row). take m (insert compareRows z (rowsIn v n area))) is in
+            let rows = inserted-unpadded v n m area few (asks .padded) x row ins (sorted-rising rowOrder (rowsIn v n area) (ready .sorted)) ∙ ap (λ (z : Row). take m (insert compareRows z (rowsIn v n area))) is in
             rw rows (walk-leaf r (leftIn head) (head .plan .beds) (headRow v head) ready (gone (remaining head) nobody) (heads .position .long));
       }
     where
@@ -75,8 +75,8 @@ module _ {store patients terms : List ℕ} {v n m : ℕ} {area : List ℕ} {head
       row : Padded v (rowOf x)
       row = row-padded v (head .cost) (head .plan .beds) few (asks .light .beds) x packed
 
-      is : cut v (rowOf x) ≡ headRow v head
-      is = row-cut v (head .cost) (head .plan .beds) few (asks .light .beds) x packed (low-beds (asks .heads) (head .plan .beds) (asks .heads .fits))
+      is : unpadded v (rowOf x) ≡ headRow v head
+      is = row-unpadded v (head .cost) (head .plan .beds) few (asks .light .beds) x packed (low-beds (asks .heads) (head .plan .beds) (asks .heads .fits))
 
   module _ (asks : Asks store patients terms v n m area head) {s : ℕ} where
     pub sofar-start : {count : ℕ} (others : List ℕ) → remaining head ≡ s ∷ others → count ≡ bedsAt patients s → Sofar store patients terms v n m area head s count area n 0
@@ -210,10 +210,10 @@ module _ {store patients terms : List ℕ} {v n m : ℕ} {area : List ℕ} {head
             let full : found ≡ m = eqb-true found m (parts .0) in
             let d : Row = record { cost = 0; beds = [] } in
             let best : Row = record { cost = below .cost + below .bound; beds = take v (below .plan .beds) } in
-            let last = cut-at v found now (m - 1) d (omega (arith, asks .room .some)) in
+            let last = unpadded-at v found now (m - 1) d (omega (arith, asks .room .some)) in
             next-bed (sofar .few) refl (sofar .padded) (λ r heads ready.
             grown-below r heads ready now found
-            (walk-cut r (leftIn below) (below .plan .beds) (headRow v below) (ready-below r heads ready) (m - 1) (below .bound) d (omega (arith, asks .room .some)) (cut-long v found now ∙ full)
+            (walk-cut r (leftIn below) (below .plan .beds) (headRow v below) (ready-below r heads ready) (m - 1) (below .bound) d (omega (arith, asks .room .some)) (unpadded-long v found now ∙ full)
             (bound-holds (heads-below is heads (asks .light) (fits r heads)))
             (λ lt. not-before best (rowIn v now (m - 1)) (not-true _ (parts .1)) (subst⁻¹ (rowOrder .Lt best) last lt))))
 

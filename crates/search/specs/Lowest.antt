@@ -7,16 +7,15 @@ use borrow.Author.Tests.{ltb-true, lt-ltb, eqb-true, eqb-false, eq-eqb, ne-eqb}
 use Rattle.definitions.specs.Basics.{ℕ, _+_, _<_, Bool, true, false, not, _&&_, _||_, List, [], _∷_, map, sum, eqb, ltb, every, everyTwo, contains}
 use Rattle.definitions.specs.Syntax.{Table, Region}
 use Rattle.definitions.specs.Plans.{Plan, costOver, constraints, Row}
-use Rattle.ranking.specs.Members.{_∈_}
-use Rattle.theorems.specs.Tests.{both, same-answer}
-use Rattle.theorems.specs.Kept.{any-in, any-out}
+use Rattle.lists.specs.Tests.{both, same-answer}
+use Rattle.lists.specs.Members.{_∈_}
+use Rattle.lists.specs.Every.{any-in, any-out, every-contains}
+use Rattle.lists.specs.Keep.{keep-same}
 use Rattle.partial_rows.specs.Sets.{Patients, only, Part, first, second, neither, Splits, splits-one, in-first, not-both, swap-parts}
 use Rattle.partial_rows.specs.Rows.{holds, decidedTables, LowerBound}
-use Rattle.partial_rows.specs.Costs.{keep-same}
 use Rattle.partial_rows.specs.Bounds.{least-sum, bound-zero}
 use Rattle.partial_rows.specs.Adding.{addBeds}
 use Rattle.partial_rows.specs.Splitting.{row-apart}
-use Rattle.patient_set.specs.Lists.{every-at}
 use Rattle.buckets.specs.Terms.{bucketOf, leastIn}
 
 -- Of a table with a member in the set, every higher member is in it.
@@ -76,7 +75,7 @@ module _ (r : Region) {D F : Patients} (s : ℕ) (split : Splits D (only s) F) (
 -- A set that is given by a rising list: its first is the lowest, and the others are the rest.
 module _ (D : Patients) (s : ℕ) (l : List ℕ) (is : (q : ℕ) → D q ≡ contains (s ∷ l) q) (up : everyTwo ltb (s ∷ l) ≡ true) where
   later : (q : ℕ) → contains l q ≡ true → s < q
-  later q e = ltb-true s q (every-at (ltb s) l q (both (every (ltb s) l) up .0) e)
+  later q e = ltb-true s q (every-contains (ltb s) l q (both (every (ltb s) l) up .0) e)
 
   pub list-split : Splits D (only s) (contains l)
   list-split = splits-one D (contains l) s (is s ∙ ap (λ b. b || contains l s) (eq-eqb s s refl)) (λ q. rw (is q) (go q (eqb q s) refl (contains l q) refl))

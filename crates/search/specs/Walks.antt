@@ -4,7 +4,7 @@ use Prim.Native.Nat.{_≤_}
 use Rattle.definitions.specs.Basics.{ℕ, _+_, _-_, _*_, _<_, _≡_, Bool, not, _&&_, Option, List, _∷_, map, length, take, sum, eqb, contains}
 use Rattle.definitions.specs.Syntax.{Region, patientAt}
 use Rattle.definitions.specs.Plans.{Row, bedOf, costOver, compareRows}
-use Rattle.ranking.specs.Members.{_∈_}
+use Rattle.lists.specs.Members.{_∈_}
 use Rattle.ranking.specs.Growing.{Grown, Ready}
 use Rattle.theorems.specs.List.{rowOrder}
 use Rattle.patient_set.specs.declared.PatientSet.{PatientSet}
@@ -12,7 +12,7 @@ use Rattle.patient_set.specs.Sets.{members}
 use Rattle.partial_rows.specs.Rows.{Branch, Position}
 use Rattle.buckets.specs.Terms.{Fitting, bucketOf, leastIn, leastAt, Prepared}
 use Rattle.pricing.specs.declared.Plan as Code
-use Rattle.partial_rows.specs.Padding.{cut, Padded}
+use Rattle.partial_rows.specs.Padding.{unpadded, Padded}
 use Rattle.packed_rows.specs.Packed.{isBefore}
 use Rattle.row_list.specs.Rows.{wholeRows, rowIn, rowsIn, Room}
 use Rattle.search.specs.Lowest.{Upward}
@@ -102,7 +102,7 @@ AllPadded v n area = (z : Row) → z ∈ wholeRows n area → Padded v z
 
 -- The list is full, and a row of this cost and these beds is not before its last row.
 unfoldable pub isPast : ℕ → ℕ → ℕ → List ℕ → ℕ → List ℕ → Bool
-isPast v n m area cost beds = eqb n m && not (isBefore (compareRows (cut v (record { cost = cost; beds = beds })) (rowIn v area (m - 1))))
+isPast v n m area cost beds = eqb n m && not (isBefore (compareRows (unpadded v (record { cost = cost; beds = beds })) (rowIn v area (m - 1))))
 
 pub record AsksCut (v n m : ℕ) (area beds : List ℕ) (placed s bed : ℕ) : Type 0 where
   pub patients : v ≤ 32

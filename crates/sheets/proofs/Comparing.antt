@@ -1,4 +1,4 @@
--- A row compared with the rows that are kept. Assumes nothing.
+-- A row compared with the rows that are kept.
 use mathlib.Core.Path.{_≡_, sym, ap, _∙_}
 use Prim.Native.Nat.{_≤_}
 use native.Mathlib.Numerals.{add-one}

@@ -1,4 +1,4 @@
--- What a walk along the list asks for, from what a sheet is given. Assumes nothing.
+-- What a walk along the list asks for, from what a sheet is given.
 use mathlib.Core.Path.{sym, ap}
 use native.Mathlib.Omega.{arith}
 use Rattle.definitions.specs.Basics.{ℕ, List}

@@ -1,4 +1,4 @@
--- The rows kept so far, and the first occurrences of the rest, are the whole sheet. Assumes nothing.
+-- The rows kept so far, and the first occurrences of the rest, are the whole sheet.
 use mathlib.Core.Path.{_≡_, refl, sym, ap, ap₂, _∙_}
 use mathlib.Core.Bool.{or-assoc, or-comm}
 use mathlib.Core.Logic.{inl, inr}
@@ -9,8 +9,8 @@ use native.Mathlib.Omega.{arith}
 use Rattle.definitions.specs.Basics.{ℕ, _+_, Bool, true, false, _||_, cond, List, [], _∷_, _++_, map, any, firstOccurrences}
 use Rattle.definitions.specs.Plans as Said
 use Rattle.definitions.specs.Sheets.{sameBeds}
-use Rattle.ranking.specs.Members.{_∈_, here, there, here-or-there, none-in-nil, in-append-cases}
-use Rattle.partial_rows.specs.Padding.{cut, Padded, cut-same}
+use Rattle.lists.specs.Members.{_∈_, here, there, here-or-there, none-in-nil, in-append-cases}
+use Rattle.partial_rows.specs.Padding.{unpadded, Padded, unpadded-same}
 use Rattle.packed_rows.specs.declared.Row.{Row}
 use Rattle.packed_rows.specs.Packed.{rowOf}
 use Rattle.row_list.specs.Rows.{wholeRows, Stored}
@@ -84,14 +84,14 @@ module _ (k : ℕ) (few : k ≤ 32) (x : Said.Row) (padded : Padded k x) where
         | inr t ↦ elim (here-or-there t) [ inl e ↦ rw e padded | inr u ↦ absurd (none-in-nil u) ]
       ]
 
-  any-cut : (rows : List Said.Row) → ((z : Said.Row) → z ∈ rows → Padded k z) → any (sameBeds (cut k x)) (map (cut k) rows) ≡ any (sameBeds x) rows
-  any-cut [] all = refl
-  any-cut (y ∷ rows) all = ap₂ _||_ (cut-same k x y few padded (all y (here refl))) (any-cut rows (λ z m. all z (there m)))
+  any-unpadded : (rows : List Said.Row) → ((z : Said.Row) → z ∈ rows → Padded k z) → any (sameBeds (unpadded k x)) (map (unpadded k) rows) ≡ any (sameBeds x) rows
+  any-unpadded [] all = refl
+  any-unpadded (y ∷ rows) all = ap₂ _||_ (unpadded-same k x y few padded (all y (here refl))) (any-unpadded rows (λ z m. all z (there m)))
 
-  pub new-cut : (rows : List Said.Row) → ((z : Said.Row) → z ∈ rows → Padded k z) → map (cut k) (withNew x rows) ≡ withNew (cut k x) (map (cut k) rows)
-  new-cut rows all =
-      go (any (sameBeds x) rows) ∙ ap (λ b. cond b (map (cut k) rows) (map (cut k) rows ++ cut k x ∷ [])) (sym (any-cut rows all))
+  pub new-unpadded : (rows : List Said.Row) → ((z : Said.Row) → z ∈ rows → Padded k z) → map (unpadded k) (withNew x rows) ≡ withNew (unpadded k x) (map (unpadded k) rows)
+  new-unpadded rows all =
+      go (any (sameBeds x) rows) ∙ ap (λ b. cond b (map (unpadded k) rows) (map (unpadded k) rows ++ unpadded k x ∷ [])) (sym (any-unpadded rows all))
     where
-      go : (b : Bool) → map (cut k) (cond b rows (rows ++ x ∷ [])) ≡ cond b (map (cut k) rows) (map (cut k) rows ++ cut k x ∷ [])
+      go : (b : Bool) → map (unpadded k) (cond b rows (rows ++ x ∷ [])) ≡ cond b (map (unpadded k) rows) (map (unpadded k) rows ++ unpadded k x ∷ [])
       go true = refl
-      go false = map-append (cut k) rows (x ∷ [])
+      go false = map-append (unpadded k) rows (x ∷ [])

@@ -1,4 +1,4 @@
--- A clinic's own row: its cost is the price in the region with only the clinic's own tables. Assumes nothing.
+-- A clinic's own row: its cost is the price in the region with only the clinic's own tables.
 use mathlib.Core.Path.{_≡_, refl, sym, ap, _∙_, subst}
 use Prim.Native.Nat.{_≤_}
 use native.Mathlib.Omega.{arith}
@@ -9,22 +9,23 @@ use Rattle.definitions.specs.Syntax.{Region, patientAt, patientsOf}
 use Rattle.definitions.specs.Plans as Said
 use Rattle.definitions.specs.Plans.{bedOf, entryFor, costOver, constraints, total}
 use Rattle.definitions.specs.Sheets.{part, ownTables, ownCost, ownRow}
-use Rattle.ranking.specs.Members.{_∈_, getD-in, in-map-cases}
-use Rattle.theorems.specs.List.{Allowed, numbers-enumerate}
-use Rattle.theorems.specs.Kept.{every-in, every-all}
+use Rattle.lists.specs.Members.{_∈_, getD-in, in-map-cases}
+use Rattle.lists.specs.Every.{every-in, every-all}
+use Rattle.lists.specs.Keep.{every-keep}
+use Rattle.lists.specs.Maps.{map-same}
+use Rattle.lists.specs.Below.{numbers-enumerate}
+use Rattle.theorems.specs.List.{Allowed}
 use Rattle.patient_set.specs.Sets.{members}
 use Rattle.patient_set.specs.Laws.{size-most}
-use Rattle.patient_set.specs.Lists.{every-keep}
 use Rattle.partial_rows.specs.Beds.{inside, fits-beds}
-use Rattle.partial_rows.specs.Padding.{cut}
-use Rattle.held_region.specs.Places.{same-maps}
+use Rattle.partial_rows.specs.Padding.{unpadded}
 use Rattle.buckets.specs.Terms.{Fitting, fitting-low}
 use Rattle.buckets.specs.WithTables.{withTables}
 use Rattle.buckets.specs.Among.{isAmong}
 use Rattle.pricing.specs.Pricing.{AsksAll}
 use Rattle.packed_rows.specs.declared.Row.{Row}
 use Rattle.packed_rows.specs.Packed.{rowOf, packable}
-use Rattle.packed_rows.specs.Packing.{packedRow, pack-padded, pack-cut}
+use Rattle.packed_rows.specs.Packing.{packedRow, pack-padded, pack-unpadded}
 use Rattle.sheets.specs.Steps.{PartTaken, Priced, Own, GivesOwn}
 
 -- A row of the list fits, and so do beds that begin with its beds.
@@ -65,7 +66,7 @@ module _ {r : Region} {clinic : ℕ} {store patients terms : List ℕ} {v set : 
   unfolding part
   own-beds beds taken is =
       is ∙ ap (map (bedOf beds)) (own .ofClinic)
-      ∙ same-maps (λ s. ltb s v) (bedOf beds) (bedOf (take v beds)) (λ s l. sym (getD-take v beds s 0 (ltb-true s v l))) (patientsOf r clinic) patients-known
+      ∙ map-same (bedOf beds) (bedOf (take v beds)) (patientsOf r clinic) (λ s k. sym (getD-take v beds s 0 (ltb-true s v (every-in _ (patientsOf r clinic) patients-known k))))
 
   own-cost : (beds : List ℕ) (cost first : ℕ) → Fitting r beds → Priced store patients terms v beds first → first ≡ ownCost r clinic (record { cost = cost; beds = take v beds })
   unfolding ownCost ownTables total constraints costOver entryFor patientAt
@@ -83,7 +84,7 @@ own-made {v = v} row set result beds taken k first plain long size priced is pac
       padded = rw whole (pack-padded n first taken few long);
       is = λ r clinic own fits.
           let fit : Fitting r beds = rw plain fits in
-          ap (cut n) whole ∙ pack-cut n first taken few long (own-low own beds taken fit long is)
+          ap (unpadded n) whole ∙ pack-unpadded n first taken few long (own-low own beds taken fit long is)
           ∙ (λ i. record { cost = own-cost own beds (row .cost) first fit priced i; beds = own-beds own beds taken is i })
           ∙ ap (λ (l : List ℕ). ownRow r clinic (record { cost = row .cost; beds = take v l })) plain;
     }

@@ -1,4 +1,4 @@
--- A clinic's part of the beds, taken from the lowest patient on; and what a plan costs. Assumes nothing.
+-- A clinic's part of the beds, taken from the lowest patient on; and what a plan costs.
 use mathlib.Core.Path.{_≡_, refl, sym, ap, _∙_}
 use mathlib.Core.List.{append-assoc, append-nil}
 use Prim.Native.Nat.{_≤_}

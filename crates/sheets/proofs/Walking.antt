@@ -1,4 +1,4 @@
--- The walk along the list, row by row. Assumes nothing.
+-- The walk along the list, row by row.
 use mathlib.Core.Path.{_≡_, refl, sym, ap, _∙_}
 use Prim.Native.Nat.{_≤_}
 use native.Mathlib.Numerals.{add-one}
@@ -10,21 +10,21 @@ use Rattle.definitions.specs.Syntax.{Region}
 use Rattle.definitions.specs.Plans as Said
 use Rattle.definitions.specs.Plans.{listOf}
 use Rattle.definitions.specs.Sheets.{ownRow, sheetOf}
-use Rattle.ranking.specs.Members.{_∈_, none-in-nil, getD-in}
+use Rattle.lists.specs.Members.{_∈_, getD-in, none-in-nil}
 use Rattle.theorems.specs.List.{right-list}
 use Rattle.patient_set.specs.Sets.{members}
 use Rattle.patient_set.specs.Laws.{size-most}
 use Rattle.buckets.specs.Terms.{Fitting}
-use Rattle.partial_rows.specs.Padding.{cut, Padded}
+use Rattle.partial_rows.specs.Padding.{unpadded, Padded}
 use Rattle.packed_rows.specs.declared.Row.{Row}
 use Rattle.packed_rows.specs.Packed.{rowOf}
 use Rattle.row_list.specs.Rows.{wholeRow, wholeRows, rowsIn}
-use Rattle.row_list.specs.Laws.{rows-none, cut-long, cut-at}
+use Rattle.row_list.specs.Laws.{rows-none, unpadded-long, unpadded-at}
 use Rattle.row_sums.specs.Sums.{part, wholeAt, listAt}
 use Rattle.row_sums.specs.Areas.{replaced, replaced-long, part-new, part-before, part-long}
 use Rattle.sheets.specs.Steps.{AsksOwn, GivesOwn, Room, withNew, Kept, Listed, AsksList, GivesList}
 use Rattle.sheets.proofs.Own.{listed-fits}
-use Rattle.sheets.proofs.Keeping.{sheetFrom, from-next, from-done, new-padded, new-cut}
+use Rattle.sheets.proofs.Keeping.{sheetFrom, from-next, from-done, new-padded, new-unpadded}
 
 -- At row i of the list: the rows kept so far, and the first occurrences of the own rows that are left, are the sheet.
 pub record Walked (store patients terms : List ℕ) (v n set : ℕ) (first : List ℕ) (i : ℕ) (work : List ℕ) (kept : ℕ) : Type 0 where
@@ -49,7 +49,7 @@ module _ (store patients terms : List ℕ) (v n set : ℕ) (first : List ℕ) wh
         long = refl;
         list = refl;
         padded = λ z m. absurd (none-in-nil (rw (rows-none (part 1 first)) at m));
-        sheet = λ r clinic l. ap (λ rows. sheetFrom (map (cut size) rows) (map (ownRow r clinic) (listOf r))) (rows-none (part 1 first));
+        sheet = λ r clinic l. ap (λ rows. sheetFrom (map (unpadded size) rows) (map (ownRow r clinic) (listOf r))) (rows-none (part 1 first));
       }
 
   module _ (i : ℕ) (work : List ℕ) (kept : ℕ) (w : Walked store patients terms v n set first i work kept) where
@@ -60,7 +60,7 @@ module _ (store patients terms : List ℕ) (v n set : ℕ) (first : List ℕ) wh
           long = w .long;
           list = w .list;
           sheet = λ r clinic l.
-              let none-left : drop i (listOf r) ≡ [] = drop-of-length-le (listOf r) {i = i} (omega (arith, sym (ap length (l .list)) ∙ cut-long v n (part 0 first))) in
+              let none-left : drop i (listOf r) ≡ [] = drop-of-length-le (listOf r) {i = i} (omega (arith, sym (ap length (l .list)) ∙ unpadded-long v n (part 0 first))) in
               sym (from-done (listAt size kept 1 work))
               ∙ ap (λ rows. sheetFrom (listAt size kept 1 work) (map (ownRow r clinic) rows)) (sym none-left) ∙ w .sheet r clinic l;
         }
@@ -77,11 +77,11 @@ module _ (store patients terms : List ℕ) (v n set : ℕ) (first : List ℕ) wh
 
           -- The row that is read is the list's.
           rows-left : length (listOf r) ≡ n
-          rows-left = sym (ap length (l .list)) ∙ cut-long v n (part 0 first)
+          rows-left = sym (ap length (l .list)) ∙ unpadded-long v n (part 0 first)
 
-          read-row : cut v (rowOf row) ≡ getD (listOf r) i noRow
+          read-row : unpadded v (rowOf row) ≡ getD (listOf r) i noRow
           read-row =
-              ap (cut v) read ∙ cut-at v n (part 0 work) i noRow more
+              ap (unpadded v) read ∙ unpadded-at v n (part 0 work) i noRow more
               ∙ ap (λ rows. getD rows i noRow) (ap (rowsIn v n) (w .list) ∙ l .list)
 
           read-fits : Fitting r (rowOf row .beds)
@@ -89,7 +89,7 @@ module _ (store patients terms : List ℕ) (v n set : ℕ) (first : List ℕ) wh
               listed-fits r (getD (listOf r) i noRow) (rowOf row .beds) (right-list r .onlyAllowed _ (getD-in (listOf r) i noRow (omega (arith, rows-left))))
               (ap (λ m. take m (rowOf row .beds)) (sym (l .own .all)) ∙ ap (λ (z : Said.Row). z .beds) read-row)
 
-          next-row : drop i (listOf r) ≡ cut v (rowOf row) ∷ drop (suc i) (listOf r)
+          next-row : drop i (listOf r) ≡ unpadded v (rowOf row) ∷ drop (suc i) (listOf r)
           next-row = drop-cons (listOf r) i noRow (omega (arith, rows-left)) ∙ ap (λ z. z ∷ drop (suc i) (listOf r)) (sym read-row)
 
         pub walked-asks : AsksList store patients terms v n set first → AsksOwn store patients terms v row set
@@ -115,8 +115,8 @@ module _ (store patients terms : List ℕ) (v n set : ℕ) (first : List ℕ) wh
               sheet = λ r clinic l.
                   let rest = map (ownRow r clinic) (drop (suc i) (listOf r)) in
                   rw add-one
-                  (ap (λ rows. sheetFrom rows rest) (cut-rows ∙ ap (λ x. withNew x (listAt size kept 1 work)) (made .is r clinic (l .own) (read-fits r clinic l)))
-                  ∙ sym (from-next (ownRow r clinic (cut v (rowOf row))) rest (listAt size kept 1 work))
+                  (ap (λ rows. sheetFrom rows rest) (unpadded-rows ∙ ap (λ x. withNew x (listAt size kept 1 work)) (made .is r clinic (l .own) (read-fits r clinic l)))
+                  ∙ sym (from-next (ownRow r clinic (unpadded v (rowOf row))) rest (listAt size kept 1 work))
                   ∙ ap (λ rows. sheetFrom (listAt size kept 1 work) (map (ownRow r clinic) rows)) (sym (next-row r clinic l))
                   ∙ w .sheet r clinic l);
             }
@@ -133,5 +133,5 @@ module _ (store patients terms : List ℕ) (v n set : ℕ) (first : List ℕ) wh
             rows : wholeAt after 1 (replaced 384 new work) ≡ withNew (rowOf own) (wholeAt kept 1 work)
             rows = ap (wholeRows after) (part-new 1 work new fits long) ∙ g .rows
 
-            cut-rows : listAt size after 1 (replaced 384 new work) ≡ withNew (cut size (rowOf own)) (listAt size kept 1 work)
-            cut-rows = ap (map (cut size)) rows ∙ new-cut size few (rowOf own) (made .padded) (wholeAt kept 1 work) (w .padded)
+            unpadded-rows : listAt size after 1 (replaced 384 new work) ≡ withNew (unpadded size (rowOf own)) (listAt size kept 1 work)
+            unpadded-rows = ap (map (unpadded size)) rows ∙ new-unpadded size few (rowOf own) (made .padded) (wholeAt kept 1 work) (w .padded)

@@ -9,7 +9,7 @@ use Rattle.patient_set.specs.Sets.{members}
 use Rattle.buckets.specs.Terms.{Fitting, Prepared}
 use Rattle.buckets.specs.WithTables.{withTables}
 use Rattle.buckets.specs.Among.{isAmong}
-use Rattle.partial_rows.specs.Padding.{cut, Padded}
+use Rattle.partial_rows.specs.Padding.{unpadded, Padded}
 use Rattle.packed_rows.specs.declared.Row as Code
 use Rattle.packed_rows.specs.Packed.{rowOf}
 use Rattle.row_list.specs.Rows.{wholeRows}
@@ -43,7 +43,7 @@ pub record AsksOwn (store patients terms : List ℕ) (v : ℕ) (row : Code.Row) 
 pub record GivesOwn (store patients terms : List ℕ) (v : ℕ) (row : Code.Row) (set : ℕ) (result : Code.Row) : Type 0 where
   pub padded : Padded (length (members set)) (rowOf result)
   pub is : (r : Region) (clinic : ℕ) → Own r clinic store patients terms v set → Fitting r (rowOf row .beds)
-      → cut (length (members set)) (rowOf result) ≡ ownRow r clinic (cut v (rowOf row))
+      → unpadded (length (members set)) (rowOf result) ≡ ownRow r clinic (unpadded v (rowOf row))
 
 -- ---- the rows kept
 

@@ -1,4 +1,4 @@
--- The items of a table line one after the other, and the line part by part. Assumes nothing.
+-- The items of a table line one after the other, and the line part by part.
 use mathlib.Core.Path.{_≡_, refl, sym, ap, _∙_}
 use mathlib.Core.List.{append-nil, append-assoc, map-append}
 use mathlib.Core.Bool.{Bool, true, false, false≢true}

@@ -9,7 +9,7 @@ use native.Mathlib.Omega.{arith}
 use borrow.Author.Tests.{leb-true, ltb-true, eqb-true}
 use lib.ListN.{List·getD-eq-default}
 use Prim.Native.Nat.{_≤_}
-use Rattle.definitions.specs.Basics.{ℕ, zero, suc, _*_, _<_, Bool, true, false, _&&_, _||_, Option, none, some, Option·getD}
+use Rattle.definitions.specs.Basics.{ℕ, _*_, _<_, Bool, true, false, _&&_, _||_, Option, none, some, Option·getD}
 use Rattle.definitions.specs.Basics.{List, [], _∷_, map, length, getD, leb, ltb, eqb, sum, product, every, everyTwo, keep, contains, noneOr, isSome}
 use Rattle.definitions.specs.Limits.{Field, patientCount, tableCount, plansWanted, clinic, bedCount, memberCount, entryCount, entry, limits, within}
 use Rattle.definitions.specs.Syntax.{Patient, Table, Region, patientNumbers, patientAt, bedCounts}
@@ -18,11 +18,12 @@ use Rattle.definitions.specs.Plans.{Plan, entryFor, costOver, constraints, tota
 use Rattle.definitions.specs.Sheets.{ownTables, ownCost}
 use Rattle.definitions.specs.Questions.{shortEnough, laidOut, countsTrue, sumTrue, countsWithin, patientsWithin, parentsSmaller, membersRight, entryCountsRight, entriesWithin, membersRelated}
 use Rattle.definitions.specs.Questions.{ancestors, regionOf, askedByCheck, checkOf}
-use Rattle.ranking.specs.Members.{_∈_, here, there, getD-in}
-use Rattle.theorems.specs.Tests.{both}
+use Rattle.lists.specs.Tests.{both}
+use Rattle.lists.specs.Members.{_∈_, getD-in, here, there}
+use Rattle.lists.specs.Every.{every-in, every-all, every-two-in, every-some, contains-out}
+use Rattle.lists.specs.Keep.{keep-out, keep-all, keep-short}
+use Rattle.lists.specs.Below.{below-in}
 use Rattle.theorems.specs.Refusals.{check-says}
-use Rattle.theorems.specs.Kept.{every-in, every-two-in, keep-out, keep-all, keep-short, contains-out}
-use Rattle.theorems.specs.Below.{below-in}
 use Rattle.theorems.specs.Sums.{halves, sumOver, sum-cons}
 
 -- Questions 3 and 5 to 10 of a region are answered yes.
@@ -104,11 +105,13 @@ pub record TableRight (r : Region) (t : Table) : Type 0 where
 pub member-at : {r : Region} {t : Table} → TableRight r t → (j : ℕ) → j < length (t .members) → getD (t .members) j 0 < length (r .patients)
 member-at {t} right j h = right .known (getD-in (t .members) j 0 h)
 
--- An entry that all tests pass at.
-entry-passes : (p : Option ℕ → Bool) (es : List (Option ℕ)) (i e : ℕ) → every p es ≡ true → getD es i none ≡ some e → p (some e) ≡ true
-entry-passes p [] i e h k = absurd (Option·none-ne-some e k)
-entry-passes p (x ∷ es) zero e h k = ap p (sym k) ∙ both (p x) h .0
-entry-passes p (x ∷ es) (suc i) e h k = entry-passes p es i e (both (p x) h .1) k
+-- Who has a parent is a patient, and the parent's number is smaller.
+pub parent-below : (r : Region) → parentsSmaller r ≡ true → (s p : ℕ) → patientAt r s .parent ≡ some p → (s < length (r .patients)) × (p < s)
+unfolding parentsSmaller patientAt
+parent-below r smaller s p e = elim (decLt s (length (r .patients))) [
+  | yes h ↦ (h, ltb-true p s (ap (noneOr (λ q. ltb q s)) (sym e) ∙ every-in _ (patientNumbers r) smaller (below-in _ h)))
+  | no h ↦ absurd (Option·none-ne-some p (sym (ap (λ (x : Patient). x .parent) (List·getD-eq-default (r .patients) _ (omega arith))) ∙ e))
+]
 
 module _ (r : Region) (a : Accepted r) where
   -- There are as many patients and tables as the first line says.
@@ -139,7 +142,7 @@ module _ (r : Region) (a : Accepted r) where
   unfolding limits
   plans-wanted = (at-least plansWanted (r .plansWanted) (counts-within .2), at-most plansWanted (r .plansWanted) (counts-within .2))
 
-  -- A patient has from 1 to 16 beds, and a parent with a smaller number. (And only patients have parents.)
+  -- A patient has from 1 to 16 beds.
   pub beds-within : {p : Patient} → p ∈ r .patients → (1 ≤ p .bedCount) × (p .bedCount ≤ 16)
   unfolding patientsWithin limits
   beds-within {p} k =
@@ -153,13 +156,6 @@ module _ (r : Region) (a : Accepted r) where
   pub beds-few : (s : ℕ) → s < length (r .patients) → patientAt r s .bedCount ≤ 16
   unfolding patientAt
   beds-few s h = beds-within (getD-in (r .patients) s _ h) .1
-
-  pub parent-smaller : (s p : ℕ) → patientAt r s .parent ≡ some p → (p < s) × (s < length (r .patients))
-  unfolding parentsSmaller patientAt
-  parent-smaller s p e = elim (decLt s (length (r .patients))) [
-    | yes h ↦ (ltb-true p s (ap (noneOr (λ q. ltb q s)) (sym e) ∙ every-in _ (patientNumbers r) (a .parentsFit) (below-in _ h)), h)
-    | no h ↦ absurd (Option·none-ne-some p (sym (ap (λ (x : Patient). x .parent) (List·getD-eq-default (r .patients) _ (omega arith))) ∙ e))
-  ]
 
   pub table-right : {t : Table} → t ∈ r .tables → TableRight r t
   unfolding membersRight entryCountsRight entriesWithin limits
@@ -183,7 +179,7 @@ module _ (r : Region) (a : Accepted r) where
 
   pub entry-small : {t : Table} → t ∈ r .tables → (plan : Plan) (e : ℕ) → entryFor r plan t ≡ some e → e ≤ 1_000_000
   unfolding entryFor limits
-  entry-small {t} k plan e is = at-most entry e (entry-passes (noneOr (within entry)) (t .entries) _ e (table-right k .within) is)
+  entry-small {t} k plan e is = at-most entry e (every-some (noneOr (within entry)) (t .entries) _ e (table-right k .within) is)
 
 -- ---- what the total goes over
 
@@ -253,7 +249,7 @@ module _ (r : Region) (a : Accepted r) where
 
   pub total-small : (plan : Plan) (n : ℕ) → total r plan ≡ some n → n ≤ 64_000_000
   unfolding total
-  total-small plan n e = part-small (λ t. true) plan n (ap (λ l. costOver l r plan) (keep-all (constraints r)) ∙ e)
+  total-small plan n e = part-small (λ t. true) plan n (ap (λ l. costOver l r plan) (keep-all (λ t. true) (constraints r) (every-all (λ t. true) (constraints r) (λ t k. refl))) ∙ e)
 
 -- So it is for every plan of an accepted file.
 pub accepted-total : (file : List ℕ) (plan : Plan) (t : ℕ) → checkOf file ≡ 0 → total (regionOf file) plan ≡ some t → t ≤ 64_000_000

@@ -11,7 +11,7 @@ use Rattle.definitions.specs.Questions.{regionOf}
 use Rattle.definitions.specs.Outcomes.{ListOutcome, sheetOutcome}
 use Rattle.definitions.specs.Boundary.{bytesOf, ListCall, sheetCall}
 use Rattle.definitions.specs.Isolation.{YieldsList, timesIn, SameClinic, SameBeginning}
-use Rattle.ranking.specs.Members.{_⊆_}
+use Rattle.lists.specs.Members.{_⊆_}
 use Rattle.ranking.specs.First.{first-iff, first-take, first-unique}
 use Rattle.theorems.specs.List.{Allowed}
 use Rattle.theorems.specs.Sums.{sum-same}

@@ -2,24 +2,15 @@
 use mathlib.Core.Path.{_≡_, refl, sym, ap, _∙_}
 use mathlib.Core.Bool.{true≢false}
 use borrow.Author.Tests.{eqb-true}
-use Rattle.definitions.specs.Basics.{ℕ, Bool, true, false, not, _||_, cond, List, [], _∷_, map, eqb, any, keep, isEmpty}
+use Rattle.definitions.specs.Basics.{ℕ, Bool, true, false, not, List, [], _∷_, eqb, any, isEmpty}
 use Rattle.definitions.specs.Limits.{within, clinic}
 use Rattle.definitions.specs.Syntax as Said
 use Rattle.definitions.specs.Syntax.{patientNumbers, patientAt, patientsOf}
 use Rattle.definitions.specs.Questions.{patientsWithin, clinicPresent}
-use Rattle.theorems.specs.Tests.{both}
-use Rattle.theorems.specs.Kept.{every-in, any-out}
-use Rattle.theorems.specs.Below.{by-number}
-
--- Some element passes where something is kept.
-any-kept : {A : Type 0} (f : A → Bool) (g : ℕ → A) (l : List ℕ) → any f (map g l) ≡ not (isEmpty (keep (λ s. f (g s)) l))
-any-kept f g [] = refl
-any-kept f g (x ∷ l) = go (f (g x)) (any-kept f g l)
-  where
-    go : (b : Bool) → any f (map g l) ≡ not (isEmpty (keep (λ s. f (g s)) l))
-        → (b || any f (map g l)) ≡ not (isEmpty (cond b (x ∷ keep (λ s. f (g s)) l) (keep (λ s. f (g s)) l)))
-    go true e = refl
-    go false e = e
+use Rattle.lists.specs.Tests.{both}
+use Rattle.lists.specs.Every.{every-in, any-out}
+use Rattle.lists.specs.Keep.{any-kept}
+use Rattle.lists.specs.Below.{by-number}
 
 -- Question 11 asks whether the clinic has patients.
 pub present-asked : (r : Said.Region) (c : ℕ) → clinicPresent r c ≡ not (isEmpty (patientsOf r c))

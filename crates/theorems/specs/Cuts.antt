@@ -7,7 +7,7 @@ use Rattle.definitions.specs.Basics.{ℕ, _-_, _<_, _≡_, refl, Bool, true, fa
 use Rattle.definitions.specs.Limits.{fileLength, limits, within}
 use Rattle.definitions.specs.Layout.{lines, layout}
 use Rattle.definitions.specs.Questions.{shortEnough, laidOut, checkOf, askedByCheck}
-use Rattle.theorems.specs.Tests.{join}
+use Rattle.lists.specs.Tests.{join}
 use Rattle.theorems.specs.Refused.{Refused, refused-alike}
 use Rattle.theorems.specs.Accepted.{region-said, at-most}
 use Rattle.theorems.specs.Readers.{cond-only, empty-is}

@@ -1,13 +1,14 @@
 -- The lines of a whole file, in their order.
 use mathlib.Core.Path.{sym, ap, _∙_}
 use mathlib.Core.List.{append-assoc, append-nil}
-use Rattle.definitions.specs.Basics.{ℕ, _≡_, refl, Bool, true, _&&_, Option, none, some, bind, List, [], _∷_, _++_, map, flatMap, flatten}
+use Rattle.definitions.specs.Basics.{ℕ, _≡_, refl, Bool, true, _&&_, Option, none, some, bind, List, [], _∷_, _++_, map, flatten}
 use Rattle.definitions.specs.Basics.{text, every, noneOr}
 use Rattle.definitions.specs.Syntax.{Patient, Table, Region}
 use Rattle.definitions.specs.Layout.{isDigit, whole, patientLine, tableLine, regionLines}
 use Rattle.definitions.specs.Spelling.{decimal, hyphenOrDecimal, bracketed, line, spellPatient, spellTable, spellBody, spell, spellable, wellFormed}
-use Rattle.theorems.specs.Tests.{both, join}
-use Rattle.theorems.specs.Every.{every-append, every-split, every-both, every-each, every-weaken, every-image}
+use Rattle.lists.specs.Tests.{both, join}
+use Rattle.lists.specs.Every.{every-append, every-split, every-both, every-weaken, every-image}
+use Rattle.lists.specs.Maps.{flatten-append, flatten-map}
 use Rattle.theorems.specs.Readers.{Reads, Anything, Stops, then-only, then-each, gives-same, one-reads, many-reads}
 use Rattle.theorems.specs.Numbers.{decimal-digits}
 use Rattle.theorems.specs.Items.{spaced, bracketed-is, every-spaced, someAll}
@@ -60,14 +61,14 @@ well-formed-lines r h =
     record {
       head = ok-head;
       patients = ok-patients;
-      tables = every-both okMembers okEntries (r .tables) ok-members ok-entries;
+      tables = every-both okMembers okEntries (r .tables) ∙ join ok-members ok-entries;
       end = both (spellable (r .statedSum)) ok-end .0;
     }
 
 lines-well-formed : (r : Region) → LinesOk r → wellFormed r ≡ true
 unfolding wellFormed
 lines-well-formed r h =
-    let (ok-members, ok-entries) = every-each okMembers okEntries (r .tables) (h .tables) in
+    let (ok-members, ok-entries) = both (every okMembers (r .tables)) (sym (every-both okMembers okEntries (r .tables)) ∙ h .tables) in
     let ok-numbers = every-append spellable (numbersBefore r) (r .statedSum ∷ []) (h .head) (join (h .end) refl) in
     join (join (join ok-numbers (h .patients)) ok-members) ok-entries
 
@@ -107,16 +108,6 @@ pub file-reads : Reads regionLines fileLines wellFormed Anything
 file-reads = record { only = file-only; each = file-each }
 
 -- The lines of a tree, one after the other, are its spelling.
-flatten-append : (ls ms : List (List ℕ)) → flatten (ls ++ ms) ≡ flatten ls ++ flatten ms
-unfolding flatten
-flatten-append [] ms = refl
-flatten-append (l ∷ ls) ms = ap (λ (r : List ℕ). l ++ r) (flatten-append ls ms) ∙ sym (append-assoc l (flatten ls) (flatten ms))
-
-flatten-map : {A : Type 0} (f : A → List ℕ) (l : List A) → flatten (map f l) ≡ flatMap f l
-unfolding flatten flatMap
-flatten-map f [] = refl
-flatten-map f (a ∷ l) = ap (λ (r : List ℕ). f a ++ r) (flatten-map f l)
-
 pub flatten-body : (r : Region) → flatten (bodyLines r) ≡ spellBody r
 unfolding flatten spellBody
 flatten-body r =

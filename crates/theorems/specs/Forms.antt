@@ -7,8 +7,8 @@ use Rattle.definitions.specs.Basics.{ℕ, _≡_, refl, Bool, true, _&&_, Option
 use Rattle.definitions.specs.Syntax.{Patient, Table}
 use Rattle.definitions.specs.Layout.{whole, isDigit, number, hyphenOrNumber, items, regionLine, patientLine, tableLine, endLine}
 use Rattle.definitions.specs.Spelling.{decimal, hyphenOrDecimal, bracketed, line, spellPatient, spellTable, spellable}
-use Rattle.theorems.specs.Tests.{both, join}
-use Rattle.theorems.specs.Every.{every-weaken}
+use Rattle.lists.specs.Tests.{both, join}
+use Rattle.lists.specs.Every.{every-weaken}
 use Rattle.theorems.specs.Readers.{Takes, Reads, Anything, then-only, then-each, gives-same, whole-takes, word-reads}
 use Rattle.theorems.specs.Numbers.{digit-bounds, decimal-digits, number-reads, hyphen-reads}
 use Rattle.theorems.specs.Items.{someAll, inItem, items-reads}

@@ -13,13 +13,14 @@ use Rattle.definitions.specs.Syntax.{Patient, Table, Region, patientNumbers, pa
 use Rattle.definitions.specs.Plans.{Plan, bedOf, entryFor, costOver, constraints, total, Row, listOf}
 use Rattle.definitions.specs.Sheets.{part, ownTables, ownCost, ownRow, sheetOf}
 use Rattle.definitions.specs.Isolation.{tablesAmong, joins}
-use Rattle.ranking.specs.Members.{_∈_}
+use Rattle.lists.specs.Tests.{join}
+use Rattle.lists.specs.Members.{_∈_}
+use Rattle.lists.specs.Every.{every-in, every-all, any-in, contains-in, contains-out}
+use Rattle.lists.specs.Keep.{keep-in, keep-out}
+use Rattle.lists.specs.Below.{below-in, by-number}
 use Rattle.ranking.specs.First.{First, first-iff, first-prefix}
 use Rattle.ranking.specs.Combining.{Combined, Rising}
-use Rattle.theorems.specs.Tests.{join}
 use Rattle.theorems.specs.List.{Fits, Allowed, rowOrder, by-beds, list-first}
-use Rattle.theorems.specs.Kept.{every-all, any-in, keep-in, keep-out, contains-in, contains-out, every-in}
-use Rattle.theorems.specs.Below.{below-in, by-number}
 use Rattle.theorems.specs.Interleaving.{Interleaved, unweave, rising-marked, rising-unmarked, fits-apart, fits-together}
 use Rattle.theorems.specs.Interleaving.{interleave, interleaved, interleave-is, interleaved-keep}
 use Rattle.theorems.specs.Sums.{plus, Halves, halves, sum-split}

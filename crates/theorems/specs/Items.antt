@@ -8,8 +8,8 @@ use Rattle.definitions.specs.Basics.{ℕ, _≡_, refl, Bool, true, false, _&&_,
 use Rattle.definitions.specs.Basics.{every, isEmpty, onAll}
 use Rattle.definitions.specs.Layout.{Reader, whole, giveIf, ontoFirst, pieces, items}
 use Rattle.definitions.specs.Spelling.{bracketed}
-use Rattle.theorems.specs.Tests.{both, join}
-use Rattle.theorems.specs.Every.{every-append, every-each, every-image, every-flatMap}
+use Rattle.lists.specs.Tests.{both, join}
+use Rattle.lists.specs.Every.{every-append, every-both, every-image, every-flatMap}
 use Rattle.theorems.specs.Readers.{Takes, Reads, Anything, then-only, then-each, gives-only, all-takes, passing-reads, word-reads}
 
 -- Parts with single spaces between them, and in brackets too.
@@ -124,14 +124,17 @@ module _ {A : Type 0} (item : Reader ℕ A) {spell : A → List ℕ} {ok : A →
   items-each [] rest h any = absurd (false≢true h)
   items-each (a ∷ l) rest h any =
       let parts = map spell (a ∷ l) in
-      let no-space = every-image (every noSpace) spell (λ a. every-each noSpace noClose (spell a) (bytes a) .0) (a ∷ l) in
-      let no-close = every-image (every noClose) spell (λ a. every-each noSpace noClose (spell a) (bytes a) .1) (a ∷ l) in
+      let no-space = every-image (every noSpace) spell (λ a. apart a .0) (a ∷ l) in
+      let no-close = every-image (every noClose) spell (λ a. apart a .1) (a ∷ l) in
       ap (items item) (items-spelt (a ∷ l) (spaced parts) rest refl refl)
       ∙ then-each (word-reads "(") _ tt _ refl tt
       ∙ then-each (passing-reads noClose) _ (spaced parts) _ (every-spaced noClose refl parts no-close) refl
       ∙ then-each (word-reads ")") _ tt rest refl tt
       ∙ ap (λ (ps : List (List ℕ)). giveIf (onAll (whole item) ps) rest) (pieces-spaced (spell a) (map spell l) no-space)
       ∙ ap (λ (o : Option (List A)). giveIf o rest) (all-takes law .each (a ∷ l) h)
+    where
+      apart : (a : A) → (every noSpace (spell a) ≡ true) × (every noClose (spell a) ≡ true)
+      apart a = both (every noSpace (spell a)) (sym (every-both noSpace noClose (spell a)) ∙ bytes a)
 
   pub items-reads : Reads (items item) (λ l. bracketed (map spell l)) (someAll ok) Anything
   items-reads = record { only = items-only; each = items-each }

@@ -1,10 +1,8 @@
 -- What is proved of the definitions.
-pub mod Tests
 pub mod Writing
 pub mod Answers
 pub mod Refusals
 pub mod Refused
-pub mod Every
 pub mod Readers
 pub mod Numbers
 pub mod Items
@@ -15,8 +13,6 @@ pub mod Spelling
 pub mod Cuts
 pub mod OneByte
 pub mod List
-pub mod Kept
-pub mod Below
 pub mod Interleaving
 pub mod Sums
 pub mod Accepted

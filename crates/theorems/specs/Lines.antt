@@ -10,8 +10,8 @@ use Prim.Native.Char.{code}
 use Rattle.definitions.specs.Basics.{ℕ, suc, _+_, _<_, _≡_, refl, Bool, true, false, _&&_, _||_, List, [], _∷_, _++_, map, flatten, length}
 use Rattle.definitions.specs.Basics.{getD, eqb, leb, text, every, contains}
 use Rattle.definitions.specs.Layout.{isDigit, ontoFirst, lines}
-use Rattle.theorems.specs.Tests.{both}
-use Rattle.theorems.specs.Every.{every-at, every-append, every-weaken}
+use Rattle.lists.specs.Tests.{both}
+use Rattle.lists.specs.Every.{every-at, every-append, every-weaken}
 
 -- The lines of a file, one after the other, are the file.
 flatten-first : (b : ℕ) (ls : List (List ℕ)) → flatten (ontoFirst b ls) ≡ b ∷ flatten ls

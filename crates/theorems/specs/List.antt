@@ -5,21 +5,23 @@ use mathlib.Core.Bool.{true≢false}
 use mathlib.Core.List.{head-eq-of-cons-eq, tail-eq-of-cons-eq}
 use mathlib.Core.Option.{Option·none-ne-some}
 use native.Mathlib.Omega.{arith}
-use native.Mathlib.Nat.{eq-or-lt-of-le}
 use lib.Dec.{eqb·suc-suc, eqb·suc-zero, eqb·zero-suc}
 use borrow.Author.Tests.{ltb-true, lt-ltb}
 use Prim.Native.Nat.{_≤_}
-use Rattle.definitions.specs.Basics.{ℕ, zero, suc, _+_, _<_, min, _≡_, refl, Bool, true, false, Option, none, some, Option·map}
-use Rattle.definitions.specs.Basics.{Option·elim, List, [], _∷_, map, length, filterMap, numbersFrom, below, isSome, any, every, keep, getD, cond, _&&_, _||_, eqb, ltb}
+use Rattle.definitions.specs.Basics.{ℕ, suc, _+_, _<_, min, _≡_, refl, Bool, true, false, Option, none, some, Option·map}
+use Rattle.definitions.specs.Basics.{Option·elim, List, [], _∷_, map, length, filterMap, below, isSome, every, keep, getD, cond, _&&_, eqb, ltb}
 use Rattle.definitions.specs.Syntax.{Patient, Region, patientAt}
 use Rattle.definitions.specs.Plans.{Plan, plansFor, plans, total, allowed, Row, rowOf, compareRows, listOf}
 use Rattle.definitions.specs.Questions.{planAllowed, planFits}
-use Rattle.ranking.specs.Members.{_∈_, here, there, here-or-there, none-in-nil, in-cast, distinct-map, Distinct, Enumerates}
+use Rattle.lists.specs.Tests.{both, join}
+use Rattle.lists.specs.Members.{_∈_, Distinct, Enumerates, distinct-map, here, here-or-there, none-in-nil}
+use Rattle.lists.specs.Every.{any-false}
+use Rattle.lists.specs.Maps.{filterMap-out, filterMap-in, filterMap-distinct}
+use Rattle.lists.specs.Below.{numbers-enumerate, every-shift}
 use Rattle.ranking.specs.Orders.{Order, ℕ-order, listOrder, lexicographic, orderBy}
 use Rattle.ranking.specs.First.{Sorted, FullBefore, First, first-unique, sorted-distinct}
 use Rattle.ranking.specs.Sorting.{first-of, first-count}
 use Rattle.ranking.specs.Combining.{Combined, cross-enumerates}
-use Rattle.theorems.specs.Tests.{both, join}
 
 -- ---- the order of plans is a strict total order, and its comparison is the definition's
 
@@ -37,14 +39,6 @@ Fits [] [] = Unit {0}
 Fits [] (b ∷ plan) = ⊥
 Fits (d ∷ ds) [] = ⊥
 Fits (d ∷ ds) (b ∷ plan) = (b < d) × Fits ds plan
-
-pub numbers-enumerate : (a n : ℕ) → Enumerates (λ x. (a ≤ x) × (x < a + n)) (numbersFrom a n)
-numbers-enumerate a zero = record { distinct = tt; only = λ x k. absurd (none-in-nil k); every = λ x h. absurd (omega arith) }
-numbers-enumerate a (suc n) = let ih = numbers-enumerate (suc a) n in record {
-  distinct = (λ k. omega (arith, ih .only a k .0), ih .distinct);
-  only = λ x k. elim (here-or-there k) [ inl e ↦ (omega arith, omega arith) | inr t ↦ (omega (arith, ih .only x t .0), omega (arith, ih .only x t .1)) ];
-  every = λ x h. elim (eq-or-lt-of-le (h .0)) [ inl e ↦ here (sym e) | inr t ↦ there (ih .every x (t, omega (arith, h .1))) ];
-}
 
 -- One more patient: each bed with each plan of the others.
 more-plans : (d : ℕ) (ds : List ℕ) → Enumerates (Fits ds) (plansFor ds) → Enumerates (Fits (d ∷ ds)) (plansFor (d ∷ ds))
@@ -85,10 +79,6 @@ plans-enumerate [] = record {
 plans-enumerate (d ∷ ds) = more-plans d ds (plans-enumerate ds)
 
 -- These are the plans that question 14 lets pass.
-every-shift : (f : ℕ → Bool) (a n : ℕ) → every f (numbersFrom (suc a) n) ≡ every (λ s. f (suc s)) (numbersFrom a n)
-every-shift f a zero = refl
-every-shift f a (suc n) = ap (λ b. f (suc a) && b) (every-shift f (suc a) n)
-
 beds-fit : (ps : List Patient) (d : Patient) (plan : Plan)
     → ((eqb (length plan) (length ps) && every (λ s. ltb (getD plan s 0) (getD ps s d .bedCount)) (below (length ps))) ≡ true)
     ↔ Fits (map (λ p. p .bedCount) ps) plan
@@ -124,41 +114,6 @@ plan-fits region plan e = rw (← e) (beds-fit (region .patients) _ plan)
 pub record Allowed (region : Region) (w : Row) : Type 0 where
   pub fits : Fits (map (λ p. p .bedCount) (region .patients)) (w .beds)
   pub priced : total region (w .beds) ≡ some (w .cost)
-
--- What a partial function gives on a list: each result comes from an element.
-module _ {A B : Type 0} (f : A → Option B) where
-  filterMap-out : (l : List A) {b : B} → b ∈ filterMap f l → (a : A) × (a ∈ l) × (f a ≡ some b)
-  unfolding filterMap Option·elim
-  filterMap-out [] k = absurd (none-in-nil k)
-  filterMap-out (x ∷ l) {b} k = go (f x) refl k (filterMap-out l)
-    where
-      go : (o : Option B) → f x ≡ o → b ∈ Option·elim o (filterMap f l) (λ y. y ∷ filterMap f l)
-          → (b ∈ filterMap f l → (a : A) × (a ∈ l) × (f a ≡ some b)) → (a : A) × (a ∈ x ∷ l) × (f a ≡ some b)
-      go none e k ih = let (a, i, q) = ih k in (a, there i, q)
-      go (some y) e k ih = elim (here-or-there k) [
-        | inl s ↦ (x, here refl, e ∙ ap {B = Option B} some (sym s))
-        | inr t ↦ (let (a, i, q) = ih t in (a, there i, q))
-      ]
-
-  filterMap-in : (l : List A) {a : A} {b : B} → a ∈ l → f a ≡ some b → b ∈ filterMap f l
-  unfolding filterMap Option·elim
-  filterMap-in [] i e = absurd (none-in-nil i)
-  filterMap-in (x ∷ l) {a} {b} i e = go (f x) refl (here-or-there i) (λ t. filterMap-in l t e)
-    where
-      go : (o : Option B) → f x ≡ o → (a ≡ x) ⊎ (a ∈ l) → (a ∈ l → b ∈ filterMap f l) → b ∈ Option·elim o (filterMap f l) (λ y. y ∷ filterMap f l)
-      go none q (inl s) ih = absurd (Option·none-ne-some b (sym q ∙ ap f (sym s) ∙ e))
-      go none q (inr t) ih = ih t
-      go (some y) q (inl s) ih = let r : b ≡ y = cc (ap f s) in here r
-      go (some y) q (inr t) ih = there (ih t)
-
-  filterMap-distinct : (l : List A) → ((x y : A) (b : B) → f x ≡ some b → f y ≡ some b → x ≡ y) → Distinct l → Distinct (filterMap f l)
-  unfolding filterMap Option·elim
-  filterMap-distinct [] one d = tt
-  filterMap-distinct (x ∷ l) one d = go (f x) refl (filterMap-distinct l one (d .1))
-    where
-      go : (o : Option B) → f x ≡ o → Distinct (filterMap f l) → Distinct (Option·elim o (filterMap f l) (λ y. y ∷ filterMap f l))
-      go none e ih = ih
-      go (some y) e ih = (λ k. let (a, i, q) = filterMap-out l k in d .0 (in-cast (one x a y e q) i), ih)
 
 -- The row of a plan has its beds and its total, and a plan has a row only where it has a total.
 row-out : (region : Region) (plan : Plan) (w : Row) → rowOf region plan ≡ some w → (w .beds ≡ plan) × (total region plan ≡ some (w .cost))
@@ -239,17 +194,6 @@ only-list region l r = first-unique {O = rowOrder} (record {
 }) (list-first region)
 
 -- ---- number 13
-
-any-false : {A : Type 0} (f : A → Bool) (l : List A) → (any f l ≡ false) ↔ ((x : A) → x ∈ l → f x ≡ false)
-any-false f [] = (λ e x k. absurd (none-in-nil k), λ h. refl)
-any-false f (x ∷ l) = let ih = any-false f l in (
-  λ e y k. elim (here-or-there k) [ inl q ↦ rw q (neither (f x) (any f l) e .0) | inr t ↦ ih .0 (neither (f x) (any f l) e .1) y t ],
-  λ h. rw (h x (here refl)) (ih .1 (λ y t. h y (there t))),
-)
-  where
-    neither : (a b : Bool) → (a || b) ≡ false → (a ≡ false) × (b ≡ false)
-    neither true b e = absurd (true≢false e)
-    neither false b e = (refl, e)
 
 -- Question 13 is answered no exactly where no plan is allowed.
 pub none-allowed : (region : Region) → (planAllowed region ≡ false) ↔ ((w : Row) → Allowed region w → ⊥)

@@ -15,8 +15,8 @@ use Rattle.definitions.specs.Limits.{digitCount, limits, within}
 use Rattle.definitions.specs.Layout.{_>>=_, _>>_, passing, give, giveIf, exactly, word, isDigit, noLeadingZero, valueFrom, numberOf, number}
 use Rattle.definitions.specs.Layout.{hyphenOrNumber}
 use Rattle.definitions.specs.Spelling.{digitsWithin, decimal, hyphenOrDecimal, spellable}
-use Rattle.theorems.specs.Tests.{both}
-use Rattle.theorems.specs.Every.{every-append}
+use Rattle.lists.specs.Tests.{both}
+use Rattle.lists.specs.Every.{every-append}
 use Rattle.theorems.specs.Readers.{Reads, Stops, then-only, then-each, cond-only, gives-same, gives-only, passing-reads, word-reads}
 
 -- One digit; the last of more digits, and those before it.

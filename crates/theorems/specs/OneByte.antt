@@ -18,7 +18,7 @@ use Rattle.definitions.specs.Spelling.{decimal, spellBody, spell}
 use Rattle.definitions.specs.Questions.{checksum, sumTrue, regionOf, checkOf}
 use Rattle.theorems.specs.Refused.{Refused, refused-alike}
 use Rattle.theorems.specs.Accepted.{accepted, region-said}
-use Rattle.theorems.specs.Every.{every-at, every-append, every-weaken}
+use Rattle.lists.specs.Every.{every-at, every-append, every-weaken}
 use Rattle.theorems.specs.Numbers.{digit-bounds, decimal-digits}
 use Rattle.theorems.specs.Lines.{inFile, lines-end, line-inside}
 use Rattle.theorems.specs.Forms.{spellEnd, end-spelt, end-takes}

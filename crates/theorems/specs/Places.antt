@@ -7,7 +7,7 @@ use Rattle.definitions.specs.Basics.{ℕ, suc, _≡_, refl, Bool, true, false, 
 use Rattle.definitions.specs.Syntax.{Patient, Table, Region, patientAt, bedCounts}
 use Rattle.definitions.specs.Plans.{Plan, bedOf, place, entryFor, costOver, total, Row}
 use Rattle.definitions.specs.Isolation.{placeAmong}
-use Rattle.ranking.specs.Members.{_∈_, here, there, here-or-there, none-in-nil}
+use Rattle.lists.specs.Members.{_∈_, here, there, here-or-there, none-in-nil}
 use Rattle.theorems.specs.List.{Fits, Allowed}
 use Rattle.theorems.specs.Sums.{sum-map}
 
@@ -36,9 +36,9 @@ abbrev pub byPlaces : List ℕ → Table → Table
 byPlaces patients t = record { members = map (placeAmong patients) (t .members); entries = t .entries }
 
 -- What stands for a patient at its place.
-at-place : (g : ℕ → ℕ) (patients : List ℕ) (s : ℕ) → s ∈ patients → getD (map g patients) (placeAmong patients s) 0 ≡ g s
-at-place g [] s k = absurd (none-in-nil k)
-at-place g (p ∷ patients) s k = go (eqb p s) refl (here-or-there k) (at-place g patients s)
+at-its-place : (g : ℕ → ℕ) (patients : List ℕ) (s : ℕ) → s ∈ patients → getD (map g patients) (placeAmong patients s) 0 ≡ g s
+at-its-place g [] s k = absurd (none-in-nil k)
+at-its-place g (p ∷ patients) s k = go (eqb p s) refl (here-or-there k) (at-its-place g patients s)
   where
     go : (b : Bool) → eqb p s ≡ b → (s ≡ p) ⊎ (s ∈ patients) → (s ∈ patients → getD (map g patients) (placeAmong patients s) 0 ≡ g s)
         → getD (g p ∷ map g patients) (cond b 0 (suc (placeAmong patients s))) 0 ≡ g s
@@ -60,7 +60,7 @@ module _ (region : Region) (patients : List ℕ) (m : ℕ) (tables : List Table)
   count-at : (s : ℕ) → s ∈ patients → patientAt these (placeAmong patients s) .bedCount ≡ patientAt region s .bedCount
   unfolding patientAt
   count-at s k = ap (λ (p : Patient). p .bedCount) (List·getD-map patientWith (bedCounts region patients) (placeAmong patients s) 0)
-      ∙ at-place (λ x. patientAt region x .bedCount) patients s k
+      ∙ at-its-place (λ x. patientAt region x .bedCount) patients s k
 
   entry-alone : (t : Table) → ((s : ℕ) → s ∈ t .members → s ∈ patients) → entryFor these their (byPlaces patients t) ≡ entryFor region plan t
   unfolding entryFor
@@ -70,7 +70,7 @@ module _ (region : Region) (patients : List ℕ) (m : ℕ) (tables : List Table)
           → map (countAndBed these their) (map (placeAmong patients) members) ≡ map (countAndBed region plan) members
       go [] h = refl
       go (s ∷ members) h = let k = h s (here refl) in
-          ap₂ {C = List (ℕ × ℕ)} (λ a l. a ∷ l) (λ i. (count-at s k i, at-place (bedOf plan) patients s k i)) (go members (λ r j. h r (there j)))
+          ap₂ {C = List (ℕ × ℕ)} (λ a l. a ∷ l) (λ i. (count-at s k i, at-its-place (bedOf plan) patients s k i)) (go members (λ r j. h r (there j)))
 
   pub cost-alone : (l : List Table) → ((t : Table) → t ∈ l → (s : ℕ) → s ∈ t .members → s ∈ patients)
       → costOver (map (byPlaces patients) l) these their ≡ costOver l region plan

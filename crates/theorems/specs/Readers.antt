@@ -2,13 +2,13 @@
 use mathlib.Core.Path.{sym, ap, _∙_}
 use mathlib.Core.Bool.{false≢true}
 use mathlib.Core.Option.{bind-eq-some-iff, map-eq-some-iff, Option·some-injective, Option·none-ne-some}
-use mathlib.Core.List.{append-nil}
+use mathlib.Core.List.{append-nil, map-id}
 use Prim.Native.String.{String}
 use borrow.Author.Tests.{eqb-true, eq-eqb}
 use Rattle.definitions.specs.Basics.{ℕ, _≡_, refl, Bool, true, false, cond, Option, none, some, bind, Option·map, List, [], _∷_, _++_, map}
 use Rattle.definitions.specs.Basics.{eqb, text, every, isEmpty, onAll}
 use Rattle.definitions.specs.Layout.{Reader, giveIf, give, whole, one, many, passing, exactly, word}
-use Rattle.theorems.specs.Tests.{both, join}
+use Rattle.lists.specs.Tests.{both, join}
 
 -- What may stand after what was read: anything, or nothing that the function would take too.
 abbrev pub Anything : {I : Type 0} → List I → Type 0
@@ -153,10 +153,6 @@ passing-takes test = record {
   only = λ {x} e. let (passes, same) = cond-only (test x) e in (rw (← same) passes, same);
   each = λ b h. ap (λ (t : Bool). cond t (some b) none) h;
 }
-
-map-id : (l : List ℕ) → map (λ b. b) l ≡ l
-map-id [] = refl
-map-id (b ∷ l) = ap (λ (r : List ℕ). b ∷ r) (map-id l)
 
 pub passing-reads : (test : ℕ → Bool) → Reads (many (passing test)) (λ l. l) (every test) (Stops (passing test))
 passing-reads test =

@@ -8,7 +8,7 @@ use Rattle.definitions.specs.Plans.{Row}
 use Rattle.definitions.specs.Sheets.{sameBeds}
 use Rattle.definitions.specs.Isolation.{sameEntry}
 use Rattle.ranking.specs.Occurrences.{Tests}
-use Rattle.theorems.specs.Tests.{both, join}
+use Rattle.lists.specs.Tests.{both, join}
 
 -- A test finds equality where it accepts nothing else and every thing with itself.
 tests-equality : {A : Type 0} {f : A → A → Bool} → ((x y : A) → f x y ≡ true → x ≡ y) → ((x : A) → f x x ≡ true) → Tests (λ x. x) f

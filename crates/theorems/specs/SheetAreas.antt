@@ -16,13 +16,13 @@ use Rattle.definitions.specs.Questions.{Asked, entryAsks, callAsks, regionOf, r
 use Rattle.definitions.specs.Isolation.{YieldsList}
 use Rattle.definitions.specs.Outcomes.{Found, rowsUnlessRefused, sheetFound, written, bedsAfter, costsAfter, outcomeOf, sheetOutcome}
 use Rattle.definitions.specs.Boundary.{bytesOf, roomForNumbers, resultAfter, callOf, sheetCall}
-use Rattle.ranking.specs.Members.{_∈_, here, there}
-use Rattle.theorems.specs.Tests.{both}
+use Rattle.lists.specs.Tests.{both}
+use Rattle.lists.specs.Members.{_∈_, here, there}
+use Rattle.lists.specs.Keep.{keep-short}
+use Rattle.lists.specs.Below.{below-long}
 use Rattle.theorems.specs.Writing.{written-is}
 use Rattle.theorems.specs.Accepted.{patients-counted}
 use Rattle.theorems.specs.List.{list-first}
-use Rattle.theorems.specs.Kept.{keep-short}
-use Rattle.theorems.specs.Below.{below-long}
 use Rattle.theorems.specs.Yields.{yielding, sheet-printed, sheet-call-printed}
 use Rattle.theorems.specs.SheetRows.{sheet-rows}
 

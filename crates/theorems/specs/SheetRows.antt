@@ -8,7 +8,7 @@ use Rattle.definitions.specs.Basics.{ℕ, _+_, _≡_, List, [], map, length, ta
 use Rattle.definitions.specs.Syntax.{Region}
 use Rattle.definitions.specs.Plans.{Plan, Row, listOf}
 use Rattle.definitions.specs.Sheets.{part, ownRow, sheetOf}
-use Rattle.ranking.specs.Members.{_∈_, none-in-nil, in-map, in-map-cases, in-cast, Enumerates}
+use Rattle.lists.specs.Members.{_∈_, Enumerates, none-in-nil, in-map, in-map-cases, in-cast}
 use Rattle.ranking.specs.Orders.{Order, listOrder}
 use Rattle.ranking.specs.First.{First}
 use Rattle.ranking.specs.Sorting.{first-of, first-count}

@@ -3,7 +3,8 @@ use mathlib.Core.Path.{sym, ap, _∙_}
 use mathlib.Core.Logic.{_↔_}
 use mathlib.Core.Option.{Option·some-injective}
 use mathlib.Core.List.{append-nil}
-use Rattle.definitions.specs.Basics.{ℕ, _≡_, refl, true, cond, none, some, List, [], _∷_, _++_, flatten, dropLast, every, isEmpty}
+use Rattle.lists.specs.Maps.{drop-last}
+use Rattle.definitions.specs.Basics.{ℕ, _≡_, true, cond, none, some, List, [], _++_, flatten, dropLast, every, isEmpty}
 use Rattle.definitions.specs.Syntax.{Region}
 use Rattle.definitions.specs.Layout.{whole, lines, regionLines, layout}
 use Rattle.definitions.specs.Spelling.{spellBody, spell, wellFormed}
@@ -58,11 +59,6 @@ laid-out-bytes file h =
     ap (every inFile) (laid-out-spelt file h .1 ∙ sym (flatten-file t)) ∙ lines-bytes (fileLines t) (file-lines t)
 
 -- The bytes before the end line, of which the sum is taken, spell all that stands before it.
-pub drop-last : (ls : List (List ℕ)) (l : List ℕ) → dropLast (ls ++ l ∷ []) ≡ ls
-drop-last [] l = refl
-drop-last (k ∷ []) l = refl
-drop-last (k ∷ m ∷ ls) l = ap (λ (r : List (List ℕ)). k ∷ r) (drop-last (m ∷ ls) l)
-
 pub body-spelt : (file : List ℕ) (t : Region) → layout file ≡ some t → flatten (dropLast (lines file)) ≡ spellBody t
 body-spelt file t e =
     ap (λ (ls : List (List ℕ)). flatten (dropLast ls)) (ap lines (layout-takes .only e .1) ∙ lines-spelt t)

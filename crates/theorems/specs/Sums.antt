@@ -4,7 +4,7 @@ use mathlib.Core.Option.{Option·none-ne-some}
 use native.Mathlib.Omega.{arith}
 use Rattle.definitions.specs.Basics.{ℕ, _+_, _<_, _≡_, refl, Bool, true, false, not, cond, Option, none, some, Option·map, bind}
 use Rattle.definitions.specs.Basics.{List, [], _∷_, map, length, sum, keep, onAll}
-use Rattle.ranking.specs.Members.{_∈_, here, there}
+use Rattle.lists.specs.Members.{_∈_, here, there}
 use Rattle.ranking.specs.Occurrences.{Tests}
 
 -- The sum of two costs, forbidden where one of them is.

@@ -7,7 +7,7 @@ use lib.Seq.{sets, sets-eq, length-sets, take-at, drop-append-add, drop-drop, le
 use Prim.Native.Nat.{_≤_}
 use Rattle.definitions.specs.Basics.{ℕ, zero, suc, _+_, _*_, _-_, List, [], _∷_, _++_, flatMap}
 use Rattle.definitions.specs.Outcomes.{written}
-use Rattle.ranking.specs.Members.{_∈_, here, there}
+use Rattle.lists.specs.Members.{_∈_, here, there}
 
 -- One row of w values at place i: the front with the row, and what is beyond it.
 module _ (area vs : List ℕ) (i w : ℕ) (wide : length vs ≡ w) (fits : i + w ≤ length area) where

@@ -12,8 +12,8 @@ use Rattle.definitions.specs.Questions.{entryAsks, callAsks, askedByCheck, aske
 use Rattle.definitions.specs.Outcomes.{sheetOutcome}
 use Rattle.definitions.specs.Boundary.{roomForNumbers, sheetCall}
 use Rattle.definitions.specs.Isolation.{YieldsList}
-use Rattle.ranking.specs.Members.{_∈_, here, none-in-nil, in-map}
-use Rattle.theorems.specs.Tests.{both, join}
+use Rattle.lists.specs.Tests.{both, join}
+use Rattle.lists.specs.Members.{_∈_, here, none-in-nil, in-map}
 use Rattle.theorems.specs.Answers.{allYes}
 use Rattle.theorems.specs.Refusals.{check-says, yield-says, sheet-says, sheet-call-says}
 use Rattle.theorems.specs.Accepted.{Accepted, accepted, plans-wanted}

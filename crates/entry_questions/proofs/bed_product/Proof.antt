@@ -5,7 +5,7 @@ use Prim.Native.Nat.{_-_, _*_, _^_, _≤_}
 use native.Mathlib.Nat.{le-refl, one-mul, mul-one}
 use native.Mathlib.Omega.{arith}
 use Rattle.definitions.specs.Basics.{product}
-use Rattle.held_region.specs.Sound.{bedsIn}
+use Rattle.held_region.specs.Sound.{bedCountIn}
 use Rattle.held_region.specs.Members.{membersFrom, members-all, members-done}
 use Rattle.held_region.specs.Meaning.{membersOf}
 use Rattle.entry_questions.proofs.Products.{more-most, more-fits, more-product}
@@ -13,13 +13,13 @@ use Rattle.entry_questions.proofs.bed_product.Statement.{statement}
 use Rattle.entry_questions.proofs.bed_product.Tie as tie
 
 abbrev Inv-loop : tie.InvT-loop
-Inv-loop patients table n₀ i₀ n i = (n ≤ 16 ^ i) × (n * product (map (bedsIn patients) (membersFrom table i)) ≡ product (map (bedsIn patients) (membersOf table)))
+Inv-loop patients table n₀ i₀ n i = (n ≤ 16 ^ i) × (n * product (map (bedCountIn patients) (membersFrom table i)) ≡ product (map (bedCountIn patients) (membersOf table)))
 
 abbrev μ-loop : tie.MeasureT-loop
 μ-loop patients table n₀ i₀ n i = table .members - i
 
 loop-holds : tie.Need-loop-holds Inv-loop μ-loop
-loop-holds c = (le-refl 1, one-mul _ ∙ ap (λ l. product (map (bedsIn (c .args .t1)) l)) (members-all (c .args .t2)))
+loop-holds c = (le-refl 1, one-mul _ ∙ ap (λ l. product (map (bedCountIn (c .args .t1)) l)) (members-all (c .args .t2)))
 
 mul-s : tie.Need-mul-s Inv-loop μ-loop
 mul-s c = search needs
@@ -58,7 +58,7 @@ loop-again c =
 returns : tie.Need-returns Inv-loop μ-loop
 returns c =
     sym (mul-one _)
-    ∙ ap (λ l. c .before .loop .n * product (map (bedsIn (c .before .before .args .t1)) l)) (sym (members-done (c .before .before .args .t2) _ (c .loop-test .left)))
+    ∙ ap (λ l. c .before .loop .n * product (map (bedCountIn (c .before .before .args .t1)) l)) (sym (members-done (c .before .before .args .t2) _ (c .loop-test .left)))
     ∙ c .before .loop .inv .1
 
 pub bed-product-spec : {M : Type 1} → statement M

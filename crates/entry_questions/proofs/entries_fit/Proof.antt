@@ -3,7 +3,8 @@ use mathlib.Core.Path.{_≡_, refl}
 use Prim.Native.Nat.{_-_}
 use lib.ListN.{getD}
 use Rattle.held_region.specs.Entries.{codeFits, storeFits}
-use Rattle.held_region.specs.Places.{askedFrom, ask-all, ask-yes, ask-no, ask-done, answered-no, answered-yes}
+use Rattle.lists.specs.Tests.{answered-no, answered-yes}
+use Rattle.lists.specs.Loops.{askedFrom, ask-all, ask-yes, ask-no, ask-done}
 use Rattle.entry_questions.proofs.entries_fit.Statement.{statement}
 use Rattle.entry_questions.proofs.entries_fit.Tie as tie
 

@@ -3,7 +3,7 @@ use mathlib.Core.Path.{_≡_, refl}
 use Prim.Native.Nat.{_-_}
 use denote.Ref.{now}
 use Rattle.definitions.specs.Basics.{below, every}
-use Rattle.held_region.specs.Places.{askedFrom, ask-all, ask-yes, ask-no, ask-done}
+use Rattle.lists.specs.Loops.{askedFrom, ask-all, ask-yes, ask-no, ask-done}
 use Rattle.pricing.proofs.Placed.{bedFits, not-counted, counted, bed-no, bed-yes}
 use Rattle.pricing.proofs.plan_fits.Statement.{statement}
 use Rattle.pricing.proofs.plan_fits.Tie as tie

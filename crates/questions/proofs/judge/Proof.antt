@@ -2,7 +2,7 @@ use borrow.Author.Needs.{needs}
 use mathlib.Core.Bool.{and-eq-true-iff}
 use Rattle.definitions.specs.Basics.{[]}
 use Rattle.held_region.specs.Sound.{has-places}
-use Rattle.held_region.specs.Places.{answered-no, answered-yes}
+use Rattle.lists.specs.Tests.{answered-no, answered-yes}
 use Rattle.questions.proofs.Asking.{no-five, no-six, no-seven, first-yes}
 use Rattle.questions.proofs.judge.Statement.{statement}
 use Rattle.questions.proofs.judge.Tie as tie

@@ -6,7 +6,7 @@ use Rattle.patient_set.specs.Sets.{members}
 use Rattle.patient_set.specs.Laws.{lowest-patient, lowest-and-rest, rest-smaller}
 use Rattle.held_region.specs.Related.{setIn, chained}
 use Rattle.held_region.specs.Sets.{walk-no, walk-yes, walk-done}
-use Rattle.held_region.specs.Places.{answered-no, answered-yes}
+use Rattle.lists.specs.Tests.{answered-no, answered-yes}
 use Rattle.region_sets.proofs.Sizes.{size-some, size-none}
 use Rattle.region_sets.proofs.all_chained.Statement.{statement}
 use Rattle.region_sets.proofs.all_chained.Tie as tie

@@ -1,14 +1,13 @@
 use borrow.Author.Needs.{needs}
-use borrow.Author.Tests.{ltb-true}
 use mathlib.Core.Bool.{or-assoc, or-false}
 use mathlib.Core.Path.{_≡_, sym, ap, _∙_}
-use Prim.Native.Nat.{ℕ, _+_, _-_, _<_}
-use lib.ListN.{getD}
+use Prim.Native.Nat.{ℕ, _+_, _-_}
 use native.Mathlib.Omega.{arith}
-use Rattle.definitions.specs.Basics.{_||_, ltb, contains}
+use Rattle.definitions.specs.Basics.{_||_, contains}
 use Rattle.patient_set.specs.Sets.{inSet}
-use Rattle.held_region.specs.Members.{membersFrom, members-all, members-next, members-done, every-member}
+use Rattle.held_region.specs.Members.{membersFrom, members-all, members-next, members-done}
 use Rattle.held_region.specs.Meaning.{membersOf}
+use Rattle.held_region.specs.Related.{member-known}
 use Rattle.held_region.specs.Sets.{in-none, set-members}
 use Rattle.region_sets.proofs.member_set.Statement.{statement}
 use Rattle.region_sets.proofs.member_set.Tie as tie
@@ -29,14 +28,10 @@ element-copy-out-s : tie.Need-element-copy-out-s Inv-loop μ-loop
 element-copy-out-s c = search needs
 
 cast-s : tie.Need-cast-s Inv-loop μ-loop
-cast-s c =
-    let table = c .before .before .before .args .t1 in
-    let i = c .before .before .loop .place in
-    let l : getD (table .first) i 0 < 32 = ltb-true _ _ (every-member table (λ s. ltb s 32) (c .before .before .before .pre .known) i (c .before .loop-test .taken)) in
-    omega arith
+cast-s c = omega (arith, member-known (c .before .before .before .args .t1) (c .before .before .before .pre) _ (c .before .loop-test .taken))
 
 add-requires : tie.Need-add-requires Inv-loop μ-loop
-add-requires c κs = ltb-true _ _ (every-member (c .before .before .before .args .t1) (λ s. ltb s 32) (c .before .before .before .pre .known) _ (c .before .loop-test .taken))
+add-requires c κs = member-known (c .before .before .before .args .t1) (c .before .before .before .pre) _ (c .before .loop-test .taken)
 
 add-place : tie.Need-add-place Inv-loop μ-loop
 add-place c = search needs

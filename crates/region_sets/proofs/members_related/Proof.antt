@@ -5,7 +5,7 @@ use Prim.Native.Nat.{_-_}
 use Rattle.definitions.specs.Basics.{ℕ, List}
 use Rattle.definitions.specs.Questions.{membersRelated}
 use Rattle.held_region.specs.Meaning.{tableIn, membersOf, said}
-use Rattle.held_region.specs.Places.{askedFrom, ask-all, ask-yes, ask-no, ask-done}
+use Rattle.lists.specs.Loops.{askedFrom, ask-all, ask-yes, ask-no, ask-done}
 use Rattle.held_region.specs.Related.{related, related-asked, members-known, table-related}
 use Rattle.region_sets.proofs.members_related.Statement.{statement}
 use Rattle.region_sets.proofs.members_related.Tie as tie

@@ -4,7 +4,7 @@ use mathlib.Core.Path.{_≡_, sym}
 use lib.ListN.{length}
 use lib.Seq.{length-take-le}
 use Rattle.text_writer.specs.Wrote.{none-yet, room-for, then-left, none-left}
-use Rattle.row_printer.proofs.Rows.{cut-row-parts}
+use Rattle.row_printer.proofs.Rows.{unpadded-row-parts}
 use Rattle.row_printer.proofs.print_row.Statement.{statement}
 use Rattle.row_printer.proofs.print_row.Tie as tie
 
@@ -18,14 +18,14 @@ write-text-requires : tie.Need-write-text-requires
 write-text-requires c κs =
     let u = c .before .before in
     let s = u .before .before in
-    room-for (none-yet {out = s .args .out .now} {at = s .args .at} _ (cut-row-parts (s .args .v) (s .args .row) _ (u .beds-of .ensures))) (s .pre .1)
+    room-for (none-yet {out = s .args .out .now} {at = s .args .at} _ (unpadded-row-parts (s .args .v) (s .args .row) _ (u .beds-of .ensures))) (s .pre .1)
 
 write-number-requires : tie.Need-write-number-requires
 write-number-requires c κs =
     let w = c .before .before .before in
     let u = w .before .before .before in
     let s = u .before .before in
-    room-for (then-left (none-yet _ (cut-row-parts (s .args .v) (s .args .row) _ (u .beds-of .ensures))) (w .write-text .ensures)) (s .pre .1)
+    room-for (then-left (none-yet _ (unpadded-row-parts (s .args .v) (s .args .row) _ (u .beds-of .ensures))) (w .write-text .ensures)) (s .pre .1)
 
 write-byte-requires : tie.Need-write-byte-requires
 write-byte-requires c κs =
@@ -33,7 +33,7 @@ write-byte-requires c κs =
     let w = n .before .before .before .before in
     let u = w .before .before .before in
     let s = u .before .before in
-    room-for (then-left (then-left (none-yet _ (cut-row-parts (s .args .v) (s .args .row) _ (u .beds-of .ensures))) (w .write-text .ensures)) (n .write-number .ensures)) (s .pre .1)
+    room-for (then-left (then-left (none-yet _ (unpadded-row-parts (s .args .v) (s .args .row) _ (u .beds-of .ensures))) (w .write-text .ensures)) (n .write-number .ensures)) (s .pre .1)
 
 array-share-prefix-beds : tie.Need-array-share-prefix-beds
 array-share-prefix-beds c = search needs
@@ -52,7 +52,7 @@ write-numbers-requires c κs =
     let w = n .before .before .before .before in
     let u = w .before .before .before in
     let s = u .before .before in
-    room-for (then-left (then-left (then-left (none-yet _ (cut-row-parts (s .args .v) (s .args .row) _ (u .beds-of .ensures))) (w .write-text .ensures)) (n .write-number .ensures)) (b .write-byte .ensures)) (s .pre .1)
+    room-for (then-left (then-left (then-left (none-yet _ (unpadded-row-parts (s .args .v) (s .args .row) _ (u .beds-of .ensures))) (w .write-text .ensures)) (n .write-number .ensures)) (b .write-byte .ensures)) (s .pre .1)
 
 slice-aggregate-write-text-2 : tie.Need-slice-aggregate-write-text-2
 slice-aggregate-write-text-2 c = search needs
@@ -65,7 +65,7 @@ write-text-requires-2 c κs =
     let w = n .before .before .before .before in
     let u = w .before .before .before in
     let s = u .before .before in
-    let left = then-left (then-left (then-left (none-yet _ (cut-row-parts (s .args .v) (s .args .row) _ (u .beds-of .ensures))) (w .write-text .ensures)) (n .write-number .ensures)) (b .write-byte .ensures) in
+    let left = then-left (then-left (then-left (none-yet _ (unpadded-row-parts (s .args .v) (s .args .row) _ (u .beds-of .ensures))) (w .write-text .ensures)) (n .write-number .ensures)) (b .write-byte .ensures) in
     room-for (then-left left (l .write-numbers .ensures)) (s .pre .1)
 
 same-length : tie.Need-same-length
@@ -80,7 +80,7 @@ returns c =
     let w = n .before .before .before .before in
     let u = w .before .before .before in
     let s = u .before .before in
-    let left = then-left (then-left (then-left (none-yet _ (cut-row-parts (s .args .v) (s .args .row) _ (u .beds-of .ensures))) (w .write-text .ensures)) (n .write-number .ensures)) (b .write-byte .ensures) in
+    let left = then-left (then-left (then-left (none-yet _ (unpadded-row-parts (s .args .v) (s .args .row) _ (u .beds-of .ensures))) (w .write-text .ensures)) (n .write-number .ensures)) (b .write-byte .ensures) in
     none-left (then-left (then-left left (l .write-numbers .ensures)) (t .write-text2 .ensures))
 
 pub print-row-spec : {M : Type 1} → statement M

@@ -3,7 +3,7 @@ use mathlib.Core.Path.{sym, ap}
 use mathlib.Core.List.{[], _∷_, append-nil}
 use Prim.Native.Nat.{_-_}
 use Rattle.definitions.specs.Basics.{flatten}
-use Rattle.partial_rows.specs.Padding.{cut}
+use Rattle.partial_rows.specs.Padding.{unpadded}
 use Rattle.text_writer.specs.Wrote.{Left, none-yet, room-for, then-left, none-left}
 use Rattle.row_printer.proofs.Rows.{rowsFrom, counted-parts, row-left, rows-done}
 use Rattle.row_printer.proofs.print_rows.Statement.{statement}
@@ -43,7 +43,7 @@ print-row-requires c κs =
     let w = t .before .before .before .before .before in
     let s = w .before .before .before .before in
     let room = room-for (then-left (then-left (none-yet _ (counted-parts (s .args .v) (s .args .n) (s .args .list .now))) (w .write-number .ensures)) (t .write-text .ensures)) (s .pre .room) in
-    (s .pre .patients, rw (ap (cut (s .args .v)) (c .row-at .ensures)) (room-for (row-left (s .args .v) (s .args .n) _ (l .loop .i) (l .loop .inv) (c .before .before .loop-test .taken)) room))
+    (s .pre .patients, rw (ap (unpadded (s .args .v)) (c .row-at .ensures)) (room-for (row-left (s .args .v) (s .args .n) _ (l .loop .i) (l .loop .inv) (c .before .before .loop-test .taken)) room))
 
 add-i : tie.Need-add-i Inv-loop μ-loop
 add-i c = search needs
@@ -55,7 +55,7 @@ loop-again : tie.Need-loop-again Inv-loop μ-loop
 loop-again c =
     let p = c .before .before in
     let l = p .before .before .before .before in
-    then-left (row-left _ _ _ (l .loop .i) (l .loop .inv) (p .before .before .before .loop-test .taken)) (rw (ap (cut _) (p .before .row-at .ensures)) at (p .print-row .ensures))
+    then-left (row-left _ _ _ (l .loop .i) (l .loop .inv) (p .before .before .before .loop-test .taken)) (rw (ap (unpadded _) (p .before .row-at .ensures)) at (p .print-row .ensures))
 
 same-length : tie.Need-same-length Inv-loop μ-loop
 same-length c = search needs

@@ -5,7 +5,8 @@ use Rattle.definitions.specs.Basics.{ℕ, List}
 use Rattle.definitions.specs.Questions.{membersRight}
 use Rattle.held_region.specs.Meaning.{tableIn, membersOf, said}
 use Rattle.held_region.specs.Members.{membersFit, members-asked}
-use Rattle.held_region.specs.Places.{askedFrom, ask-all, ask-yes, ask-no, ask-done, answered-no, answered-yes}
+use Rattle.lists.specs.Tests.{answered-no, answered-yes}
+use Rattle.lists.specs.Loops.{askedFrom, ask-all, ask-yes, ask-no, ask-done}
 use Rattle.questions.proofs.fields.members_right.Statement.{statement}
 use Rattle.questions.proofs.fields.members_right.Tie as tie
 

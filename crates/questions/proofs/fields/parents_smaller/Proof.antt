@@ -5,7 +5,8 @@ use Rattle.definitions.specs.Basics.{ℕ, List}
 use Rattle.definitions.specs.Questions.{parentsSmaller}
 use Rattle.held_region.specs.Meaning.{parentOf, patientIn, said}
 use Rattle.held_region.specs.Asked.{parentFits, parents-asked}
-use Rattle.held_region.specs.Places.{askedFrom, ask-all, ask-yes, ask-no, ask-done, answered-no, answered-yes}
+use Rattle.lists.specs.Tests.{answered-no, answered-yes}
+use Rattle.lists.specs.Loops.{askedFrom, ask-all, ask-yes, ask-no, ask-done}
 use Rattle.questions.proofs.fields.parents_smaller.Statement.{statement}
 use Rattle.questions.proofs.fields.parents_smaller.Tie as tie
 

@@ -5,7 +5,8 @@ use Rattle.definitions.specs.Basics.{ℕ, List}
 use Rattle.definitions.specs.Questions.{patientsWithin}
 use Rattle.held_region.specs.Meaning.{patientOf, patientIn, said}
 use Rattle.held_region.specs.Asked.{patientFits, patients-asked}
-use Rattle.held_region.specs.Places.{askedFrom, ask-all, ask-yes, ask-no, ask-done, answered-no, answered-yes}
+use Rattle.lists.specs.Tests.{answered-no, answered-yes}
+use Rattle.lists.specs.Loops.{askedFrom, ask-all, ask-yes, ask-no, ask-done}
 use Rattle.questions.proofs.fields.patients_fit.Statement.{statement}
 use Rattle.questions.proofs.fields.patients_fit.Tie as tie
 
