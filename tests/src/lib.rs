@@ -5,6 +5,7 @@ pub mod areas;
 pub mod baseline;
 pub mod boundary;
 pub mod compare;
+pub mod files;
 pub mod generate;
 pub mod outcomes;
 pub mod plans;

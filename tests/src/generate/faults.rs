@@ -177,7 +177,7 @@ fn fill_store(draft: &mut Draft, random: &mut Random) {
     }
     for number in first..first + 3 {
         let parent = (number > first).then(|| number - 1);
-        draft.region.patients.push(Patient { clinic: 3, beds: 16, parent });
+        draft.region.patients.push(Patient::of(3, 16, parent));
     }
     let large = Table { members: vec![first, first + 1, first + 2], entries: vec![Some(1); 4_096] };
     let place = random.below(draft.region.tables.len() + 1);

@@ -8,7 +8,7 @@ use crate::region::{Patient, Region, Table};
 pub fn region(random: &mut Random) -> Region {
     let mut region = Region { patients: Vec::new(), tables: Vec::new(), m: 64 };
     for number in 0..32u64 {
-        region.patients.push(Patient { clinic: number / 2, beds: 8, parent: number.checked_sub(1) });
+        region.patients.push(Patient::of(number / 2, 8, number.checked_sub(1)));
     }
     for number in 0..64u64 {
         let first = number % 31;

@@ -21,7 +21,7 @@ fn equal_prices(price: u64, m: u64, random: &mut Random) -> Region {
     let mut region = Region { patients: Vec::new(), tables: Vec::new(), m };
     for number in 0..32 {
         let beds = random.between(1, 16);
-        region.patients.push(Patient { clinic: random.between(0, 15), beds, parent: None });
+        region.patients.push(Patient::of(random.between(0, 15), beds, None));
         if random.chance(80) {
             region.tables.push(Table { members: vec![number], entries: vec![Some(price); beds as usize] });
         }

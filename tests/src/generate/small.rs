@@ -125,7 +125,7 @@ fn patients(shape: &Shape, random: &mut Random) -> Vec<Patient> {
         let drawn_beds = drawn(shape.beds, random);
         let beds = if plans * drawn_beds > MOST_PLANS { 1 } else { drawn_beds };
         plans *= beds;
-        patients.push(Patient { clinic: random.pick(&numbers), beds, parent });
+        patients.push(Patient::of(random.pick(&numbers), beds, parent));
     }
     patients
 }
