@@ -4,9 +4,10 @@
 use crate::areas::{Areas, Lengths};
 use crate::compare::report::{Difference, Tally};
 use crate::compare::{check, every_call, list, sheet, Calls};
-use crate::files::describe::{chain, one_patient, paper, region, root, table};
+use crate::files::describe::{chain, flat_table, one_patient, paper, region, root, table};
 use crate::files::trial;
 use crate::generate::spelling::file_of;
+use crate::limits::HIGHEST_ENTRY;
 use crate::outcomes::Outcomes;
 use crate::plans::{self, Row};
 use crate::printed;
@@ -86,9 +87,9 @@ fn expect(
 
 /// Files with check's number: the trial files, which have most of the paper's, and the others.
 fn numbered() -> Vec<(Vec<u8>, u64)> {
-    let priced = |price: &str| file_of(&one_patient([table(&[0], price)]));
+    let priced = |price: u64| file_of(&one_patient([flat_table(&[0], price, 1)]));
     let one_above_the_other = region(1, chain(3, 1), [table(&[1, 2], "0")]);
-    let others = [(file_of(&one_above_the_other), 0), (priced("1000000"), 0), (priced("1000001"), 9)];
+    let others = [(file_of(&one_above_the_other), 0), (priced(HIGHEST_ENTRY), 0), (priced(HIGHEST_ENTRY + 1), 9)];
     let trials = trial::all().into_iter().map(|(_, number, file)| (file, number));
     trials.chain(others).collect()
 }

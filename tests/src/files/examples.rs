@@ -1,9 +1,10 @@
 //! `examples/*.region`. What each is there to show stands in `examples/README.md`.
 
-use crate::files::describe::{chain, child, paper, region, root, table};
+use crate::files::describe::{chain, child, flat_table, paper, region, root, table};
 use crate::files::mersenne::Mersenne;
 use crate::files::Made;
 use crate::generate::spelling::file_of;
+use crate::limits::HIGHEST_ENTRY;
 use crate::region::{Region, Table};
 
 pub const DIRECTORY: &str = "examples";
@@ -63,7 +64,7 @@ fn separate() -> Region {
 fn forbidden() -> Region {
     let patients = [root(0, 2), root(1, 3), child(1, 2, 1)];
     let tables =
-        [table(&[0], "1000000 1000000"), table(&[1], "- - -"), table(&[1, 2], "0 0 0 0 0 0"), table(&[2], "7 0")];
+        [flat_table(&[0], HIGHEST_ENTRY, 2), table(&[1], "- - -"), table(&[1, 2], "0 0 0 0 0 0"), table(&[2], "7 0")];
     region(5, patients, tables)
 }
 

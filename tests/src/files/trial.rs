@@ -3,6 +3,7 @@
 use crate::files::describe::{chain, child, flat_table, full_table, one_patient, paper, region, root, siblings, table};
 use crate::files::Made;
 use crate::generate::spelling::{body_of, end_line, file_of, lines_of, patient_line, sum_of, with_end, Draft};
+use crate::limits::HIGHEST_NUMBER;
 use crate::region::{Patient, Region};
 
 const CRATE: &str = "crates/trial_files";
@@ -50,11 +51,11 @@ fn ends() -> Vec<Trial> {
 
 /// Numbers, blanks and bytes.
 fn spellings() -> Vec<Trial> {
-    let entry = |price: &str| file_of(&one_patient([table(&[0], price)]));
+    let entry = |number: u64| file_of(&one_patient([flat_table(&[0], number, 1)]));
     let with_beds = |text: &str| spelled(&one_patient([]), "(patient 0 1", text);
     vec![
-        ("eight_digits", 2, entry("10000000")),
-        ("seven_digits", 9, entry("9999999")),
+        ("eight_digits", 2, entry(HIGHEST_NUMBER + 1)),
+        ("seven_digits", 9, entry(HIGHEST_NUMBER)),
         ("leading_zero", 2, with_beds("(patient 00 1")),
         ("hyphen_for_beds", 2, with_beds("(patient 0 -")),
         ("double_space", 2, with_beds("(patient 0  1")),
@@ -88,7 +89,7 @@ fn patients() -> Vec<Trial> {
         ("tables_65", 5, file_of(&one_patient(vec![table(&[0], "0"); 65]))),
         ("parent_itself", 6, with_parents(&[child(0, 1, 0)])),
         ("parent_above", 6, with_parents(&[root(0, 1), child(0, 1, 2), root(0, 1)])),
-        ("parent_far_above", 6, with_parents(&[child(0, 1, 9_999_999)])),
+        ("parent_far_above", 6, with_parents(&[child(0, 1, HIGHEST_NUMBER)])),
         ("siblings", 10, file_of(&siblings())),
     ]
 }

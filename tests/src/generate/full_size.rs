@@ -1,6 +1,7 @@
 //! Files at the limits of size.
 
 use crate::generate::spelling::{file_of, with_end, Draft};
+use crate::limits::HIGHEST_ENTRY;
 use crate::random::Random;
 use crate::region::{Patient, Region, Table};
 
@@ -13,7 +14,7 @@ pub fn region(random: &mut Random) -> Region {
     for number in 0..64u64 {
         let first = number % 31;
         let second = random.between(first + 1, 31);
-        let entries = (0..64).map(|_| (!random.chance(5)).then(|| random.between(0, 1_000_000))).collect();
+        let entries = (0..64).map(|_| (!random.chance(5)).then(|| random.between(0, HIGHEST_ENTRY))).collect();
         region.tables.push(Table { members: vec![first, second], entries });
     }
     region
