@@ -1,7 +1,7 @@
 //! The printing program: what it prints for a file on its standard input, beside the text that the
 //! independent program gives.
 
-use crate::compare::report::{Difference, Tally};
+use crate::compare::report::{readable, Difference, Tally};
 use crate::compare::{paper, Tested};
 use crate::generate::{faulty, small, spelling};
 use crate::outcomes::Outcomes;
@@ -45,9 +45,9 @@ fn compare(tally: &mut Tally, tested: Tested<Printing>, file: &[u8]) -> Result<(
         tally.count(outcomes.listed().err().unwrap_or(0));
         return Ok(());
     }
-    let given = given.map_or_else(|fault| fault, |output| output.escape_ascii().to_string().replace("\\n", "\\n\n"));
+    let given = given.map_or_else(|fault| fault, |text| readable(&text));
     let answers = vec![
-        ("independent program".to_string(), format!("\n{expected}")),
+        ("independent program".to_string(), format!("\n{}", readable(expected.as_bytes()))),
         (tested.name.to_string(), format!("\n{given}")),
     ];
     Err(Difference { kind: tally.kind().to_string(), file: file.to_vec(), answers })

@@ -94,8 +94,8 @@ impl Difference {
     }
 }
 
-/// A file as text, one line to a line.
-fn readable(file: &[u8]) -> String {
+/// A file or a printed text, one line to a line, line ends and other bytes escaped.
+pub fn readable(file: &[u8]) -> String {
     file.escape_ascii().to_string().replace("\\n", "\\n\n")
 }
 

@@ -19,6 +19,9 @@ type Comparison<Call> = fn(Tested<Call>, u64, usize) -> Result<Tally, Difference
 /// A comparison of all four calls.
 type ComparisonOfAll = fn(Calls, u64, usize) -> Result<Tally, Difference>;
 
+/// A printing program's text of a file.
+type TextCall = fn(&[u8]) -> Text;
+
 /// One seed and count, so that what is found does not depend on those of the run.
 const SEED: u64 = 1;
 const COUNT: usize = 4_800;
@@ -163,7 +166,7 @@ fn wrong_calls() -> Vec<(&'static str, ComparisonOfAll, Calls)> {
 }
 
 /// What a printing program might print.
-fn wrong_texts() -> Vec<(&'static str, fn(&[u8]) -> Text)> {
+fn wrong_texts() -> Vec<(&'static str, TextCall)> {
     vec![
         ("a refusal is one higher", texts::refusal_one_higher),
         ("an empty list is printed for 13", texts::empty_list_for_13),
