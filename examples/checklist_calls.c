@@ -137,23 +137,30 @@ static int seal(void)
     return 0;
 }
 
-int main(int count, char **arguments)
+/* Carries out a command, which has so many arguments behind it. */
+static int carry_out(const char *command, int count, char **behind)
 {
     static struct region_file file;
-    const char *command = count < 2 ? "" : arguments[1];
-    if (strcmp(command, "seal") == 0) {
+    if (strcmp(command, "seal") == 0 && count == 0) {
         return seal();
     }
-    if (count < 3) {
-        fprintf(stderr, "checklist_calls cuts|print|price FILE .. or seal\n");
-        return 2;
+    if (strcmp(command, "price") == 0 && count > 0) {
+        read_region(behind[0], &file);
+        return print_price(&file, count - 1, behind + 1);
     }
-    read_region(arguments[2], &file);
-    if (strcmp(command, "cuts") == 0) {
+    if (strcmp(command, "cuts") == 0 && count == 1) {
+        read_region(behind[0], &file);
         return try_cuts(&file);
     }
-    if (strcmp(command, "print") == 0) {
+    if (strcmp(command, "print") == 0 && count == 1) {
+        read_region(behind[0], &file);
         return print_answers(&file);
     }
-    return strcmp(command, "price") == 0 ? print_price(&file, count - 3, arguments + 3) : 2;
+    fprintf(stderr, "checklist_calls cuts FILE, print FILE, price FILE BED .., or seal\n");
+    return 2;
+}
+
+int main(int count, char **arguments)
+{
+    return count < 2 ? carry_out("", 0, arguments) : carry_out(arguments[1], count - 2, arguments + 2);
 }

@@ -80,6 +80,10 @@ int main(int count, char **arguments)
     static void *(*const calls[])(void *) = {run_check, run_list, run_sheet, run_price};
     size_t most[] = {0, 0, 0, 0};
     int over = 0;
+    if (count < 2) {
+        fprintf(stderr, "stack_needed FILE ..\n");
+        return 2;
+    }
     for (int i = 1; i < count; i++) {
         read_region(arguments[i], &file);
         size_t own = stack_of(run_nothing);

@@ -9,24 +9,37 @@
 #include "region_file.h"
 #include "rigbasen.h"
 
-/* What each number means to a ward, by the number. */
-static const char *const meanings[] = {
-    "fine",
-    "the file is longer than 65,535 bytes",
-    "the file is not laid out as a region file; it may be cut short",
-    "the patient lines or table lines are not as many as the first line says",
-    "the sum in the end line is wrong; the file was damaged",
-    "the number of patients, of tables or of plans wanted is out of range",
-    "a patient's clinic, bed count or parent is out of range",
-    "a table's members are too many, unknown or not in rising order",
-    "a table has too few or too many entries",
-    "an entry is above 1,000,000",
-    "a table joins two patients of whom neither is an ancestor of the other",
-    "the clinic has no patient in the file",
-    "a lent area is too short",
-    "there is no allowed plan",
-    "the plan has not one bed for each patient, each below its patient's count",
+/* What each refusal means to a ward. */
+static const struct {
+    uint64_t number;
+    const char *text;
+} meanings[] = {
+    {RIGBASEN_TOO_LONG, "the file is longer than 65,535 bytes"},
+    {RIGBASEN_LAYOUT, "the file is not laid out as a region file; it may be cut short"},
+    {RIGBASEN_COUNTS, "the patient lines or table lines are not as many as the first line says"},
+    {RIGBASEN_SUM, "the sum in the end line is wrong; the file was damaged"},
+    {RIGBASEN_LIMITS, "the number of patients, of tables or of plans wanted is out of range"},
+    {RIGBASEN_PATIENTS, "a patient's clinic, bed count or parent is out of range"},
+    {RIGBASEN_MEMBERS, "a table's members are too many, unknown or not in rising order"},
+    {RIGBASEN_ENTRY_COUNTS, "a table has too few or too many entries"},
+    {RIGBASEN_ENTRIES, "an entry is above 1,000,000"},
+    {RIGBASEN_ANCESTORS, "a table joins two patients of whom neither is an ancestor of the other"},
+    {RIGBASEN_NO_SUCH_CLINIC, "the clinic has no patient in the file"},
+    {RIGBASEN_SHORT_AREA, "a lent area is too short"},
+    {RIGBASEN_NO_PLAN, "there is no allowed plan"},
+    {RIGBASEN_PLAN_MISFIT, "the plan has not one bed for each patient, each below its patient's count"},
 };
+
+/* The text of a number. A library that is newer than this screen may ask a question that has none here. */
+static const char *meaning(uint64_t number)
+{
+    for (size_t i = 0; i < sizeof meanings / sizeof meanings[0]; i++) {
+        if (meanings[i].number == number) {
+            return meanings[i].text;
+        }
+    }
+    return "a question that this screen has no text for";
+}
 
 /* How many calls refused. */
 static int refusals = 0;
@@ -37,7 +50,7 @@ static int refused(const char *call, uint64_t number)
     if (number == RIGBASEN_FINE) {
         return 0;
     }
-    printf("%s: refused with %" PRIu64 ": %s\n", call, number, meanings[number]);
+    printf("%s: refused with %" PRIu64 ": %s\n", call, number, meaning(number));
     refusals++;
     return 1;
 }

@@ -1,5 +1,6 @@
 //! An independent reader of region files, written from document 01 alone.
 
+use crate::limits::{HIGHEST_ENTRY, MOST_DIGITS};
 use crate::region::{Patient, Region, Table};
 
 /// What the lines of a laid-out file say, before any question past 2.
@@ -26,7 +27,9 @@ pub fn read(file: &[u8]) -> Result<Region, u64> {
         (6, |lines| patients_in_limits(&lines.region)),
         (7, |lines| lines.region.tables.iter().all(|table| members_in_order(&table.members, lines.v))),
         (8, |lines| entries_counted(&lines.region)),
-        (9, |lines| lines.region.tables.iter().all(|table| table.entries.iter().flatten().all(|e| *e <= 1_000_000))),
+        (9, |lines| {
+            lines.region.tables.iter().all(|table| table.entries.iter().flatten().all(|e| *e <= HIGHEST_ENTRY))
+        }),
         (10, |lines| lines.region.tables.iter().all(|table| on_one_path(&lines.region, &table.members))),
     ];
     for (number, answer) in questions {
@@ -124,10 +127,10 @@ fn number_or_hyphen(part: &[u8]) -> Option<Option<u64>> {
     number(part).map(Some)
 }
 
-/// 1 to 7 digits with no leading zero except `0` itself.
+/// As many digits as a number may have, with no leading zero except `0` itself.
 fn number(part: &[u8]) -> Option<u64> {
     let leading_zero = part.len() > 1 && part[0] == b'0';
-    if part.is_empty() || part.len() > 7 || leading_zero || !part.iter().all(u8::is_ascii_digit) {
+    if part.is_empty() || part.len() > MOST_DIGITS || leading_zero || !part.iter().all(u8::is_ascii_digit) {
         return None;
     }
     Some(part.iter().fold(0, |value, digit| value * 10 + u64::from(digit - b'0')))

@@ -8,6 +8,13 @@ pub struct Patient {
     pub parent: Option<u64>,
 }
 
+impl Patient {
+    /// A patient with these fields. A field that few files use has its usual value here, and nowhere else.
+    pub fn of(clinic: u64, beds: u64, parent: Option<u64>) -> Patient {
+        Patient { clinic, beds, parent }
+    }
+}
+
 /// A table (a cost function): its members, and its entries with the last member's bed moving fastest.
 /// An entry that is `None` is forbidden.
 #[derive(Clone, Debug, PartialEq)]

@@ -4,6 +4,7 @@ use crate::areas::{Areas, Lengths};
 use crate::compare::report::{areas_text, Difference, Tally};
 use crate::compare::{ListCall, Tested};
 use crate::generate::{faulty, small, spelling};
+use crate::numbers;
 use crate::outcomes::Outcomes;
 use crate::random::Random;
 
@@ -110,5 +111,5 @@ pub fn faulty_files(tested: Tested<ListCall>, seed: u64, count: usize) -> Result
         let lengths = near(Lengths { beds: 2_048, costs: 512, result: 8 }, &mut random);
         compare(&mut tally, tested, (&file, &outcomes), Areas::patterned(lengths, random.number()))?;
     }
-    tally.with_all(&[1, 2, 3, 4, 5, 6, 7, 8, 9, 10])
+    tally.with_all(numbers::OF_FILES)
 }

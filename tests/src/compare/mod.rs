@@ -18,6 +18,8 @@ use crate::generate::small;
 use crate::{baseline, boundary};
 use bare::BARE;
 use report::{Difference, Tally};
+use std::path::Path;
+use std::thread;
 
 /// A call under test, with the name that its lines of the report begin with.
 #[derive(Clone, Copy)]
@@ -57,21 +59,46 @@ pub const BASELINE: Calls = Calls {
     sheet: Tested { name: "baseline sheet", call: baseline::calls::sheet },
 };
 
-/// Runs every comparison, each line printed as soon as it is done, up to the first difference.
-pub fn run_all(seed: u64, count: usize) -> Result<(), Difference> {
-    for calls in [BASELINE, LIBRARY] {
-        paper::run(calls)?.print();
-        print_all(check::run(calls.check, seed, count)?);
-        print_all(every_call::run(calls, seed, count)?);
-        print_all(price::run(calls.price, seed, count)?);
-        print_all(list::run(calls.list, seed, count)?);
-        print_all(sheet::run(calls.sheet, seed, count)?);
-        print_all(clinic_pairs::run(calls.sheet, seed, count)?);
+/// Runs every comparison up to the first difference: the library's, each line printed as soon as it
+/// is done, and beside them those of the baseline and of the printing program, if there is one.
+pub fn run_all(seed: u64, count: usize, printer: Option<&Path>) -> Result<(), Difference> {
+    thread::scope(|scope| {
+        let beside = scope.spawn(move || run_beside(seed, count, printer));
+        let mut tallies = run_calls(LIBRARY, seed, count, Tally::print)?;
+        for tally in [large::lists(LIBRARY.list, seed, count / 10)?, large::sheets(LIBRARY.sheet, seed, count / 10)?] {
+            tally.print();
+            tallies.push(tally);
+        }
+        wrong::run()?.print();
+        print_all(beside.join().expect("comparisons that end")?);
+        Tally::together("all numbers", &tallies)?.print();
+        Ok(())
+    })
+}
+
+fn run_beside(seed: u64, count: usize, printer: Option<&Path>) -> Result<Vec<Tally>, Difference> {
+    let mut tallies = run_calls(BASELINE, seed, count, |_| {})?;
+    if let Some(program) = printer {
+        tallies.push(printing::run(program, seed, count / 2)?);
     }
-    large::lists(LIBRARY.list, seed, count / 10)?.print();
-    large::sheets(LIBRARY.sheet, seed, count / 10)?.print();
-    wrong::run()?.print();
-    Ok(())
+    Ok(tallies)
+}
+
+/// Every comparison of the four calls of one program.
+fn run_calls(calls: Calls, seed: u64, count: usize, done: fn(&Tally)) -> Result<Vec<Tally>, Difference> {
+    let mut all = Vec::new();
+    let mut add = |tallies: Vec<Tally>| {
+        tallies.iter().for_each(done);
+        all.extend(tallies);
+    };
+    add(vec![paper::run(calls)?]);
+    add(check::run(calls.check, seed, count)?);
+    add(every_call::run(calls, seed, count)?);
+    add(price::run(calls.price, seed, count)?);
+    add(list::run(calls.list, seed, count)?);
+    add(sheet::run(calls.sheet, seed, count)?);
+    add(clinic_pairs::run(calls.sheet, seed, count)?);
+    Ok(all)
 }
 
 /// Some dozens of regions and files through all four calls, for a run under a memory checker.

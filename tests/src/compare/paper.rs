@@ -1,10 +1,14 @@
-//! Document 01's own files to try, with the answers that it gives: they bind the independent
-//! program itself.
+//! Document 01's own files to try, with the answers that it gives, and the trial files: they bind
+//! the independent program itself, and how files are spelled here.
 
 use crate::areas::{Areas, Lengths};
 use crate::compare::report::{Difference, Tally};
 use crate::compare::{check, every_call, list, sheet, Calls};
-use crate::generate::spelling::{with_end, with_stated_end};
+use crate::files::describe::{chain, flat_table, one_patient, paper, region, root, table};
+use crate::files::trial;
+use crate::generate::spelling::file_of;
+use crate::limits::HIGHEST_ENTRY;
+use crate::outcomes::Outcomes;
 use crate::plans::{self, Row};
 use crate::printed;
 use crate::random::Random;
@@ -48,7 +52,9 @@ pub fn run(calls: Calls) -> Result<Tally, Difference> {
         list::compare(&mut tally, calls.list, (&file, &outcomes), areas.clone())?;
         sheet::compare(&mut tally, calls.sheet, (&file, &outcomes), 0, areas)?;
     }
-    let printed = printed::text(PRINTED.as_bytes());
+    let spelled = file_of(&paper());
+    expect(PRINTED.as_bytes(), spelled == PRINTED.as_bytes(), PRINTED, String::from_utf8_lossy(&spelled))?;
+    let printed = printed::text(&Outcomes::of(PRINTED.as_bytes()));
     expect(PRINTED.as_bytes(), printed == OUTPUT, OUTPUT, &printed)?;
     Ok(tally)
 }
@@ -79,63 +85,29 @@ fn expect(
     Err(Difference { kind: "the paper's files".to_string(), file: file.to_vec(), answers })
 }
 
-fn file(body: &str) -> Vec<u8> {
-    with_end(body.as_bytes())
-}
-
-/// Files with check's number.
+/// Files with check's number: the trial files, which have most of the paper's, and the others.
 fn numbered() -> Vec<(Vec<u8>, u64)> {
-    let siblings = "(region 3 1 1)\n(patient 0 1 -)\n(patient 0 1 0)\n(patient 0 1 0)\n(cost (1 2) (0))\n";
-    let chain = "(region 3 1 1)\n(patient 0 1 -)\n(patient 0 1 0)\n(patient 0 1 1)\n(cost (1 2) (0))\n";
-    let one_patient = |table: &str| file(&format!("(region 1 1 1)\n(patient 0 1 -)\n(cost {table})\n"));
-    let two_patients =
-        |table: &str| file(&format!("(region 2 1 1)\n(patient 0 1 -)\n(patient 0 1 0)\n(cost {table})\n"));
-    let without_end = PRINTED.strip_suffix("(end 5272)\n").expect("its end line").as_bytes();
-    vec![
-        (PRINTED.as_bytes().to_vec(), 0),
-        (file(siblings), 10),
-        (file(chain), 0),
-        (one_patient("(0) (1000000)"), 0),
-        (one_patient("(0) (1000001)"), 9),
-        (one_patient("(0) (10000000)"), 2),
-        (one_patient("() (0)"), 2),
-        (two_patients("(1 0) (0)"), 7),
-        (two_patients("(0 1 2 3 4) (0)"), 7),
-        (full_table(false), 0),
-        (full_table(true), 8),
-        (file(&format!("(region 33 0 1)\n{}", "(patient 0 1 -)\n".repeat(33))), 5),
-        (file(&format!("(region 33 0 1)\n{}", "(patient 0 1 -)\n".repeat(32))), 3),
-        (PRINTED.as_bytes()[..PRINTED.len() - 1].to_vec(), 2),
-        (with_stated_end(without_end, 5273), 4),
-        (Vec::new(), 2),
-    ]
-}
-
-/// Three patients with 16 beds and a table over all three, and perhaps one table more.
-fn full_table(one_more: bool) -> Vec<u8> {
-    let patients = "(patient 0 16 -)\n(patient 0 16 0)\n(patient 0 16 1)\n";
-    let entries = ["7"; 4_096].join(" ");
-    let more = format!("(cost (0) ({}))\n", ["7"; 16].join(" "));
-    let (count, last) = if one_more { (2, &more[..]) } else { (1, "") };
-    file(&format!("(region 3 {count} 1)\n{patients}(cost (0 1 2) ({entries}))\n{last}"))
+    let priced = |price: u64| file_of(&one_patient([flat_table(&[0], price, 1)]));
+    let one_above_the_other = region(1, chain(3, 1), [table(&[1, 2], "0")]);
+    let others = [(file_of(&one_above_the_other), 0), (priced(HIGHEST_ENTRY), 0), (priced(HIGHEST_ENTRY + 1), 9)];
+    let trials = trial::all().into_iter().map(|(_, number, file)| (file, number));
+    trials.chain(others).collect()
 }
 
 /// Accepted files with their lists and their sheets of clinic 0.
 fn listed() -> Vec<(Vec<u8>, Rows, Rows)> {
-    let two_clinics = |m: u64, second: &str| {
-        let patients = "(patient 0 2 -)\n(patient 1 2 -)\n";
-        file(&format!("(region 2 2 {m})\n{patients}(cost (0) (1 0))\n(cost (1) ({second}))\n"))
-    };
+    let two_clinics =
+        |m: u64, second: &str| file_of(&region(m, [root(0, 2), root(1, 2)], [table(&[0], "1 0"), table(&[1], second)]));
     let printed: Rows = &[(2, &[1, 0]), (3, &[0, 0]), (5, &[0, 1])];
     let ties: Rows = &[(5, &[0]), (5, &[1])];
     let free: Rows = &[(0, &[0, 0]), (0, &[0, 1]), (0, &[1, 0])];
     let sheet: Rows = &[(0, &[1]), (1, &[0])];
     vec![
         (PRINTED.as_bytes().to_vec(), printed, printed),
-        (file("(region 1 0 64)\n(patient 0 1 -)\n"), &[(0, &[0])], &[(0, &[0])]),
-        (file("(region 1 1 2)\n(patient 0 3 -)\n(cost (0) (5 5 5))\n"), ties, ties),
-        (file("(region 1 1 1)\n(patient 0 2 -)\n(cost (0) (- -))\n"), &[], &[]),
-        (file("(region 2 0 3)\n(patient 0 2 -)\n(patient 0 2 -)\n"), free, free),
+        (file_of(&region(64, [root(0, 1)], [])), &[(0, &[0])], &[(0, &[0])]),
+        (file_of(&region(2, [root(0, 3)], [table(&[0], "5 5 5")])), ties, ties),
+        (file_of(&region(1, [root(0, 2)], [table(&[0], "- -")])), &[], &[]),
+        (file_of(&region(3, [root(0, 2), root(0, 2)], [])), free, free),
         (two_clinics(3, "0 5"), &[(0, &[1, 0]), (1, &[0, 0]), (5, &[1, 1])], sheet),
         (two_clinics(3, "0 0"), &[(0, &[1, 0]), (0, &[1, 1]), (1, &[0, 0])], sheet),
         (two_clinics(2, "0 0"), &[(0, &[1, 0]), (0, &[1, 1])], &[(0, &[1])]),

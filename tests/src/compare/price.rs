@@ -4,6 +4,7 @@ use crate::areas::Area;
 use crate::compare::report::{area_text, Difference, Tally};
 use crate::compare::{PriceCall, Tested};
 use crate::generate::{faulty, small, spelling};
+use crate::numbers;
 use crate::outcomes::Outcomes;
 use crate::plans;
 use crate::random::Random;
@@ -85,5 +86,5 @@ pub fn faulty_files(tested: Tested<PriceCall>, seed: u64, count: usize) -> Resul
         let result = Area::patterned(length, random.number());
         compare(&mut tally, tested, (&file, &outcomes), &[0, 0], result)?;
     }
-    tally.with_all(&[1, 2, 3, 4, 5, 6, 7, 8, 9, 10])
+    tally.with_all(numbers::OF_FILES)
 }

@@ -1,6 +1,8 @@
 //! What a comparison prints: a line where all agrees, or the first difference.
 
 use crate::areas::{Area, Areas};
+use crate::numbers;
+use std::collections::BTreeMap;
 
 /// A run of so many cases must show every answer that its kind is there to try.
 pub const MANY: u64 = 1_000;
@@ -9,19 +11,35 @@ pub const MANY: u64 = 1_000;
 pub struct Tally {
     kind: String,
     cases: u64,
-    numbers: [u64; 15],
+    numbers: BTreeMap<u64, u64>,
     remark: String,
 }
 
 impl Tally {
     pub fn of(kind: &str) -> Tally {
-        Tally { kind: kind.to_string(), cases: 0, numbers: [0; 15], remark: String::new() }
+        Tally { kind: kind.to_string(), cases: 0, numbers: BTreeMap::new(), remark: String::new() }
+    }
+
+    /// All cases of some tallies: each number that there is must have come up, and no other.
+    pub fn together(kind: &str, tallies: &[Tally]) -> Result<Tally, Difference> {
+        let mut together = Tally::of(kind);
+        for (number, times) in tallies.iter().flat_map(|tally| &tally.numbers) {
+            together.add(*number, *times);
+        }
+        match together.numbers.keys().find(|number| !numbers::ALL.contains(number)) {
+            Some(unknown) => Err(together.lack("no such number", *unknown)),
+            None => together.with_all(numbers::ALL),
+        }
     }
 
     /// Counts a case that agreed.
     pub fn count(&mut self, number: u64) {
-        self.cases += 1;
-        self.numbers[number as usize] += 1;
+        self.add(number, 1);
+    }
+
+    fn add(&mut self, number: u64, times: u64) {
+        self.cases += times;
+        *self.numbers.entry(number).or_default() += times;
     }
 
     /// Something to say at the end of the line.
@@ -31,14 +49,17 @@ impl Tally {
 
     /// The tally, if each of these numbers came up. A run of few cases need not have them.
     pub fn with_all(self, numbers: &[u64]) -> Result<Tally, Difference> {
-        let missing = numbers.iter().find(|number| self.numbers[**number as usize] == 0);
+        let missing = numbers.iter().find(|number| !self.numbers.contains_key(number));
         match missing {
-            Some(number) if self.cases >= MANY => {
-                let answers = vec![("never came up".to_string(), number.to_string())];
-                Err(Difference { kind: self.kind, file: Vec::new(), answers })
-            }
+            Some(number) if self.cases >= MANY => Err(self.lack("never came up", *number)),
             _ => Ok(self),
         }
+    }
+
+    /// What is wrong with the numbers, though no two answers differ.
+    fn lack(&self, what: &str, number: u64) -> Difference {
+        let answers = vec![(what.to_string(), number.to_string())];
+        Difference { kind: self.kind.clone(), file: Vec::new(), answers }
     }
 
     pub fn kind(&self) -> &str {
@@ -50,8 +71,7 @@ impl Tally {
     }
 
     pub fn print(&self) {
-        let came_up = self.numbers.iter().enumerate().filter(|(_, times)| **times > 0);
-        let numbers: Vec<String> = came_up.map(|(number, times)| format!("{number}:{times}")).collect();
+        let numbers: Vec<String> = self.numbers.iter().map(|(number, times)| format!("{number}:{times}")).collect();
         println!("{:<34} {:>7} cases  {} {}", self.kind, self.cases, numbers.join(" "), self.remark);
     }
 }
@@ -74,8 +94,8 @@ impl Difference {
     }
 }
 
-/// A file as text, one line to a line.
-fn readable(file: &[u8]) -> String {
+/// A file or a printed text, one line to a line, line ends and other bytes escaped.
+pub fn readable(file: &[u8]) -> String {
     file.escape_ascii().to_string().replace("\\n", "\\n\n")
 }
 

@@ -5,6 +5,7 @@ use crate::compare::list::{lengths_to_try, near};
 use crate::compare::report::{areas_text, Difference, Tally};
 use crate::compare::{SheetCall, Tested};
 use crate::generate::{faulty, pairs, small, spelling};
+use crate::numbers;
 use crate::outcomes::Outcomes;
 use crate::random::Random;
 use crate::region::Region;
@@ -120,5 +121,5 @@ pub fn faulty_files(tested: Tested<SheetCall>, seed: u64, count: usize) -> Resul
         let clinic = random.between(0, 16);
         compare(&mut tally, tested, (&file, &outcomes), clinic, Areas::patterned(lengths, random.number()))?;
     }
-    tally.with_all(&[1, 2, 3, 4, 5, 6, 7, 8, 9, 10])
+    tally.with_all(numbers::OF_FILES)
 }

@@ -24,7 +24,7 @@ pub fn region(parameters: Parameters, random: &mut Random) -> Region {
     let count = clinics * patients;
     let mut region = Region { patients: Vec::new(), tables: Vec::new(), m };
     for number in 0..count {
-        region.patients.push(Patient { clinic: number / patients, beds, parent: None });
+        region.patients.push(Patient::of(number / patients, beds, None));
         let entries = (0..beds).map(|_| Some(random.between(0, HIGHEST_PRICE))).collect();
         region.tables.push(Table { members: vec![number], entries });
     }

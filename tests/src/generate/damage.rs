@@ -1,13 +1,13 @@
 //! Random damage to good files. Nothing is promised of the result: it may even be good.
 
 use crate::generate::spelling::{lines_of, with_right_sum};
+use crate::limits::{HIGHEST_ENTRY, HIGHEST_NUMBER};
 use crate::random::Random;
 
 const FILE_BYTES: &[u8] = b"0123456789() -abcdefghinoprstz\n";
-const NUMBERS: [&str; 20] = [
-    "0", "1", "2", "3", "4", "5", "15", "16", "17", "31", "32", "33", "64", "65", "4096", "1000000", "1000001",
-    "9999999", "10000000", "-",
-];
+/// Numbers that stand near a limit.
+const NUMBERS: [u64; 15] = [0, 1, 2, 3, 4, 5, 15, 16, 17, 31, 32, 33, 64, 65, 4_096];
+const HIGH_NUMBERS: [u64; 4] = [HIGHEST_ENTRY, HIGHEST_ENTRY + 1, HIGHEST_NUMBER, HIGHEST_NUMBER + 1];
 
 /// The file after one to three damages, its sum made right again in most cases.
 pub fn damaged(good: &[u8], random: &mut Random) -> Vec<u8> {
@@ -43,11 +43,13 @@ fn cut_out(file: &mut Vec<u8>, place: usize, random: &mut Random) {
     file.drain(place..end);
 }
 
-/// The first number from a place on becomes one that stands near a limit.
+/// The first number from a place on becomes one that stands near a limit, or a hyphen.
 fn another_number(file: &mut Vec<u8>, place: usize, random: &mut Random) {
     let Some(start) = (place..file.len()).find(|at| file[*at].is_ascii_digit()) else { return };
     let end = (start..file.len()).find(|at| !file[*at].is_ascii_digit()).unwrap_or(file.len());
-    file.splice(start..end, random.pick(&NUMBERS).bytes());
+    let place = random.below(NUMBERS.len() + HIGH_NUMBERS.len() + 1);
+    let number = NUMBERS.iter().chain(&HIGH_NUMBERS).nth(place);
+    file.splice(start..end, number.map_or("-".to_string(), u64::to_string).bytes());
 }
 
 /// Two lines swapped, or a line doubled or dropped.

@@ -3,10 +3,11 @@
 use crate::generate::full_size;
 use crate::generate::small;
 use crate::generate::spelling::{lines_of, sum_of, with_stated_end, Draft};
+use crate::limits::{HIGHEST_ENTRY, HIGHEST_NUMBER};
 use crate::random::Random;
 use crate::region::{Patient, Region, Table};
 
-const LARGE: [u64; 6] = [65, 255, 256, 65_536, 1_000_001, 9_999_999];
+const LARGE: [u64; 6] = [65, 255, 256, 65_536, HIGHEST_ENTRY + 1, HIGHEST_NUMBER];
 
 /// A small region that faults can be put into: at least two patients and one table.
 pub fn sound_region(random: &mut Random) -> Region {
@@ -98,9 +99,9 @@ fn with_wrong_sum(draft: &Draft, random: &mut Random) -> Vec<u8> {
             4 => sum_of(&body[first_line.len()..]),
             5 => sum_of(&with_stated_end(&body, right)),
             6 => body.iter().map(|byte| u64::from(*byte)).sum(),
-            _ => random.between(0, 9_999_999),
+            _ => random.between(0, HIGHEST_NUMBER),
         };
-        if stated != right && stated <= 9_999_999 {
+        if stated != right && stated <= HIGHEST_NUMBER {
             return with_stated_end(&body, stated);
         }
     }
@@ -132,11 +133,11 @@ fn wrong_patient(region: &mut Region, random: &mut Random) {
     let number = random.below(region.patients.len());
     let patient = &mut region.patients[number];
     match random.below(5) {
-        0 => patient.clinic = random.pick(&[16, 17, 32, 256, 9_999_999]),
+        0 => patient.clinic = random.pick(&[16, 17, 32, 256, HIGHEST_NUMBER]),
         1 => patient.beds = 0,
-        2 => patient.beds = random.pick(&[17, 18, 256, 9_999_999]),
+        2 => patient.beds = random.pick(&[17, 18, 256, HIGHEST_NUMBER]),
         3 => patient.parent = Some(number as u64),
-        _ => patient.parent = Some(number as u64 + random.pick(&[1, 2, 32, 256, 9_999_000])),
+        _ => patient.parent = Some(number as u64 + random.pick(&[1, 2, 32, 256, HIGHEST_NUMBER - 999])),
     }
 }
 
@@ -147,7 +148,7 @@ fn wrong_members(region: &mut Region, random: &mut Random) {
     let members = &mut region.tables[place].members;
     match random.below(6) {
         0 => members.push(v),
-        1 => *members.last_mut().expect("a member") = v + random.pick(&[0, 1, 32, 256, 9_999_000]),
+        1 => *members.last_mut().expect("a member") = v + random.pick(&[0, 1, 32, 256, HIGHEST_NUMBER - 999]),
         2 => members.push(members[members.len() - 1]),
         3 => members.insert(0, members[0] + 1),
         4 => *members = (0..random.between(5, 40)).collect(),
@@ -161,7 +162,7 @@ fn wrong_entries(draft: &mut Draft, random: &mut Random) {
     let entries = &mut draft.region.tables[place].entries;
     match random.below(5) {
         0 => entries.push(None),
-        1 => entries.push(Some(random.between(0, 1_000_000))),
+        1 => entries.push(Some(random.between(0, HIGHEST_ENTRY))),
         2 if entries.len() > 1 => drop(entries.pop()),
         3 => entries.extend(vec![Some(0); 4_096]),
         _ => fill_store(draft, random),
@@ -177,7 +178,7 @@ fn fill_store(draft: &mut Draft, random: &mut Random) {
     }
     for number in first..first + 3 {
         let parent = (number > first).then(|| number - 1);
-        draft.region.patients.push(Patient { clinic: 3, beds: 16, parent });
+        draft.region.patients.push(Patient::of(3, 16, parent));
     }
     let large = Table { members: vec![first, first + 1, first + 2], entries: vec![Some(1); 4_096] };
     let place = random.below(draft.region.tables.len() + 1);
@@ -192,7 +193,8 @@ fn high_entry(region: &mut Region, random: &mut Random) {
     let entries = &mut region.tables[table].entries;
     let any = random.below(entries.len());
     let place = random.pick(&[0, entries.len() - 1, any]);
-    entries[place] = Some(random.pick(&[1_000_001, 1_000_002, 1_048_576, 2_000_000, 9_999_999]));
+    let low = HIGHEST_ENTRY + 1;
+    entries[place] = Some(random.pick(&[low, low + 1, low.next_power_of_two(), HIGHEST_ENTRY * 2, HIGHEST_NUMBER]));
 }
 
 /// Question 10: a table over two patients of which neither is the other's ancestor.

@@ -1,6 +1,7 @@
 //! Files at the limits of size.
 
 use crate::generate::spelling::{file_of, with_end, Draft};
+use crate::limits::HIGHEST_ENTRY;
 use crate::random::Random;
 use crate::region::{Patient, Region, Table};
 
@@ -8,12 +9,12 @@ use crate::region::{Patient, Region, Table};
 pub fn region(random: &mut Random) -> Region {
     let mut region = Region { patients: Vec::new(), tables: Vec::new(), m: 64 };
     for number in 0..32u64 {
-        region.patients.push(Patient { clinic: number / 2, beds: 8, parent: number.checked_sub(1) });
+        region.patients.push(Patient::of(number / 2, 8, number.checked_sub(1)));
     }
     for number in 0..64u64 {
         let first = number % 31;
         let second = random.between(first + 1, 31);
-        let entries = (0..64).map(|_| (!random.chance(5)).then(|| random.between(0, 1_000_000))).collect();
+        let entries = (0..64).map(|_| (!random.chance(5)).then(|| random.between(0, HIGHEST_ENTRY))).collect();
         region.tables.push(Table { members: vec![first, second], entries });
     }
     region

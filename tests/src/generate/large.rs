@@ -2,6 +2,7 @@
 
 use crate::generate::clinics::{self, Parameters};
 use crate::generate::parents::chained;
+use crate::limits::HIGHEST_ENTRY;
 use crate::random::Random;
 use crate::region::{Patient, Region, Table};
 
@@ -12,7 +13,7 @@ pub fn region(random: &mut Random) -> Region {
         0 => clinics::region(Parameters { clinics: 16, patients: 2, beds: 8, density: 1.0, m }, random),
         1 => clinics::region(Parameters { clinics: 8, patients: 4, beds: 4, density: 1.0, m }, random),
         2 => chained(&equal_prices(0, m, random)),
-        _ => equal_prices(1_000_000, m, random),
+        _ => equal_prices(HIGHEST_ENTRY, m, random),
     }
 }
 
@@ -21,7 +22,7 @@ fn equal_prices(price: u64, m: u64, random: &mut Random) -> Region {
     let mut region = Region { patients: Vec::new(), tables: Vec::new(), m };
     for number in 0..32 {
         let beds = random.between(1, 16);
-        region.patients.push(Patient { clinic: random.between(0, 15), beds, parent: None });
+        region.patients.push(Patient::of(random.between(0, 15), beds, None));
         if random.chance(80) {
             region.tables.push(Table { members: vec![number], entries: vec![Some(price); beds as usize] });
         }

@@ -3,6 +3,7 @@
 
 use crate::generate::faults::sound_region;
 use crate::generate::spelling::{file_of, lines_of, with_end};
+use crate::limits::HIGHEST_NUMBER;
 use crate::random::Random;
 
 type Lines = Vec<Vec<u8>>;
@@ -52,7 +53,7 @@ fn in_a_number(lines: &mut Lines, random: &mut Random) {
     let instead = match random.below(7) {
         0 => [b"0", &number[..]].concat(),
         1 => b"00".to_vec(),
-        2 => random.between(10_000_000, 99_999_999).to_string().into_bytes(),
+        2 => random.between(HIGHEST_NUMBER + 1, HIGHEST_NUMBER * 10 + 9).to_string().into_bytes(),
         3 => [b"0000000", &number[..]].concat(),
         4 => [b"-", &number[..]].concat(),
         5 => [b"+", &number[..]].concat(),

@@ -74,14 +74,14 @@ fn around(shared: &Part, rest: &Part, clinic: u64, joined: bool, random: &mut Ra
     let all = shared.beds.len() + rest.beds.len();
     let numbers = some_of((0..all as u64).collect(), shared.beds.len(), random);
     let other_numbers: Vec<u64> = (0..all as u64).filter(|number| !numbers.contains(number)).collect();
-    let blank = Patient { clinic, beds: 0, parent: None };
+    let blank = Patient::of(clinic, 0, None);
     let mut region = Region { patients: vec![blank; all], tables: Vec::new(), m: random.between(1, 64) };
     for (number, beds) in numbers.iter().zip(&shared.beds) {
         region.patients[*number as usize].beds = *beds;
     }
     for (number, beds) in other_numbers.iter().zip(&rest.beds) {
         let elsewhere = (clinic + random.between(1, 3)) % 16;
-        region.patients[*number as usize] = Patient { clinic: elsewhere, beds: *beds, parent: None };
+        region.patients[*number as usize] = Patient::of(elsewhere, *beds, None);
     }
     region.tables.extend(shared.tables.iter().map(|table| renumbered(table, &numbers)));
     region.tables.extend(rest.tables.iter().map(|table| renumbered(table, &other_numbers)));

@@ -1,6 +1,7 @@
 //! Random small regions, few enough plans to walk them all.
 
 use crate::generate::parents::{join_some_roots, set_parents};
+use crate::limits::HIGHEST_ENTRY;
 use crate::random::Random;
 use crate::region::{Patient, Region, Table};
 
@@ -76,9 +77,14 @@ fn shape_of(kind: Kind) -> Shape {
         Kind::Interleaved => Shape { patients: (4, 8), beds: (2, 3), trees: (2, 2), tables: (3, 9), ..usual },
         Kind::OneBed => Shape { patients: (1, 32), beds: (1, 1), tables: (0, 20), forbidden: 1, ..usual },
         Kind::FourMembers => Shape { patients: (4, 6), members: (4, 4), trees: (1, 1), tables: (1, 4), ..usual },
-        Kind::HighPrices => {
-            Shape { price: (999_999, 1_000_000), tables: (64, 64), members: (1, 2), forbidden: 0, m: (1, 9), ..usual }
-        }
+        Kind::HighPrices => Shape {
+            price: (HIGHEST_ENTRY - 1, HIGHEST_ENTRY),
+            tables: (64, 64),
+            members: (1, 2),
+            forbidden: 0,
+            m: (1, 9),
+            ..usual
+        },
         Kind::NoTables => Shape { tables: (0, 0), ..usual },
         Kind::ParentsMade => Shape { trees: (1, 1), members: (1, 4), tables: (1, 5), forbidden: 20, ..usual },
     }
@@ -125,7 +131,7 @@ fn patients(shape: &Shape, random: &mut Random) -> Vec<Patient> {
         let drawn_beds = drawn(shape.beds, random);
         let beds = if plans * drawn_beds > MOST_PLANS { 1 } else { drawn_beds };
         plans *= beds;
-        patients.push(Patient { clinic: random.pick(&numbers), beds, parent });
+        patients.push(Patient::of(random.pick(&numbers), beds, parent));
     }
     patients
 }

@@ -35,6 +35,11 @@ impl Draft {
     }
 }
 
+/// The lines of a region's file before the end line.
+pub fn body_of(region: &Region) -> Vec<u8> {
+    Draft::of(region).body()
+}
+
 /// The file of a region.
 pub fn file_of(region: &Region) -> Vec<u8> {
     Draft::of(region).file()
@@ -48,6 +53,10 @@ pub fn table_line(table: &Table) -> String {
     let members: Vec<String> = table.members.iter().map(u64::to_string).collect();
     let entries: Vec<String> = table.entries.iter().map(or_hyphen).collect();
     format!("(cost ({}) ({}))\n", members.join(" "), entries.join(" "))
+}
+
+pub fn end_line(sum: u64) -> String {
+    format!("(end {sum})\n")
 }
 
 fn or_hyphen(number: &Option<u64>) -> String {
@@ -66,7 +75,7 @@ pub fn with_end(body: &[u8]) -> Vec<u8> {
 
 /// The body with an end line that states this sum.
 pub fn with_stated_end(body: &[u8], sum: u64) -> Vec<u8> {
-    [body, format!("(end {sum})\n").as_bytes()].concat()
+    [body, end_line(sum).as_bytes()].concat()
 }
 
 /// A file's lines, each with its line end.

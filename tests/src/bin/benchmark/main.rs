@@ -30,6 +30,8 @@ fn run(mut arguments: impl Iterator<Item = String>) -> Result<(), String> {
         if argument == "--limit" {
             let seconds = arguments.next().and_then(|seconds| seconds.parse().ok());
             limit = Duration::from_secs(seconds.ok_or("--limit needs a number of seconds")?);
+        } else if argument.starts_with("--") {
+            return Err(format!("{argument} is unknown"));
         } else {
             let file = std::fs::read(&argument).map_err(|fault| format!("{argument}: {fault}"))?;
             given.push((argument, file));

@@ -4,6 +4,7 @@ use crate::areas::Areas;
 use crate::boundary;
 use crate::compare::wrong::checks::line_ended;
 use crate::generate::spelling::with_right_sum;
+use crate::limits::HIGHEST_ENTRY;
 use crate::outcomes::Outcomes;
 use crate::plans::{self, Row};
 use crate::reader;
@@ -32,7 +33,7 @@ pub fn last_lost_in_large(file: &[u8], areas: &mut Areas) -> u64 {
     number
 }
 
-/// Forbidden plans come into the list where prices of a million seem cheap enough.
+/// Forbidden plans come into the list where the highest price seems cheap enough.
 pub fn hyphen_as_price(file: &[u8], areas: &mut Areas) -> u64 {
     Outcomes::of(file).rows_call(
         areas,
@@ -40,7 +41,7 @@ pub fn hyphen_as_price(file: &[u8], areas: &mut Areas) -> u64 {
         |region, _| {
             let mut region = region.clone();
             for table in &mut region.tables {
-                table.entries = table.entries.iter().map(|entry| entry.or(Some(1_000_000))).collect();
+                table.entries = table.entries.iter().map(|entry| entry.or(Some(HIGHEST_ENTRY))).collect();
             }
             plans::list(&region)
         },

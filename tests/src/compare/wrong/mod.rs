@@ -5,7 +5,9 @@ mod checks;
 mod lists;
 mod prices;
 mod sheets;
+mod texts;
 
+use crate::compare::printing::{self, Text};
 use crate::compare::report::{Difference, Tally};
 use crate::compare::{check, clinic_pairs, every_call, large, list, price, sheet};
 use crate::compare::{Calls, CheckCall, ListCall, PriceCall, SheetCall, Tested, LIBRARY};
@@ -16,6 +18,9 @@ type Comparison<Call> = fn(Tested<Call>, u64, usize) -> Result<Tally, Difference
 
 /// A comparison of all four calls.
 type ComparisonOfAll = fn(Calls, u64, usize) -> Result<Tally, Difference>;
+
+/// A printing program's text of a file.
+type TextCall = fn(&[u8]) -> Text;
 
 /// One seed and count, so that what is found does not depend on those of the run.
 const SEED: u64 = 1;
@@ -38,6 +43,9 @@ pub fn run() -> Result<Tally, Difference> {
     }
     for (name, comparison, calls) in wrong_calls() {
         found(&mut tally, name, comparison(calls, SEED, COUNT))?;
+    }
+    for (name, text) in wrong_texts() {
+        found(&mut tally, name, printing::texts(Tested { name, call: &text }, SEED, COUNT))?;
     }
     Ok(tally)
 }
@@ -154,5 +162,25 @@ fn wrong_calls() -> Vec<(&'static str, ComparisonOfAll, Calls)> {
         ("sheet adds a line end", every_call::cuts, sheet(sheets::line_end_added)),
         ("sheet does not ask for the sum of damaged files", every_call::damaged_files, sheet(sheets::without_sum)),
         ("check does not ask question 2 of random bytes", every_call::random_files, check(checks::without::<2>)),
+    ]
+}
+
+/// What a printing program might print.
+fn wrong_texts() -> Vec<(&'static str, TextCall)> {
+    vec![
+        ("a refusal is one higher", texts::refusal_one_higher),
+        ("an empty list is printed for 13", texts::empty_list_for_13),
+        ("a list follows the refusal", texts::list_after_refusal),
+        ("the list's last row is missing", texts::list_row_missing),
+        ("a sheet's last row is missing", texts::sheet_row_missing),
+        ("every sheet has the first clinic's rows", texts::sheet_of_the_first_clinic),
+        ("a sheet is that of the clinic one higher", texts::clinic_one_higher),
+        ("clinics without patients have sheets", texts::sheets_of_all_clinics),
+        ("the last line end is missing", texts::line_end_missing),
+        ("there is a line end too many", texts::line_end_added),
+        ("a zero byte follows", texts::zero_byte_added),
+        ("the file itself is printed", texts::file_itself),
+        ("nothing is printed", texts::nothing),
+        ("the program fails", texts::right_with_failure),
     ]
 }

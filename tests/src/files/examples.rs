@@ -1,0 +1,97 @@
+//! `examples/*.region`. What each is there to show stands in `examples/README.md`.
+
+use crate::files::describe::{chain, child, flat_table, paper, region, root, table};
+use crate::files::mersenne::Mersenne;
+use crate::files::Made;
+use crate::generate::spelling::file_of;
+use crate::limits::HIGHEST_ENTRY;
+use crate::region::{Region, Table};
+
+pub const DIRECTORY: &str = "examples";
+
+pub fn made() -> Vec<Made> {
+    let all = [
+        ("paper", paper()),
+        ("small_ward", small_ward()),
+        ("ties", ties()),
+        ("clinics", clinics()),
+        ("separate", separate()),
+        ("forbidden", forbidden()),
+        ("full_size", full_size()),
+        ("one_tree", one_tree()),
+    ];
+    all.map(|(name, region)| Made { path: format!("{DIRECTORY}/{name}.region"), bytes: file_of(&region) }).into()
+}
+
+fn small_ward() -> Region {
+    let patients = [root(0, 2), child(0, 3, 0), child(0, 2, 1)];
+    let tables = [table(&[0], "2 1"), table(&[0, 1], "0 1 - 3 - 0"), table(&[1, 2], "1 0 - 2 0 4"), table(&[2], "0 1")];
+    region(64, patients, tables)
+}
+
+fn ties() -> Region {
+    let patients = [root(0, 2), root(1, 2), child(0, 3, 0)];
+    region(10, patients, [table(&[0], "5 5"), table(&[1], "2 2"), table(&[0, 2], "1 1 2 1 2 1")])
+}
+
+fn clinics() -> Region {
+    let patients = [root(0, 2), child(0, 3, 0), child(1, 2, 1), root(2, 2), child(1, 2, 2), child(2, 3, 3)];
+    let tables = [
+        table(&[0], "4 1"),
+        table(&[0, 1], "- 2 0 3 - 1"),
+        table(&[1, 2], "0 5 5 0 2 2"),
+        table(&[2, 4], "- 3 3 -"),
+        table(&[4], "0 2"),
+        table(&[3], "1 1"),
+        table(&[3, 5], "- 0 4 0 - 6"),
+        table(&[0, 1, 4], "0 0 1 0 0 0 0 7 0 0 0 0"),
+    ];
+    region(12, patients, tables)
+}
+
+fn separate() -> Region {
+    let patients = [root(0, 2), root(3, 3), child(0, 3, 0), child(3, 2, 1)];
+    let tables = [
+        table(&[0], "6 2"),
+        table(&[0, 2], "- 1 4 3 - 0"),
+        table(&[1], "0 3 1"),
+        table(&[3], "2 0"),
+        table(&[1, 3], "0 - 5 0 1 1"),
+    ];
+    region(8, patients, tables)
+}
+
+fn forbidden() -> Region {
+    let patients = [root(0, 2), root(1, 3), child(1, 2, 1)];
+    let tables =
+        [flat_table(&[0], HIGHEST_ENTRY, 2), table(&[1], "- - -"), table(&[1, 2], "0 0 0 0 0 0"), table(&[2], "7 0")];
+    region(5, patients, tables)
+}
+
+/// The most of everything: 16 clinics of two patients with 13 and 9 beds, each a tree of its own.
+/// Each patient has prices; of a clinic's two tables over both patients, one forbids them the same bed.
+fn full_size() -> Region {
+    const BEDS: [u64; 2] = [13, 9];
+    let patients: Vec<_> =
+        (0..32).map(|n| if n < 16 { root(n, BEDS[0]) } else { child(n - 16, BEDS[1], n - 16) }).collect();
+    let mut drawn = Mersenne::of(32);
+    let mut tables = Vec::new();
+    for clinic in 0..16 {
+        let both = vec![clinic, clinic + 16];
+        for (patient, beds) in both.iter().zip(BEDS) {
+            let entries = (0..beds).map(|_| Some(drawn.up_to(499).into())).collect();
+            tables.push(Table { members: vec![*patient], entries });
+        }
+        let plans: Vec<(u64, u64)> = (0..BEDS[0]).flat_map(|one| (0..BEDS[1]).map(move |other| (one, other))).collect();
+        let apart = plans.iter().map(|(one, other)| (one != other).then(|| drawn.up_to(90).into())).collect();
+        tables.push(Table { members: both.clone(), entries: apart });
+        let some = plans.iter().map(|_| (!drawn.chance(10)).then(|| drawn.up_to(30).into())).collect();
+        tables.push(Table { members: both, entries: some });
+    }
+    region(64, patients, tables)
+}
+
+fn one_tree() -> Region {
+    let tables: Vec<Table> = (0..31).map(|number| table(&[number, number + 1], "0 5 5 1")).collect();
+    region(64, chain(32, 2), tables)
+}
