@@ -1,7 +1,7 @@
 -- Laws of `every` and `any`: of an element, of parts, of two tests at once, of images; numbers that a list contains.
 use mathlib.Core.Path.{sym, ap, ap₂, _∙_}
 use mathlib.Core.Logic.{_⊎_, inl, inr, _↔_}
-use mathlib.Core.Bool.{true≢false, and-false}
+use mathlib.Core.Bool.{true≢false, and-false, and-assoc}
 use mathlib.Core.Option.{Option·none-ne-some}
 use native.Mathlib.Omega.{arith}
 use borrow.Author.Tests.{eqb-true, eq-eqb}
@@ -24,16 +24,15 @@ module _ {A : Type 0} (test : A → Bool) where
   every-at l i d h passes = every-in l passes (getD-in l i d h)
 
   -- Parts of a list.
+  pub every-concat : (l m : List A) → every test (l ++ m) ≡ (every test l && every test m)
+  every-concat [] m = refl
+  every-concat (x ∷ l) m = ap (λ b. test x && b) (every-concat l m) ∙ sym (and-assoc (test x) (every test l) (every test m))
+
   pub every-append : (l m : List A) → every test l ≡ true → every test m ≡ true → every test (l ++ m) ≡ true
-  every-append [] m h g = g
-  every-append (x ∷ l) m h g = let (now, later) = both (test x) h in join now (every-append l m later g)
+  every-append l m h g = every-concat l m ∙ join h g
 
   pub every-split : (l m : List A) → every test (l ++ m) ≡ true → (every test l ≡ true) × (every test m ≡ true)
-  every-split [] m h = (refl, h)
-  every-split (x ∷ l) m h =
-      let (now, later) = both (test x) h in
-      let (left, right) = every-split l m later in
-      (join now left, right)
+  every-split l m h = both (every test l) (sym (every-concat l m) ∙ h)
 
   -- Some element passes, or none does.
   pub any-in : (l : List A) {x : A} → x ∈ l → test x ≡ true → any test l ≡ true

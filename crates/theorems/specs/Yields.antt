@@ -1,7 +1,7 @@
 -- Which files yield a list, and when a sheet is printed: what list's and sheet's number 0 says of the questions.
 use mathlib.Core.Path.{sym, ap, _∙_}
 use mathlib.Core.Logic.{_↔_}
-use mathlib.Core.Bool.{and-assoc, true≢false}
+use mathlib.Core.Bool.{true≢false}
 use native.Mathlib.Omega.{arith}
 use Rattle.definitions.specs.Basics.{ℕ, _<_, _≡_, refl, Bool, true, _&&_, List, [], _∷_, _++_, map, length}
 use Rattle.definitions.specs.Syntax.{Region}
@@ -13,6 +13,7 @@ use Rattle.definitions.specs.Outcomes.{sheetOutcome}
 use Rattle.definitions.specs.Boundary.{roomForNumbers, sheetCall}
 use Rattle.definitions.specs.Isolation.{YieldsList}
 use Rattle.lists.specs.Tests.{both, join}
+use Rattle.lists.specs.Every.{every-concat}
 use Rattle.lists.specs.Members.{_∈_, here, none-in-nil, in-map}
 use Rattle.theorems.specs.Answers.{allYes}
 use Rattle.theorems.specs.Refusals.{check-says, yield-says, sheet-says, sheet-call-says}
@@ -22,12 +23,8 @@ use Rattle.theorems.specs.SheetRows.{sheet-parts}
 
 -- ---- questions asked after those of check
 
-yes-append : (early late : Asked) → allYes (early ++ late) ≡ (allYes early && allYes late)
-yes-append [] late = refl
-yes-append (a ∷ early) late = ap (λ b. a .1 && b) (yes-append early late) ∙ sym (and-assoc (a .1) (allYes early) (allYes late))
-
 asked-after : (file : List ℕ) (late : Asked) → (allYes (askedByCheck file ++ late) ≡ true) ↔ ((checkOf file ≡ 0) × (allYes late ≡ true))
-asked-after file late = rw (yes-append (askedByCheck file) late) (
+asked-after file late = rw (every-concat (λ a. a .1) (askedByCheck file) late) (
   λ e. let (h, k) = both (allYes (askedByCheck file)) e in (check-says file .accepted .1 h, k),
   λ (h, k). join (check-says file .accepted .0 h) k,
 )
@@ -54,7 +51,7 @@ module _ (file : List ℕ) where
       let planned = planAllowed (regionOf file) in
       let eleven : Asked = (11, present) ∷ [] in
       let thirteen : Asked = (13, planned) ∷ [] in
-      let split = yes-append (askedByCheck file ++ eleven) (lent ++ thirteen) ∙ ap (λ b. allYes (askedByCheck file ++ eleven) && b) (yes-append lent thirteen) in (
+      let split = every-concat (λ a. a .1) (askedByCheck file ++ eleven) (lent ++ thirteen) ∙ ap (λ b. allYes (askedByCheck file ++ eleven) && b) (every-concat (λ a. a .1) lent thirteen) in (
         λ e.
             let (first, others) = both (allYes (askedByCheck file ++ eleven)) (sym split ∙ e) in
             let (checked, asked) = asked-after file eleven .0 first in
