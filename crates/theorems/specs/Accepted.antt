@@ -72,6 +72,14 @@ accepted file e =
       };
     }
 
+-- The most that a plan can cost: as many tables as there may be, each at the highest price.
+abbrev pub mostTotal : ℕ
+mostTotal = 64_000_000
+
+pub most-total : mostTotal ≡ limits tableCount .highest * limits entry .highest
+unfolding limits
+most-total = refl
+
 -- The file says its region.
 some-of : {A : Type 0} (o : Option A) (d : A) → isSome o ≡ true → o ≡ some (Option·getD o d)
 some-of none d e = absurd (true≢false (sym e))
@@ -228,29 +236,29 @@ module _ (r : Region) (a : Accepted r) where
       swap (inr y) = inl y
 
   -- Some of the tables cost at most 64,000,000, ..
-  pub tables-small : (test : Table → Bool) (plan : Plan) (n : ℕ) → costOver (keep test (r .tables)) r plan ≡ some n → n ≤ 64_000_000
+  pub tables-small : (test : Table → Bool) (plan : Plan) (n : ℕ) → costOver (keep test (r .tables)) r plan ≡ some n → n ≤ mostTotal
   tables-small test plan n e =
       let most = cost-most r plan (keep test (r .tables)) (λ t k. entry-small r a (keep-out test (r .tables) k .0) plan) n e in
       let few : length (keep test (r .tables)) ≤ 64 = le-trans (keep-short test (r .tables)) (tables-few r a) in
       le-trans most (mul-le-mul-right 1_000_000 few)
 
-  pub own-small : (c : ℕ) (w : Row) → ownCost r c w ≤ 64_000_000
+  pub own-small : (c : ℕ) (w : Row) → ownCost r c w ≤ mostTotal
   unfolding ownCost ownTables
   own-small c w = go (costOver (ownTables r c) r (w .beds)) (tables-small _ (w .beds))
     where
-      go : (o : Option ℕ) → ((n : ℕ) → o ≡ some n → n ≤ 64_000_000) → Option·getD o 0 ≤ 64_000_000
+      go : (o : Option ℕ) → ((n : ℕ) → o ≡ some n → n ≤ mostTotal) → Option·getD o 0 ≤ mostTotal
       go none h = omega arith
       go (some n) h = h n refl
 
   -- .. and so do some of the constraints, or all.
-  pub part-small : (test : Table → Bool) (plan : Plan) (n : ℕ) → costOver (keep test (constraints r)) r plan ≡ some n → n ≤ 64_000_000
+  pub part-small : (test : Table → Bool) (plan : Plan) (n : ℕ) → costOver (keep test (constraints r)) r plan ≡ some n → n ≤ mostTotal
   unfolding constraints
   part-small = tables-small
 
-  pub total-small : (plan : Plan) (n : ℕ) → total r plan ≡ some n → n ≤ 64_000_000
+  pub total-small : (plan : Plan) (n : ℕ) → total r plan ≡ some n → n ≤ mostTotal
   unfolding total
   total-small plan n e = part-small (λ t. true) plan n (ap (λ l. costOver l r plan) (keep-all (λ t. true) (constraints r) (every-all (λ t. true) (constraints r) (λ t k. refl))) ∙ e)
 
 -- So it is for every plan of an accepted file.
-pub accepted-total : (file : List ℕ) (plan : Plan) (t : ℕ) → checkOf file ≡ 0 → total (regionOf file) plan ≡ some t → t ≤ 64_000_000
+pub accepted-total : (file : List ℕ) (plan : Plan) (t : ℕ) → checkOf file ≡ 0 → total (regionOf file) plan ≡ some t → t ≤ mostTotal
 accepted-total file plan t e h = total-small (regionOf file) (accepted file e .region) plan t h
