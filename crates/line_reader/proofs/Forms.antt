@@ -11,6 +11,7 @@ use lib.Seq.{drop-cons, take-all, take-suc-set}
 use borrow.Author.Tests.{leb-true, leb-false}
 use Rattle.definitions.specs.Basics.{Option, none, some, Option·map, bind}
 use Rattle.definitions.specs.Layout.{exactly, word, number, hyphenOrNumber}
+use Rattle.scanner.specs.Words.{formStart}
 use Rattle.scanner.specs.Answers.{ReadAt, there, missing}
 use Rattle.scanner.specs.Parts.{Left, part, gives, part-there, part-missing, line-longer, line-whole}
 use Rattle.line_reader.specs.Forms.{fieldValue, field, fieldsLeft, form, fieldValues, valuesIf}
@@ -37,7 +38,7 @@ pub record FieldsRead (line opening : List ℕ) (kinds : List Bool) (values : Li
   pub left : Left line (fieldValues opening kinds line) (fieldsLeft (drop i kinds) (take i values)) at
 
 -- The opening word is there, or it is missing.
-module _ {line : List ℕ} (opening : List ℕ) (kinds : List Bool) {p : Option (Unit {0} × ℕ)} (h : ReadAt (exactly opening) line 0 p) where
+module _ {line : List ℕ} (opening : List ℕ) (kinds : List Bool) {p : Option (Unit {0} × ℕ)} (h : ReadAt (exactly (formStart opening)) line 0 p) where
   form-left : Left line (fieldValues opening kinds line) (form opening kinds) 0
   unfolding fieldValues
   form-left = record { says = refl }

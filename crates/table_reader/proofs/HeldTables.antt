@@ -6,12 +6,13 @@ use native.Mathlib.Omega.{arith}
 use Prim.Native.Nat.{_≤_}
 use lib.ListN.{set, drop, length-append, length-map, length-set, length-take}
 use lib.Seq.{ext-getD, getD-take}
-use Rattle.definitions.specs.Basics.{ℕ, _+_, _<_, Option, none, some, List, bind, [], _∷_, _++_, map, length, take, replicate, isEmpty}
-use Rattle.definitions.specs.Layout.{Reader, whole, word, number, hyphenOrNumber, items, tableLine}
+use Rattle.definitions.specs.Basics.{ℕ, _+_, _<_, Option, none, some, List, bind, [], _∷_, _++_, map, length, take, replicate, isEmpty, text}
+use Rattle.definitions.specs.Layout.{Reader, whole, exactly, word, number, hyphenOrNumber, items, tableLine}
 use Rattle.held_region.specs.Meaning.{codeOf, noTable}
 use Rattle.scanner.specs.declared.Passed.{Passed}
 use Rattle.scanner.specs.declared.Passed.the-variants.{At, Nothing as NotPassed}
-use Rattle.scanner.specs.Answers.{ReadAt, passed}
+use Rattle.scanner.specs.Words.{formStart, words-there, words-missing}
+use Rattle.scanner.specs.Answers.{ReadAt, passed, there, missing}
 use Rattle.scanner.specs.Separators.{separator, separator-ahead}
 use Rattle.scanner.specs.Items.{Bounded}
 use Rattle.table_reader.specs.declared.Entries.{Entries}
@@ -129,6 +130,14 @@ entries-more o is one said counted added =
 pub entries-there : {s : List ℕ} {at used : ℕ} {before after : List ℕ} {r : Entries} {count next : ℕ} → r ≡ Are count next → EntriesRead s at used before after r
     → ItemsThere hyphenOrNumber (EntriesAdded used before after) s at count next
 entries-there e h = rw e at h
+
+-- The beginning of a table line, by its bracket and word and the space behind them.
+module _ (line : List ℕ) {o : Option (Unit {0} × ℕ)} (h : ReadAt (exactly (formStart (text "cost"))) line 0 o) where
+  pub cost-missing : o ≡ none → word "(cost " line ≡ none
+  cost-missing e = words-missing (formStart (text "cost")) (text " ") line (missing h e)
+
+  pub cost-then : {start : ℕ} → o ≡ some (tt, start) → word "(cost " line ≡ word " " (drop start line)
+  cost-then e = words-there (formStart (text "cost")) (text " ") line (there h e)
 
 -- What a line says, as far as it was read.
 module _ (line : List ℕ) where
