@@ -1,4 +1,4 @@
--- What is left to store, byte by byte and number by number, and when a result area is long enough. Assumes nothing.
+-- What is left to store, byte by byte and number by number, and when a result area is long enough.
 use mathlib.Core.Path.{ap}
 use Prim.Native.Nat.{_≤_}
 use native.Mathlib.Numerals.{add-one}

@@ -1,4 +1,4 @@
--- Costs that were first held as numbers, a place each, and are then written as eight bytes each. Assumes nothing.
+-- Costs that were first held as numbers, a place each, and are then written as eight bytes each.
 use mathlib.Core.Path.{sym, ap, _∙_}
 use mathlib.Core.List.{append-nil}
 use Prim.Native.Nat.{_≤_}

@@ -1,4 +1,4 @@
--- Looking for a line end: what is left to pass is what was asked. Assumes nothing.
+-- Looking for a line end: what is left to pass is what was asked.
 use mathlib.Core.Path.{_≡_, refl, sym, ap, ap₂, _∙_}
 use mathlib.Core.List.{List, _∷_}
 use Prim.Native.Nat.{ℕ, suc, _+_, _-_, _≤_, _<_}
@@ -11,16 +11,16 @@ use mathlib.Core.Bool.{true, false, _&&_, and-eq-true-iff}
 use borrow.Author.Tests.{eqb-true, eqb-false, not-true}
 use Rattle.definitions.specs.Layout.{lines}
 use Rattle.line_reader.specs.Answers.{LineEnd}
-use Rattle.line_reader.specs.Lines.{lineLength, Seeking, noEnd, noEndInFour, line-ends, line-goes-on, lines-cut}
+use Rattle.line_reader.specs.Lines.{lineLength, Seeking, noEnd, noEndInFour, line-ends, line-goes-on, lines-split}
 
 pub seeking-start : (s : List ℕ) (at : ℕ) → Seeking s at at
 seeking-start s at = record { low = omega arith; high = omega arith; same = refl }
 
--- Where the first line's length is known, so is the cut.
-cut-at : (s : List ℕ) (at r : ℕ) → r ≡ at + lineLength (drop at s) → at < length s → lines (drop at s) ≡ take (r - at) (drop at s) ∷ lines (drop r s)
-cut-at s at r e h =
+-- Where the first line's length is known, so is where it ends.
+split-at : (s : List ℕ) (at r : ℕ) → r ≡ at + lineLength (drop at s) → at < length s → lines (drop at s) ≡ take (r - at) (drop at s) ∷ lines (drop r s)
+split-at s at r e h =
     let n : r - at ≡ lineLength (drop at s) = omega arith in
-    lines-cut (drop at s) (simp length-drop (omega arith))
+    lines-split (drop at s) (simp length-drop (omega arith))
     ∙ ap₂ (λ k l. take k (drop at s) ∷ lines l) (sym n) (drop-drop (lineLength (drop at s)) at s ∙ ap (λ k. drop k s) (sym e))
 
 module _ {s : List ℕ} {at i : ℕ} (k : Seeking s at i) where
@@ -39,7 +39,7 @@ module _ {s : List ℕ} {at i : ℕ} (k : Seeking s at i) where
         let l = k .low in
         let f = k .same in
         let e : lineLength (drop i s) ≡ 1 = rw (drop-cons s i 0 h) (line-ends (getD s i 0) (drop (suc i) s) n) in
-        record { cut = cut-at s at (i + 1) (omega arith); ahead = omega arith; within = omega arith }
+        record { splits = split-at s at (i + 1) (omega arith); ahead = omega arith; within = omega arith }
 
   pub seeking-out : length s ≤ i → LineEnd s at (length s)
   seeking-out h =
@@ -47,7 +47,7 @@ module _ {s : List ℕ} {at i : ℕ} (k : Seeking s at i) where
       let g = k .high in
       let f = k .same in
       let e : lineLength (drop i s) ≡ 0 = ap lineLength (drop-of-length-le s h) in
-      record { cut = λ b. cut-at s at (length s) (omega arith) b; ahead = omega arith; within = omega arith }
+      record { splits = λ b. split-at s at (length s) (omega arith) b; ahead = omega arith; within = omega arith }
 
 -- Four bytes of which none is a line end are passed.
 pub seeking-four : {s : List ℕ} {at i : ℕ} → Seeking s at i → i + 4 ≤ length s → noEndInFour s i ≡ true → Seeking s at (i + 4)

@@ -1,4 +1,4 @@
--- Summing bytes: what is summed and what is left is the whole sum. Assumes nothing.
+-- Summing bytes: what is summed and what is left is the whole sum.
 use mathlib.Core.Path.{_≡_, sym, ap, _∙_}
 use mathlib.Core.List.{List}
 use Prim.Native.Nat.{ℕ, suc, _+_, _*_, _^_, _≤_, _<_}

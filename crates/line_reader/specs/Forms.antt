@@ -1,11 +1,11 @@
--- A form without lists: its word, its fields by their kinds, one space before each, and its end. Assumes nothing.
+-- A form without lists: its word, its fields by their kinds, one space before each, and its end.
 use mathlib.Core.Path.{sym, ap}
 use native.Mathlib.Omega.{arith}
 use borrow.Author.Tests.{ltb-true, ne-eqb}
 use Rattle.theorems.specs.Numbers.{hyphen-reads}
 use Rattle.scanner.specs.Classes.{isLetter}
 use Rattle.scanner.specs.Words.{formStart}
-use Rattle.scanner.specs.Parts.{Form, part, gives, read}
+use Rattle.scanner.specs.Tokens.{Form, token, gives, read}
 use Rattle.definitions.specs.Basics.{ℕ, _^_, _<_, _≡_, refl, Bool, true, false, cond, Option, none, some, Option·map, bind, List, [], _∷_, _++_, getD, length, eqb, text, every, noneOr}
 use Rattle.definitions.specs.Limits.{digitCount, limits}
 use Rattle.definitions.specs.Spelling.{spellable}
@@ -30,11 +30,11 @@ field false = number
 
 -- The fields that are left, after those of these values.
 abbrev pub fieldsLeft : List Bool → List ℕ → Form (List ℕ)
-fieldsLeft [] values = part (word ")\n") λ _. gives values
-fieldsLeft (k ∷ ks) values = part (word " ") λ _. part (field k) λ v. fieldsLeft ks (values ++ v ∷ [])
+fieldsLeft [] values = token (word ")\n") λ _. gives values
+fieldsLeft (k ∷ ks) values = token (word " ") λ _. token (field k) λ v. fieldsLeft ks (values ++ v ∷ [])
 
 abbrev pub form : List ℕ → List Bool → Form (List ℕ)
-form word kinds = part (exactly (formStart word)) λ _. fieldsLeft kinds []
+form word kinds = token (exactly (formStart word)) λ _. fieldsLeft kinds []
 
 -- The values of the fields of a line that has the form and nothing behind it.
 unfoldable pub fieldValues : List ℕ → List Bool → List ℕ → Option (List ℕ)

@@ -1,4 +1,4 @@
--- A line is what stands up to its line end. Assumes nothing.
+-- A line is what stands up to its line end.
 use mathlib.Core.Path.{ap}
 use native.Mathlib.Omega.{arith}
 use borrow.Author.Tests.{eq-eqb, ne-eqb, eqb-true, eqb-false}
@@ -33,9 +33,9 @@ module _ (b : ℕ) (bs : List ℕ) where
   line-goes-on e = rw (ne-eqb b 10 e, lineLength)
 
 -- The first line, and the lines after it.
-pub lines-cut : (xs : List ℕ) → 0 < length xs → lines xs ≡ take (lineLength xs) xs ∷ lines (drop (lineLength xs) xs)
-lines-cut [] h = absurd (omega arith)
-lines-cut (b ∷ bs) h = go (eqb b 10) refl bs (lines-cut bs)
+pub lines-split : (xs : List ℕ) → 0 < length xs → lines xs ≡ take (lineLength xs) xs ∷ lines (drop (lineLength xs) xs)
+lines-split [] h = absurd (omega arith)
+lines-split (b ∷ bs) h = go (eqb b 10) refl bs (lines-split bs)
   where
     go : (t : Bool) → eqb b 10 ≡ t → (cs : List ℕ) → (0 < length cs → lines cs ≡ take (lineLength cs) cs ∷ lines (drop (lineLength cs) cs))
         → lines (b ∷ cs) ≡ take (lineLength (b ∷ cs)) (b ∷ cs) ∷ lines (drop (lineLength (b ∷ cs)) (b ∷ cs))

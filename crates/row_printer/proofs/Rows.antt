@@ -1,4 +1,4 @@
--- What is left of a list's rows, one by one. Assumes nothing.
+-- What is left of a list's rows, one by one.
 use mathlib.Core.Path.{_≡_, sym, ap, _∙_}
 use mathlib.Core.List.{append-assoc, append-nil}
 use native.Mathlib.Numerals.{add-one}

@@ -1,4 +1,4 @@
--- Printed lines in the parts that are written one after another. Assumes nothing.
+-- Printed lines in the parts that are written one after another.
 use mathlib.Core.Path.{_≡_, sym, ap, _∙_}
 use mathlib.Core.List.{append-nil}
 use Rattle.definitions.specs.Basics.{ℕ, List, [], _∷_, _++_, map, flatMap, flatten, length, text}

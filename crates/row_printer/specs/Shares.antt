@@ -1,4 +1,4 @@
--- Clinics share the patients: what their counts add up to. Assumes nothing.
+-- Clinics share the patients: what their counts add up to.
 use mathlib.Core.Path.{_≡_, refl}
 use native.Mathlib.Omega.{arith}
 use borrow.Author.Tests.{eqb-true}

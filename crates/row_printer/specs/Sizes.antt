@@ -1,4 +1,4 @@
--- How long printed lines are, for rows within a region's limits. Assumes nothing.
+-- How long printed lines are, for rows within a region's limits.
 use mathlib.Core.Path.{_≡_, refl, ap, _∙_}
 use native.Mathlib.Nat.{le-trans, mul-le-mul-right}
 use native.Mathlib.Omega.{arith}

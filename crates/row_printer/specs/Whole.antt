@@ -1,4 +1,4 @@
--- The whole text that is printed for a file is at most `printedMost` bytes. Assumes nothing.
+-- The whole text that is printed for a file is at most `printedMost` bytes.
 use mathlib.Core.Path.{_≡_, refl}
 use mathlib.Core.Logic.{inl, inr}
 use native.Mathlib.Nat.{le-trans, mul-le-mul-right}

@@ -1,4 +1,4 @@
--- Reading one byte by a class that it alone has, and what stands behind it. Assumes nothing.
+-- Reading one byte by a class that it alone has, and what stands behind it.
 use mathlib.Core.Path.{_≡_, refl, sym, ap, _∙_}
 use mathlib.Core.List.{List, [], _∷_}
 use mathlib.Core.Bool.{true, false, not}

@@ -1,4 +1,4 @@
--- The class of a byte, from the range it was found in. Assumes nothing.
+-- The class of a byte, from the range it was found in.
 use mathlib.Core.Path.{_≡_, refl, ap, sym, _∙_}
 use mathlib.Core.List.{List, [], _∷_}
 use mathlib.Core.Bool.{true, false, not, _&&_, and-false}

@@ -1,4 +1,4 @@
--- Reading a number: what is left to read is what was asked. Assumes nothing.
+-- Reading a number: what is left to read is what was asked.
 use mathlib.Core.Path.{_≡_, sym, ap, subst, _∙_}
 use mathlib.Core.List.{List}
 use Prim.Native.Nat.{ℕ, suc, _+_, _-_, _*_, _^_, _≤_, _<_, max}

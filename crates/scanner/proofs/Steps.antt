@@ -1,4 +1,4 @@
--- Reading one byte by its class: a hyphen, or what stands after an item. Assumes nothing.
+-- Reading one byte by its class: a hyphen, or what stands after an item.
 use mathlib.Core.Path.{_≡_, sym, ap, _∙_}
 use mathlib.Core.List.{List, [], _∷_}
 use mathlib.Core.Option.{some, Option·map}

@@ -1,4 +1,4 @@
--- Passing a word letter by letter: what is left to pass is what was asked. Assumes nothing.
+-- Passing a word letter by letter: what is left to pass is what was asked.
 use mathlib.Core.Path.{_≡_, refl, sym, ap, ap₂, _∙_}
 use mathlib.Core.List.{List, [], _∷_}
 use mathlib.Core.Bool.{true}

@@ -1,4 +1,4 @@
--- The reader's class of a byte, and what a class says of its byte. Assumes nothing.
+-- The reader's class of a byte, and what a class says of its byte.
 use Prim.Native.Nat.{_≤_}
 use Prim.Native.Char.{code}
 use native.Mathlib.Omega.{arith}

@@ -1,4 +1,4 @@
--- What stands after an item, and a hyphen or a number, by the class of the first byte. Assumes nothing.
+-- What stands after an item, and a hyphen or a number, by the class of the first byte.
 use mathlib.Core.Path.{sym, ap}
 use Prim.Native.Nat.{_≤_, _<_}
 use Prim.Native.Char.{code}

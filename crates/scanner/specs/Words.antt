@@ -1,11 +1,11 @@
--- How `exactly` goes from byte to byte, and by the class of a byte. Assumes nothing.
+-- How `exactly` goes from byte to byte, and by the class of a byte.
 use mathlib.Core.Path.{sym, _∙_, ap}
 use Prim.Native.Char.{code}
 use native.Mathlib.Omega.{arith}
 use native.Mathlib.Decide.{ℕ-discrete}
 use borrow.Author.Tests.{eq-eqb, ne-eqb, eqb-true}
 use lib.ListN.{drop}
-use Rattle.definitions.specs.Basics.{ℕ, suc, _≡_, refl, Option, none, some, bind, List, [], _∷_, _++_, eqb}
+use Rattle.definitions.specs.Basics.{ℕ, suc, _≡_, refl, none, some, bind, List, [], _∷_, _++_, eqb}
 use Rattle.definitions.specs.Layout.{exactly}
 use Rattle.scanner.specs.declared.Class.{Class}
 use Rattle.scanner.specs.Classes.{classOf, firstClass, isOf, class-says}

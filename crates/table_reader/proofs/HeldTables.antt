@@ -1,4 +1,4 @@
--- The items of a table line one after the other, and the line part by part. Assumes nothing.
+-- The items of a table line one after the other, and the line part by part.
 use mathlib.Core.Path.{_≡_, refl, sym, ap, _∙_}
 use mathlib.Core.List.{append-nil, append-assoc, map-append}
 use mathlib.Core.Bool.{Bool, true, false, false≢true}
@@ -17,7 +17,7 @@ use Rattle.scanner.specs.Separators.{separator, separator-ahead}
 use Rattle.scanner.specs.Items.{Bounded}
 use Rattle.table_reader.specs.declared.Entries.{Entries}
 use Rattle.table_reader.specs.declared.Entries.the-variants.{Are}
-use Rattle.table_reader.specs.TakenItems.{items-start, items-no-item, items-next, items-closed, items-cut, items-no-list}
+use Rattle.table_reader.specs.TakenItems.{items-start, items-no-item, items-next, items-closed, items-no-separator, items-no-list}
 use Rattle.table_reader.specs.FirstHeld.{FirstHeld, held-none, held-more}
 use Rattle.table_reader.specs.Stores.{stored-set, stored-full}
 use Rattle.table_reader.specs.TableReading.{Found, ItemsSoFar, ItemsThere, MembersHeld, Adds, EntriesAdded, EntriesRead, TableRead}
@@ -52,8 +52,8 @@ module _ {A : Type 0} {item : Reader ℕ A} (k : Bounded item) {Kept : List A �
   list-no-item e = items-no-item k (f .taken) (read-as e h)
 
   module _ {a : A} {end : ℕ} (e : o ≡ some (a, end)) {step : Option (Bool × ℕ)} (q : ReadAt separator s end step) where
-    pub list-cut : step ≡ none → items item (drop at s) ≡ none
-    list-cut n = items-cut k (f .taken) (read-as e h) (read-as n q)
+    pub list-no-separator : step ≡ none → items item (drop at s) ≡ none
+    list-no-separator n = items-no-separator k (f .taken) (read-as e h) (read-as n q)
 
     -- After a separator the place is ahead, within the slice, and above the count.
     pub list-on : {b : Bool} {next : ℕ} → step ≡ some (b, next) → (i < next) × (next ≤ length s) × (count < next)
@@ -94,7 +94,7 @@ members-more a {first} {count = count} is said counted m = record {
 -- The first n that are held are the first n that are said.
 first-taken : {A : Type 0} (n : ℕ) (d : A) (first said : List A) → length first ≡ n → FirstHeld n (λ a b. a ≡ b) d d first said → take (length said) first ≡ take n said
 first-taken n d first said wide holds =
-    let cut = length-take (length said) first in
+    let taken = length-take (length said) first in
     ext-getD d (take (length said) first) (take n said) (omega (arith, length-take n said))
     (λ i h. let low : i < n = omega arith in let inside : i < length said = omega arith in getD-take (length said) first i d inside ∙ holds i low inside ∙ sym (getD-take n said i d low))
 

@@ -1,4 +1,4 @@
--- What is left of a text byte by byte, of a number's digits, and of numbers in brackets. Assumes nothing.
+-- What is left of a text byte by byte, of a number's digits, and of numbers in brackets.
 use mathlib.Core.Path.{_≡_, refl, sym, ap, _∙_}
 use mathlib.Core.List.{append-assoc}
 use native.Mathlib.Numerals.{add-one}

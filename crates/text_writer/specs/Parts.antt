@@ -1,4 +1,4 @@
--- Parts in brackets as they are written: each after the first has a space before it. Assumes nothing.
+-- Parts in brackets as they are written: each after the first has a space before it.
 use mathlib.Core.Path.{_≡_, refl, sym, ap, _∙_}
 use mathlib.Core.List.{append-assoc}
 use Rattle.definitions.specs.Basics.{ℕ, zero, suc, List, [], _∷_, _++_, flatMap, flatten, text}

@@ -1,4 +1,4 @@
--- Texts written into a lent area, one after another. Assumes nothing.
+-- Texts written into a lent area, one after another.
 use mathlib.Core.Path.{_≡_, refl, sym, ap, _∙_}
 use native.Mathlib.Omega.{arith}
 use Prim.Native.Nat.{_≤_}

@@ -7,7 +7,7 @@ use Rattle.definitions.specs.Layout.{hyphenOrNumber}
 use Rattle.scanner.specs.Answers.{entryRead, stepRead}
 use Rattle.scanner.specs.Bounds.{hyphen-bounded}
 use Rattle.table_reader.specs.TableReading.{ItemsSoFar, EntriesAdded}
-use Rattle.table_reader.proofs.HeldTables.{list-start, list-missing, list-no-item, list-cut, list-on, list-more, list-closed, adds-none, entries-more}
+use Rattle.table_reader.proofs.HeldTables.{list-start, list-missing, list-no-item, list-no-separator, list-on, list-more, list-closed, adds-none, entries-more}
 use Rattle.table_reader.proofs.entries_at.Statement.{statement}
 use Rattle.table_reader.proofs.entries_at.Tie as tie
 
@@ -102,7 +102,7 @@ returns-4 c =
     let step = c .before .before in
     let entry = step .before .before .before .before .before in
     let read = entry .before .before in
-    list-cut hyphen-bounded (read .before .loop .inv) (read .hyphen-or-number-at .ensures) (ap entryRead (entry .entry .given .1)) (step .item-step .ensures) (ap stepRead (c .enum-told3 .given .1))
+    list-no-separator hyphen-bounded (read .before .loop .inv) (read .hyphen-or-number-at .ensures) (ap entryRead (entry .entry .given .1)) (step .item-step .ensures) (ap stepRead (c .enum-told3 .given .1))
 
 pub entries-at-spec : {M : Type 1} → statement M
 entries-at-spec =

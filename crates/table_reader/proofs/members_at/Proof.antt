@@ -9,7 +9,7 @@ use Rattle.scanner.specs.Answers.{numberRead, stepRead}
 use Rattle.scanner.specs.Bounds.{number-bounded}
 use Rattle.table_reader.specs.FirstHeld.{set-full}
 use Rattle.table_reader.specs.TableReading.{ItemsSoFar, MembersHeld}
-use Rattle.table_reader.proofs.HeldTables.{found, not-found, list-start, list-missing, list-no-item, list-cut, list-on, list-more, list-closed, members-none, members-more}
+use Rattle.table_reader.proofs.HeldTables.{found, not-found, list-start, list-missing, list-no-item, list-no-separator, list-on, list-more, list-closed, members-none, members-more}
 use Rattle.table_reader.proofs.members_at.Statement.{statement}
 use Rattle.table_reader.proofs.members_at.Tie as tie
 
@@ -110,7 +110,7 @@ returns-4 c =
     let step = c .before .before in
     let member = step .before .before .before in
     let read = member .before .before in
-    not-found (list-cut number-bounded (read .before .loop .inv) (read .number-at .ensures) (ap numberRead (member .member .given .1)) (step .item-step .ensures) (ap stepRead (c .enum-told3 .given .1)))
+    not-found (list-no-separator number-bounded (read .before .loop .inv) (read .number-at .ensures) (ap numberRead (member .member .given .1)) (step .item-step .ensures) (ap stepRead (c .enum-told3 .given .1)))
 
 pub members-at-spec : {M : Type 1} → statement M
 members-at-spec =

@@ -2,7 +2,7 @@ use mathlib.Core.Path.{ap, _∙_}
 use borrow.Author.Needs.{needs}
 use borrow.Author.Tests.{not-true, not-false}
 use Rattle.scanner.specs.Answers.{there, missing, passed}
-use Rattle.scanner.specs.Parts.{more-left, nothing-left}
+use Rattle.scanner.specs.Tokens.{more-left, nothing-left}
 use Rattle.table_reader.proofs.HeldTables.{cost-missing, cost-then, entries-there, no-members, no-space, no-entries, no-end, more-behind, line-other, line-broken, line-table}
 use Rattle.table_reader.proofs.table_line.Statement.{statement}
 use Rattle.table_reader.proofs.table_line.Tie as tie

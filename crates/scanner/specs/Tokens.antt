@@ -1,4 +1,4 @@
--- A form as its parts, one after the other, and how far a line has been read by it. Assumes nothing.
+-- A form as its tokens, one after the other, and how far a line has been read by it.
 use mathlib.Core.Path.{ap, _∙_}
 use Prim.Native.Nat.{_≤_, _<_}
 use lib.ListN.{drop, drop-of-length-le}
@@ -7,28 +7,28 @@ use Rattle.definitions.specs.Basics.{ℕ, _≡_, true, false, Option, none, som
 use Rattle.definitions.specs.Layout.{Reader, _>>=_, give, whole}
 use Rattle.scanner.specs.Answers.{ReadAt, there, missing}
 
--- A part is read, and what it gives decides the parts after it; at the end the form gives what the line says.
+-- A token is read, and what it gives decides the tokens after it; at the end the form gives what the line says.
 pub data Form (B : Type 0) : Type 1 where
-  part : {A : Type 0} → Reader ℕ A → (A → Form B) → Form B
+  token : {A : Type 0} → Reader ℕ A → (A → Form B) → Form B
   gives : B → Form B
 
 abbrev pub read : {B : Type 0} → Form B → Reader ℕ B
-read (part first rest) = first >>= (λ a. read (rest a))
+read (token first rest) = first >>= (λ a. read (rest a))
 read (gives b) = give b
 
--- What a line says is what the parts that are left give from a place on.
+-- What a line says is what the tokens that are left give from a place on.
 pub record Left {B : Type 0} (line : List ℕ) (said : Option B) (form : Form B) (at : ℕ) : Type 0 where
   pub says : said ≡ whole (read form) (drop at line)
 
-module _ {A B : Type 0} {line : List ℕ} {said : Option B} {first : Reader ℕ A} {rest : A → Form B} {at : ℕ} (l : Left line said (part first rest) at)
+module _ {A B : Type 0} {line : List ℕ} {said : Option B} {first : Reader ℕ A} {rest : A → Form B} {at : ℕ} (l : Left line said (token first rest) at)
     {found : Option (A × ℕ)} (h : ReadAt first line at found) where
-  pub part-there : {a : A} {next : ℕ} → found ≡ some (a, next) → Left line said (rest a) next
+  pub token-there : {a : A} {next : ℕ} → found ≡ some (a, next) → Left line said (rest a) next
   unfolding bind
-  part-there e = record { says = l .says ∙ rw (there h e) }
+  token-there e = record { says = l .says ∙ rw (there h e) }
 
-  pub part-missing : found ≡ none → said ≡ none
+  pub token-missing : found ≡ none → said ≡ none
   unfolding bind
-  part-missing e = l .says ∙ rw (missing h e)
+  token-missing e = l .says ∙ rw (missing h e)
 
 -- Bytes stand behind a place, or none do.
 module _ (s : List ℕ) (n : ℕ) where
@@ -38,7 +38,7 @@ module _ (s : List ℕ) (n : ℕ) where
   pub nothing-left : length s ≤ n → isEmpty (drop n s) ≡ true
   nothing-left h = ap isEmpty (drop-of-length-le s h)
 
--- All parts are read: the line is longer, or that was the whole line.
+-- All tokens are read: the line is longer, or that was the whole line.
 module _ {B : Type 0} {line : List ℕ} {said : Option B} {b : B} {at : ℕ} (l : Left line said (gives b) at) where
   pub line-longer : at < length line → said ≡ none
   unfolding bind
