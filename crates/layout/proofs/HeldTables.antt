@@ -20,7 +20,7 @@ use Rattle.table_reader.specs.Stores.{stored-none}
 use Rattle.table_reader.specs.TableReading.{HoldsTable, Holding, Adds, TableThere, TableRead}
 use Rattle.table_reader.proofs.HeldTables.{one-more, adds-none, adds-then}
 use Rattle.layout.specs.Taken.{taken-none, taken-more, taken-other, taken-all}
-use Rattle.layout.specs.TableLines.{noTableSaid, codesOf, TablesSoFar, TableLines}
+use Rattle.layout.specs.TableLines.{noTableSaid, storedEntries, TablesSoFar, TableLines}
 
 -- A list does not begin with two words that differ behind what they have in common.
 differ : (common : List ℕ) (u v : ℕ) (us vs xs : List ℕ) → (u ≡ v → ⊥) → (exactly (common ++ v ∷ vs) xs ≡ none → ⊥) → exactly (common ++ u ∷ us) xs ≡ none
@@ -44,7 +44,7 @@ flatMap-snoc f [] x = append-nil (f x)
 flatMap-snoc {B = B} f (y ∷ xs) x = ap {B = List B} (λ l. f y ++ l) (flatMap-snoc f xs x) ∙ sym (append-assoc (f y) (flatMap f xs) (f x))
 
 -- The store, whatever it was, holds the tables whose entries were added.
-store-said : {before after : List ℕ} (said : List Said.Table) → Adds 0 before after (codesOf said) → length before ≡ 4096 → Holding after (codesOf said)
+store-said : {before after : List ℕ} (said : List Said.Table) → Adds 0 before after (storedEntries said) → length before ≡ 4096 → Holding after (storedEntries said)
 store-said {before} said added wide = added .behind [] refl (record { wide = wide; stored = stored-none before })
 
 -- No line yet.
@@ -74,16 +74,16 @@ module _ {s : List ℕ} {at : ℕ} {before : List ℕ} {first : List Table} {cou
       counted = one-more (p .said) (t .said) (p .counted);
       holds = rw (is, p .counted) (held-more 64 HoldsTable noTable noTableSaid first (p .said) h (t .said) (p .wide) (p .holds) (t .holds));
       wide = ap length is ∙ length-set first count h ∙ p .wide;
-      added = rw codes (adds-then (codesOf (p .said)) more (omega (arith, p .filled)) (p .added) (t .added));
-      filled = rw codes (omega (arith, p .filled, t .holds .entryCount, length-append (codesOf (p .said)) more, length-map (t .said .entries) codeOf));
+      added = rw stored (adds-then (storedEntries (p .said)) more (omega (arith, p .filled)) (p .added) (t .added));
+      filled = rw stored (omega (arith, p .filled, t .holds .entryCount, length-append (storedEntries (p .said)) more, length-map (t .said .entries) codeOf));
       few = used-few;
     }
       where
         more : List ℕ
         more = map codeOf (t .said .entries)
 
-        codes : codesOf (p .said ++ t .said ∷ []) ≡ codesOf (p .said) ++ more
-        codes = flatMap-snoc (λ t. map codeOf (t .entries)) (p .said) (t .said)
+        stored : storedEntries (p .said ++ t .said ∷ []) ≡ storedEntries (p .said) ++ more
+        stored = flatMap-snoc (λ t. map codeOf (t .entries)) (p .said) (t .said)
 
   -- The lines end where one is no table line, or where the file ends.
   all-said : {after : List ℕ} → many (whole tableLine) (lines (drop at s)) ≡ some (p .said, lines (drop i s))
@@ -103,7 +103,7 @@ module _ {s : List ℕ} {at : ℕ} {before : List ℕ} {first : List Table} {cou
       → TableLines s at (record { first = first; count = count; next = i }) before after
   tables-other {end} e inside t n =
       all-said (taken-other (p .taken) e inside (t .answer .missing n))
-      (λ l ls q ends. let same : take (end - i) (drop i s) ≡ l = cc (e .cut inside) in t .kept (rw same (end-no-cost l ends)))
+      (λ l ls q ends. let same : take (end - i) (drop i s) ≡ l = cc (e .splits inside) in t .kept (rw same (end-no-cost l ends)))
 
   pub tables-all : length s ≤ i → TableLines s at (record { first = first; count = count; next = i }) before store
   tables-all over = all-said (taken-all (p .taken) over) (λ _ _ _ _. refl)

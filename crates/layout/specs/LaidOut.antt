@@ -12,7 +12,7 @@ use Rattle.lists.specs.Maps.{flatten-append, drop-last}
 use Rattle.table_reader.specs.TableReading.{Found, Holding}
 use Rattle.layout.specs.declared.Laid.{Laid}
 use Rattle.layout.specs.Reading.{HeldPatients}
-use Rattle.layout.specs.TableLines.{codesOf, TablesHeld}
+use Rattle.layout.specs.TableLines.{storedEntries, TablesHeld}
 
 -- What is held of a laid-out file: everything it says but for what has no place, and what the sum is taken over.
 pub record LaidThere (s : List ℕ) (r : Laid) (before after : List ℕ) : Type 0 where
@@ -26,7 +26,7 @@ pub record LaidThere (s : List ℕ) (r : Laid) (before after : List ℕ) : Type 
   pub patientsHeld : HeldPatients (r .patients .first) (tree .patients)
   pub tablesCounted : r .tables .count ≡ length (tree .tables)
   pub tablesHeld : TablesHeld (r .tables .first) (tree .tables)
-  pub stored : length before ≡ 4096 → Holding after (codesOf (tree .tables))
+  pub stored : length before ≡ 4096 → Holding after (storedEntries (tree .tables))
   pub body : flatten (dropLast (lines s)) ≡ take (r .end) s
   pub within : r .end ≤ length s
 
@@ -38,31 +38,31 @@ abbrev pub treeOf : ℕ × ℕ × ℕ → List Said.Patient → List Said.Table 
 treeOf head patients tables n =
     record { patientCount = head .0; tableCount = head .1; plansWanted = head .2; patients = patients; tables = tables; statedSum = n }
 
-module _ (s : List ℕ) {first : List ℕ} {after : List (List ℕ)} (cut : lines s ≡ first ∷ after) where
+module _ (s : List ℕ) {first : List ℕ} {after : List (List ℕ)} (split : lines s ≡ first ∷ after) where
   pub no-head : whole regionLine first ≡ none → layout s ≡ none
   unfolding layout regionLines bind
-  no-head e = rw (cut, e)
+  no-head e = rw (split, e)
 
   module _ {head : ℕ × ℕ × ℕ} (h : whole regionLine first ≡ some head)
       {patients : List Said.Patient} {below : List (List ℕ)} (p : many (whole patientLine) after ≡ some (patients, below))
       {tables : List Said.Table} {rest : List (List ℕ)} (t : many (whole tableLine) below ≡ some (tables, rest)) where
     pub no-last : rest ≡ [] → layout s ≡ none
     unfolding layout regionLines bind
-    no-last e = rw (cut, h, p, t, e)
+    no-last e = rw (split, h, p, t, e)
 
     module _ {last : List ℕ} {more : List (List ℕ)} (l : rest ≡ last ∷ more) where
       pub no-end : whole endLine last ≡ none → layout s ≡ none
       unfolding layout regionLines bind
-      no-end e = rw (cut, h, p, t, l, e)
+      no-end e = rw (split, h, p, t, l, e)
 
       module _ {n : ℕ} (e : whole endLine last ≡ some n) where
         pub more-lines : (x : List ℕ) (xs : List (List ℕ)) → more ≡ x ∷ xs → layout s ≡ none
         unfolding layout regionLines bind
-        more-lines x xs m = rw (cut, h, p, t, l, e, m)
+        more-lines x xs m = rw (split, h, p, t, l, e, m)
 
         pub laid-out : more ≡ [] → layout s ≡ some (treeOf head patients tables n)
         unfolding layout regionLines bind
-        laid-out m = rw (cut, h, p, t, l, e, m)
+        laid-out m = rw (split, h, p, t, l, e, m)
 
 pub no-lines : (s : List ℕ) → lines s ≡ [] → layout s ≡ none
 unfolding layout regionLines bind

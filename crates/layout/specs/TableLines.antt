@@ -16,8 +16,8 @@ abbrev pub noTableSaid : Said.Table
 noTableSaid = record { members = []; entries = [] }
 
 -- The numbers of some tables: their entries one after the other.
-abbrev pub codesOf : List Said.Table → List ℕ
-codesOf tables = flatMap (λ t. map codeOf (t .entries)) tables
+abbrev pub storedEntries : List Said.Table → List ℕ
+storedEntries tables = flatMap (λ t. map codeOf (t .entries)) tables
 
 -- The first 64 of the tables that are said are held.
 abbrev pub TablesHeld : List Table → List Said.Table → Type 0
@@ -30,8 +30,8 @@ pub record TablesSoFar (s : List ℕ) (at : ℕ) (before : List ℕ) (first : Li
   pub counted : count ≡ length said
   pub holds : TablesHeld first said
   pub wide : length first ≡ 64
-  pub added : Adds 0 before after (codesOf said)
-  pub filled : used ≡ length (codesOf said)
+  pub added : Adds 0 before after (storedEntries said)
+  pub filled : used ≡ length (storedEntries said)
   pub few : used ≤ i
 
 -- The tables that the lines from a place on say, and the place of the lines after them. Where the end line follows, the store has their entries.
@@ -42,4 +42,4 @@ pub record TableLines (s : List ℕ) (at : ℕ) (r : Tables) (before after : Lis
   pub holds : TablesHeld (r .first) said
   pub ahead : at ≤ r .next
   pub within : r .next ≤ max at (length s)
-  pub stored : length before ≡ 4096 → (l : List ℕ) (ls : List (List ℕ)) → lines (drop (r .next) s) ≡ l ∷ ls → isSome (whole endLine l) ≡ true → Holding after (codesOf said)
+  pub stored : length before ≡ 4096 → (l : List ℕ) (ls : List (List ℕ)) → lines (drop (r .next) s) ≡ l ∷ ls → isSome (whole endLine l) ≡ true → Holding after (storedEntries said)

@@ -48,7 +48,7 @@ module _ {A : Type 0} {f : List ℕ → Option A} {s : List ℕ} {at : ℕ} wher
     -- One more line.
     pub taken-more : {end : ℕ} {a : A} → LineEnd s i end → i < length s → f (take (end - i) (drop i s)) ≡ some a → Taken f s at (done ++ a ∷ []) end
     taken-more {end} {a} e h q = record {
-      goesOn = t .goesOn ∙ ap (λ ls. after f done (many f ls)) (e .cut h) ∙ many-taken f done (take (end - i) (drop i s)) (lines (drop end s)) a q;
+      goesOn = t .goesOn ∙ ap (λ ls. after f done (many f ls)) (e .splits h) ∙ many-taken f done (take (end - i) (drop i s)) (lines (drop end s)) a q;
       ahead = omega (arith, t .ahead, e .ahead);
       within = omega (arith, e .within);
       few = omega (arith, length-append done (a ∷ []), t .few, e .ahead);
@@ -57,8 +57,8 @@ module _ {A : Type 0} {f : List ℕ → Option A} {s : List ℕ} {at : ℕ} wher
     -- A line that is not taken; no line.
     pub taken-other : {end : ℕ} → LineEnd s i end → i < length s → f (take (end - i) (drop i s)) ≡ none → many f (lines (drop at s)) ≡ some (done, lines (drop i s))
     taken-other {end} e h q =
-        t .goesOn ∙ ap (λ ls. after f done (many f ls)) (e .cut h) ∙ many-left f done (take (end - i) (drop i s)) (lines (drop end s)) q
-        ∙ ap {B = Option (List A × List (List ℕ))} (λ ls. some (done, ls)) (sym (e .cut h))
+        t .goesOn ∙ ap (λ ls. after f done (many f ls)) (e .splits h) ∙ many-left f done (take (end - i) (drop i s)) (lines (drop end s)) q
+        ∙ ap {B = Option (List A × List (List ℕ))} (λ ls. some (done, ls)) (sym (e .splits h))
 
     pub taken-all : length s ≤ i → many f (lines (drop at s)) ≡ some (done, lines (drop i s))
     taken-all h =

@@ -11,8 +11,9 @@ use lib.Seq.{drop-cons, take-all, take-suc-set}
 use borrow.Author.Tests.{leb-true, leb-false}
 use Rattle.definitions.specs.Basics.{Option, none, some, Option·map, bind}
 use Rattle.definitions.specs.Layout.{exactly, word, number, hyphenOrNumber}
+use Rattle.scanner.specs.Words.{formStart}
 use Rattle.scanner.specs.Answers.{ReadAt, there, missing}
-use Rattle.scanner.specs.Parts.{Left, part, gives, part-there, part-missing, line-longer, line-whole}
+use Rattle.scanner.specs.Tokens.{Left, token, gives, token-there, token-missing, line-longer, line-whole}
 use Rattle.line_reader.specs.Forms.{fieldValue, field, fieldsLeft, form, fieldValues, valuesIf}
 
 -- A field by its kind.
@@ -37,48 +38,48 @@ pub record FieldsRead (line opening : List ℕ) (kinds : List Bool) (values : Li
   pub left : Left line (fieldValues opening kinds line) (fieldsLeft (drop i kinds) (take i values)) at
 
 -- The opening word is there, or it is missing.
-module _ {line : List ℕ} (opening : List ℕ) (kinds : List Bool) {p : Option (Unit {0} × ℕ)} (h : ReadAt (exactly opening) line 0 p) where
+module _ {line : List ℕ} (opening : List ℕ) (kinds : List Bool) {p : Option (Unit {0} × ℕ)} (h : ReadAt (exactly (formStart opening)) line 0 p) where
   form-left : Left line (fieldValues opening kinds line) (form opening kinds) 0
   unfolding fieldValues
   form-left = record { says = refl }
 
   pub opening-there : {values : List ℕ} {start : ℕ} → length values ≡ length kinds → p ≡ some (tt, start) → FieldsRead line opening kinds values start 0
-  opening-there wide e = record { few = omega arith; wide = wide; left = part-there form-left h e }
+  opening-there wide e = record { few = omega arith; wide = wide; left = token-there form-left h e }
 
   pub opening-missing : p ≡ none → none ≡ fieldValues opening kinds line
-  opening-missing e = sym (part-missing form-left h e)
+  opening-missing e = sym (token-missing form-left h e)
 
 module _ {line opening : List ℕ} {kinds : List Bool} {values : List ℕ} {at i : ℕ} (f : FieldsRead line opening kinds values at i) {p : Option (Unit {0} × ℕ)} where
   -- Another field: a space, and its value.
   module _ (more : i < length kinds) (h : ReadAt (word " ") line at p) where
     next-left : Left line (fieldValues opening kinds line)
-        (part (word " ") λ _. part (field (getD kinds i false)) λ v. fieldsLeft (drop (suc i) kinds) (take i values ++ v ∷ [])) at
+        (token (word " ") λ _. token (field (getD kinds i false)) λ v. fieldsLeft (drop (suc i) kinds) (take i values ++ v ∷ [])) at
     next-left = rw (drop-cons kinds i false more) at (f .left)
 
     pub space-missing : p ≡ none → none ≡ fieldValues opening kinds line
-    space-missing e = sym (part-missing next-left h e)
+    space-missing e = sym (token-missing next-left h e)
 
     module _ {begin : ℕ} (e : p ≡ some (tt, begin)) {o : Option (ℕ × ℕ)} (k : ReadAt (field (getD kinds i false)) line begin o) where
       pub field-missing : o ≡ none → none ≡ fieldValues opening kinds line
-      field-missing q = sym (part-missing (part-there next-left h e) k q)
+      field-missing q = sym (token-missing (token-there next-left h e) k q)
 
       pub field-there : {v next : ℕ} → o ≡ some (v, next) → FieldsRead line opening kinds (set values i v) next (i + 1)
       field-there {v} q = record {
         few = omega arith;
         wide = length-set values i v ∙ f .wide;
-        left = rw (add-one, take-suc-set values i v (omega (arith, f .wide))) (part-there (part-there next-left h e) k q);
+        left = rw (add-one, take-suc-set values i v (omega (arith, f .wide))) (token-there (token-there next-left h e) k q);
       }
 
   -- All fields are read: the end of the form, and the end of the line.
   module _ (all : length kinds ≤ i) (h : ReadAt (word ")\n") line at p) where
-    end-left : Left line (fieldValues opening kinds line) (part (word ")\n") λ _. gives values) at
+    end-left : Left line (fieldValues opening kinds line) (token (word ")\n") λ _. gives values) at
     end-left = rw (drop-of-length-le kinds all, take-all i values (omega (arith, f .wide))) at (f .left)
 
     pub end-missing : p ≡ none → none ≡ fieldValues opening kinds line
-    end-missing e = sym (part-missing end-left h e)
+    end-missing e = sym (token-missing end-left h e)
 
     pub form-there : {end : ℕ} → p ≡ some (tt, end) → valuesIf (leb (length line) end) values ≡ fieldValues opening kinds line
-    form-there {end} e = go (leb (length line) end) refl (part-there end-left h e)
+    form-there {end} e = go (leb (length line) end) refl (token-there end-left h e)
       where
         go : (t : Bool) → leb (length line) end ≡ t → Left line (fieldValues opening kinds line) (gives values) end
             → valuesIf t values ≡ fieldValues opening kinds line

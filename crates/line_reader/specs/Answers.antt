@@ -14,7 +14,7 @@ use Rattle.line_reader.specs.declared.EndLine.the-variants.{Is as IsEnd,
 
 -- The line that begins at a place ends at r, and the other lines begin there. At the end, and behind it, r is the length.
 pub record LineEnd (s : List ℕ) (at r : ℕ) : Type 0 where
-  pub cut : at < length s → lines (drop at s) ≡ take (r - at) (drop at s) ∷ lines (drop r s)
+  pub splits : at < length s → lines (drop at s) ≡ take (r - at) (drop at s) ∷ lines (drop r s)
   pub ahead : min (at + 1) (length s) ≤ r
   pub within : r ≤ length s
 

@@ -1,10 +1,12 @@
--- A form without lists: its opening word, its fields by their kinds, one space before each, and its end.
+-- A form without lists: its word, its fields by their kinds, one space before each, and its end.
 use mathlib.Core.Path.{sym, ap}
 use native.Mathlib.Omega.{arith}
 use borrow.Author.Tests.{ltb-true, ne-eqb}
 use Rattle.theorems.specs.Numbers.{hyphen-reads}
-use Rattle.scanner.specs.Parts.{Form, part, gives, read}
-use Rattle.definitions.specs.Basics.{ℕ, _^_, _<_, _≡_, refl, Bool, true, false, cond, Option, none, some, Option·map, bind, List, [], _∷_, _++_, getD, eqb, text, noneOr}
+use Rattle.scanner.specs.Classes.{isLetter}
+use Rattle.scanner.specs.Words.{formStart}
+use Rattle.scanner.specs.Tokens.{Form, token, gives, read}
+use Rattle.definitions.specs.Basics.{ℕ, _^_, _<_, _≡_, refl, Bool, true, false, cond, Option, none, some, Option·map, bind, List, [], _∷_, _++_, getD, length, eqb, text, every, noneOr}
 use Rattle.definitions.specs.Limits.{digitCount, limits}
 use Rattle.definitions.specs.Spelling.{spellable}
 use Rattle.definitions.specs.Syntax.{Patient}
@@ -28,15 +30,20 @@ field false = number
 
 -- The fields that are left, after those of these values.
 abbrev pub fieldsLeft : List Bool → List ℕ → Form (List ℕ)
-fieldsLeft [] values = part (word ")\n") λ _. gives values
-fieldsLeft (k ∷ ks) values = part (word " ") λ _. part (field k) λ v. fieldsLeft ks (values ++ v ∷ [])
+fieldsLeft [] values = token (word ")\n") λ _. gives values
+fieldsLeft (k ∷ ks) values = token (word " ") λ _. token (field k) λ v. fieldsLeft ks (values ++ v ∷ [])
 
 abbrev pub form : List ℕ → List Bool → Form (List ℕ)
-form opening kinds = part (exactly opening) λ _. fieldsLeft kinds []
+form word kinds = token (exactly (formStart word)) λ _. fieldsLeft kinds []
 
 -- The values of the fields of a line that has the form and nothing behind it.
 unfoldable pub fieldValues : List ℕ → List Bool → List ℕ → Option (List ℕ)
-fieldValues opening kinds line = whole (read (form opening kinds)) line
+fieldValues word kinds line = whole (read (form word kinds)) line
+
+-- What a reader of a form is given: a word of letters, and a place for the value of each field.
+pub record FormAsked (word : List ℕ) (kinds : List Bool) (values : List ℕ) : Type 0 where
+  pub letters : every isLetter word ≡ true
+  pub wide : length values ≡ length kinds
 
 abbrev pub valuesIf : Bool → List ℕ → Option (List ℕ)
 valuesIf there values = cond there (some values) none
@@ -97,14 +104,14 @@ abbrev pub endSaid : List ℕ → ℕ
 endSaid values = getD values 0 0
 
 module _ (xs : List ℕ) where
-  pub region-form : whole regionLine xs ≡ Option·map regionSaid (fieldValues (text "(region") (false ∷ false ∷ false ∷ []) xs)
+  pub region-form : whole regionLine xs ≡ Option·map regionSaid (fieldValues (text "region") (false ∷ false ∷ false ∷ []) xs)
   unfolding regionLine fieldValues
   region-form = simp (number-by-value, bind-bind, bind-some, map-bind, map-cond)
 
-  pub patient-form : whole patientLine xs ≡ Option·map patientSaid (fieldValues (text "(patient") (false ∷ false ∷ true ∷ []) xs)
+  pub patient-form : whole patientLine xs ≡ Option·map patientSaid (fieldValues (text "patient") (false ∷ false ∷ true ∷ []) xs)
   unfolding patientLine fieldValues
   patient-form = simp (hyphen-by-value, number-by-value, bind-bind, bind-some, map-bind, map-cond)
 
-  pub end-form : whole endLine xs ≡ Option·map endSaid (fieldValues (text "(end") (false ∷ []) xs)
+  pub end-form : whole endLine xs ≡ Option·map endSaid (fieldValues (text "end") (false ∷ []) xs)
   unfolding endLine fieldValues
   end-form = simp (number-by-value, bind-bind, bind-some, map-bind, map-cond)

@@ -18,12 +18,12 @@ pub record Seeking (s : List ℕ) (at i : ℕ) : Type 0 where
   pub high : i ≤ max at (length s)
   pub same : i + lineLength (drop i s) ≡ at + lineLength (drop at s)
 
--- Does the line go on at a place? At the four places from one on?
-abbrev pub goesOn : List ℕ → ℕ → Bool
-goesOn s i = not (eqb (getD s i 0) 10)
+-- Is the byte at a place no line end? Are the four from a place on none?
+abbrev pub noEnd : List ℕ → ℕ → Bool
+noEnd s i = not (eqb (getD s i 0) 10)
 
-abbrev pub fourGoOn : List ℕ → ℕ → Bool
-fourGoOn s i = goesOn s i && (goesOn s (i + 1) && (goesOn s (i + 2) && goesOn s (i + 3)))
+abbrev pub noEndInFour : List ℕ → ℕ → Bool
+noEndInFour s i = noEnd s i && (noEnd s (i + 1) && (noEnd s (i + 2) && noEnd s (i + 3)))
 
 module _ (b : ℕ) (bs : List ℕ) where
   pub line-ends : b ≡ 10 → lineLength (b ∷ bs) ≡ 1
@@ -33,9 +33,9 @@ module _ (b : ℕ) (bs : List ℕ) where
   line-goes-on e = rw (ne-eqb b 10 e, lineLength)
 
 -- The first line, and the lines after it.
-pub lines-cut : (xs : List ℕ) → 0 < length xs → lines xs ≡ take (lineLength xs) xs ∷ lines (drop (lineLength xs) xs)
-lines-cut [] h = absurd (omega arith)
-lines-cut (b ∷ bs) h = go (eqb b 10) refl bs (lines-cut bs)
+pub lines-split : (xs : List ℕ) → 0 < length xs → lines xs ≡ take (lineLength xs) xs ∷ lines (drop (lineLength xs) xs)
+lines-split [] h = absurd (omega arith)
+lines-split (b ∷ bs) h = go (eqb b 10) refl bs (lines-split bs)
   where
     go : (t : Bool) → eqb b 10 ≡ t → (cs : List ℕ) → (0 < length cs → lines cs ≡ take (lineLength cs) cs ∷ lines (drop (lineLength cs) cs))
         → lines (b ∷ cs) ≡ take (lineLength (b ∷ cs)) (b ∷ cs) ∷ lines (drop (lineLength (b ∷ cs)) (b ∷ cs))

@@ -3,9 +3,12 @@ use scanner::Entry;
 use scanner::Number;
 use scanner::Optional;
 use scanner::Passed;
+use scanner::form_end_at;
+use scanner::form_start_at;
 use scanner::hyphen_or_number_at;
+use scanner::is_line_end;
 use scanner::number_at;
-use scanner::word_at;
+use scanner::space_at;
 ghost use mathlib.Core.Path.{_≡_};
 ghost use Prim.Native.Nat.{_+_, _≤_};
 ghost use lib.ListN.{length};
@@ -14,15 +17,16 @@ ghost use Rattle.definitions.specs.Limits.{fileLength, limits};
 ghost use Rattle.definitions.specs.Questions.{checksum};
 ghost use Rattle.scanner.specs.Answers.{ReadAt, numberRead, optional};
 ghost use Rattle.line_reader.specs.Answers.{LineEnd, regionRead, patientRead, endRead};
-ghost use Rattle.line_reader.specs.Forms.{fieldValue, fieldSaid, field, fieldValues, valuesIf};
-ghost use Rattle.line_reader.specs.Lines.{Seeking, fourGoOn};
+ghost use Rattle.line_reader.specs.Forms.{FormAsked, fieldValue, fieldSaid, field, fieldValues, valuesIf};
+ghost use Rattle.line_reader.specs.Lines.{Seeking, noEndInFour};
 
-// Are the four bytes from a place on no line ends?
-fn four_go_on(s: &[u8], at: usize) -> bool
+// Is none of the four bytes from a place on a line end?
+fn no_end_in_four(s: &[u8], at: usize) -> bool
     requires { ⌜ at + 4 ≤ length (now s) ⌝ }
-    ensures { λ r. ⌜ r ≡ fourGoOn (now (s .entry)) at ⌝ }
+    ensures { λ r. ⌜ r ≡ noEndInFour (now (s .entry)) at ⌝ }
 {
-    s[at] != b'\n' && (s[at + 1] != b'\n' && (s[at + 2] != b'\n' && s[at + 3] != b'\n'))
+    !is_line_end(s[at])
+        && (!is_line_end(s[at + 1]) && (!is_line_end(s[at + 2]) && !is_line_end(s[at + 3])))
 }
 
 // A place on the line that begins at a place: eight bytes at a time are passed while none of them ends the line.
@@ -34,10 +38,10 @@ fn pass_eights(s: &[u8], at: usize) -> usize
         if s.len() - i < 8 {
             return i;
         }
-        if !four_go_on(s, i) {
+        if !no_end_in_four(s, i) {
             return i;
         }
-        if !four_go_on(s, i + 4) {
+        if !no_end_in_four(s, i + 4) {
             return i;
         }
         i += 8;
@@ -51,7 +55,7 @@ pub fn line_end(s: &[u8], at: usize) -> usize
 {
     let mut i = pass_eights(s, at);
     while i < s.len() {
-        if s[i] == b'\n' {
+        if is_line_end(s[i]) {
             return i + 1;
         }
         i += 1;
@@ -118,18 +122,18 @@ fn field_at(line: &[u8], at: usize, hyphen: bool) -> Number
     }
 }
 
-// Is a line this opening word, fields of these kinds, one space before each, and the end of a form? Then the values are theirs.
-fn read_form(line: &[u8], opening: &[u8], kinds: &[bool], values: &mut [u32]) -> bool
-    requires { ⌜ length (now values) ≡ length (now kinds) ⌝ }
-    ensures { λ r. ⌜ valuesIf r (now (values .exit)) ≡ fieldValues (now (opening .entry)) (now (kinds .entry)) (now (line .entry)) ⌝ }
+// Is a line a form of this word, with fields of these kinds, one space before each? Then the values are theirs.
+fn read_form(line: &[u8], word: &[u8], kinds: &[bool], values: &mut [u32]) -> bool
+    requires { ⌜ FormAsked (now word) (now kinds) (now values) ⌝ }
+    ensures { λ r. ⌜ valuesIf r (now (values .exit)) ≡ fieldValues (now (word .entry)) (now (kinds .entry)) (now (line .entry)) ⌝ }
 {
-    let Passed::At(start) = word_at(line, 0, opening) else {
+    let Passed::At(start) = form_start_at(line, 0, word) else {
         return false;
     };
     let mut at = start;
     let mut k = 0;
     while k < kinds.len() {
-        let Passed::At(begin) = word_at(line, at, b" ") else {
+        let Passed::At(begin) = space_at(line, at) else {
             return false;
         };
         let Number::Value(value, next) = field_at(line, begin, kinds[k]) else {
@@ -139,7 +143,7 @@ fn read_form(line: &[u8], opening: &[u8], kinds: &[bool], values: &mut [u32]) ->
         at = next;
         k += 1;
     }
-    let Passed::At(end) = word_at(line, at, b")\n") else {
+    let Passed::At(end) = form_end_at(line, at) else {
         return false;
     };
     line.len() <= end
@@ -155,7 +159,7 @@ pub fn region_line(line: &[u8]) -> RegionLine
     ensures { λ r. ⌜ regionRead r ≡ whole regionLine (now (line .entry)) ⌝ }
 {
     let mut values = [0; 3];
-    if read_form(line, b"(region", &[NUMBER, NUMBER, NUMBER], &mut values) {
+    if read_form(line, b"region", &[NUMBER, NUMBER, NUMBER], &mut values) {
         RegionLine::Is(values[0], values[1], values[2])
     } else {
         RegionLine::Other
@@ -172,7 +176,7 @@ pub fn patient_line(line: &[u8]) -> PatientLine
     ensures { λ r. ⌜ patientRead r ≡ whole patientLine (now (line .entry)) ⌝ }
 {
     let mut values = [0; 3];
-    if read_form(line, b"(patient", &[NUMBER, NUMBER, OPTIONAL], &mut values) {
+    if read_form(line, b"patient", &[NUMBER, NUMBER, OPTIONAL], &mut values) {
         PatientLine::Is(values[0], values[1], said_by(values[2]))
     } else {
         PatientLine::Other
@@ -189,7 +193,7 @@ pub fn end_line(line: &[u8]) -> EndLine
     ensures { λ r. ⌜ endRead r ≡ whole endLine (now (line .entry)) ⌝ }
 {
     let mut values = [0; 1];
-    if read_form(line, b"(end", &[NUMBER], &mut values) {
+    if read_form(line, b"end", &[NUMBER], &mut values) {
         EndLine::Is(values[0])
     } else {
         EndLine::Other

@@ -24,9 +24,9 @@ use Rattle.held_region.specs.Entries.{countsMatch, counts-by-places, total-said
 use Rattle.held_region.specs.Refusals.{asked, lastAsked}
 use Rattle.table_reader.specs.TableReading.{HoldsTable, Holding}
 use Rattle.layout.specs.Reading.{HeldPatients}
-use Rattle.layout.specs.TableLines.{codesOf, TablesHeld}
+use Rattle.layout.specs.TableLines.{storedEntries, TablesHeld}
 use Rattle.reader.specs.Loading.{StandsFor}
-use Rattle.reader.proofs.Codes.{stands-held}
+use Rattle.reader.proofs.StoredEntries.{stands-held}
 
 -- ---- places
 
@@ -92,7 +92,7 @@ pub record ReadFrom (h : Region) (store : List ℕ) (r : Said.Region) : Type 0 w
   pub summed : r .statedSum ≡ checksum (spellBody r)
   pub patients : HeldPatients (h .patients) (r .patients)
   pub tables : TablesHeld (h .tables) (r .tables)
-  pub entries : Holding store (codesOf (r .tables))
+  pub entries : Holding store (storedEntries (r .tables))
   pub unmarked : every unmarked (r .tables) ≡ true
 
 module _ (h : Region) (store : List ℕ) (r : Said.Region) (read : ReadFrom h store r) where

@@ -1,3 +1,3 @@
-pub mod Codes
+pub mod StoredEntries
 pub mod Faithful
 pub mod Loads

@@ -1,7 +1,7 @@
 -- The class of a byte, from the range it was found in.
 use mathlib.Core.Path.{_≡_, refl, ap, sym, _∙_}
 use mathlib.Core.List.{List, [], _∷_}
-use mathlib.Core.Bool.{false, not, _&&_, and-false}
+use mathlib.Core.Bool.{true, false, not, _&&_, and-false}
 use Prim.Native.Nat.{ℕ, _-_, _≤_, _<_}
 use native.Mathlib.Decide.{decLt}
 use native.Mathlib.Omega.{arith}
@@ -11,11 +11,12 @@ use mir.Val.{hasKey}
 use lib.Dec.{T, leb}
 use lib.ListN.{length, getD, drop, drop-of-length-le}
 use lib.Seq.{drop-cons}
-use borrow.Author.Tests.{le-leb, lt-leb, ne-eqb}
+use borrow.Author.Tests.{leb-true, le-leb, lt-leb, ne-eqb}
 use Rattle.scanner.specs.declared.Class.{Class}
 use Rattle.scanner.proofs.Class.{the-type}
 use Rattle.scanner.specs.declared.Class.the-variants.{Digit, Letter, Other}
-use Rattle.scanner.specs.Classes.{classOf, firstClass, NoDigit, digit-says, other-not}
+use Rattle.lists.specs.Tests.{both}
+use Rattle.scanner.specs.Classes.{isLetter, classOf, firstClass, NoDigit, digit-says, other-not}
 
 -- A byte outside a range fails its test.
 module _ (b : ℕ) where
@@ -29,10 +30,13 @@ module _ (b : ℕ) where
   unfolding classOf
   is-digit l h = simp (le-leb 48 b l, le-leb b 57 (omega arith))
 
-  pub is-letter : 97 ≤ b → b < 123 → classOf b ≡ Letter
+  pub is-letter : 97 ≤ b → b < 123 → classOf b ≡ Letter b
   unfolding classOf
   is-letter l h =
       simp (over 48 57 (omega arith), ne-eqb b 40 (λ e. omega arith), ne-eqb b 41 (λ e. omega arith), ne-eqb b 32 (λ e. omega arith), ne-eqb b 45 (λ e. omega arith), le-leb 97 b l, le-leb b 122 (omega arith))
+
+  pub letter-class : isLetter b ≡ true → classOf b ≡ Letter b
+  letter-class h = let (l, u) = both (leb 97 b) h in is-letter (leb-true 97 b l) (omega (arith, leb-true b 122 u))
 
   module _ (no-open : b ≡ 40 → ⊥) (no-close : b ≡ 41 → ⊥) (no-space : b ≡ 32 → ⊥) (no-hyphen : b ≡ 45 → ⊥) (no-end : b ≡ 10 → ⊥) where
     other : (leb 48 b && leb b 57) ≡ false → (leb 97 b && leb b 122) ≡ false → classOf b ≡ Other

@@ -9,7 +9,7 @@ use Rattle.lists.specs.Tests.{both}
 use Rattle.scanner.specs.declared.Class.{Class}
 use Rattle.scanner.specs.declared.Class.the-variants.{Digit, Open, Close, Space, Hyphen, Letter, LineEnd, Other}
 
-abbrev isLetter : ℕ → Bool
+abbrev pub isLetter : ℕ → Bool
 isLetter b = leb (code "a") b && leb b (code "z")
 
 -- The class of a byte.
@@ -20,7 +20,7 @@ classOf b =
     (cond (eqb b (code ")")) Close
     (cond (eqb b (code " ")) Space
     (cond (eqb b (code "-")) Hyphen
-    (cond (isLetter b) Letter
+    (cond (isLetter b) (Letter b)
     (cond (eqb b 10) LineEnd Other))))))
 
 -- The class of the first byte; where nothing is left it is Other.
@@ -35,7 +35,7 @@ isOf Open b = eqb b (code "(")
 isOf Close b = eqb b (code ")")
 isOf Space b = eqb b (code " ")
 isOf Hyphen b = eqb b (code "-")
-isOf Letter b = isLetter b
+isOf (Letter l) b = isLetter b && eqb l b
 isOf LineEnd b = eqb b 10
 isOf Other b = true
 
@@ -47,7 +47,7 @@ class-is b =
     (go (eqb b (code ")")) Close _ (λ e. e)
     (go (eqb b (code " ")) Space _ (λ e. e)
     (go (eqb b (code "-")) Hyphen _ (λ e. e)
-    (go (isLetter b) Letter _ (λ e. e)
+    (go (isLetter b) (Letter b) _ (λ e. rw (e, eq-eqb b b refl))
     (go (eqb b 10) LineEnd Other (λ e. e) refl))))))
   where
     go : (t : Bool) (c d : Class) → (t ≡ true → isOf c b ≡ true) → isOf d b ≡ true → isOf (cond t c d) b ≡ true
@@ -85,6 +85,10 @@ digit-not b n = go (isDigit b) refl
     go : (t : Bool) → isDigit b ≡ t → t ≡ false
     go true e = absurd (n (b - code "0") (rw e))
     go false e = refl
+
+-- What the class of a letter says: it comes with its byte.
+pub letter-says : (b : ℕ) {l : ℕ} → classOf b ≡ Letter l → l ≡ b
+letter-says b {l} e = eqb-true l b (both (isLetter b) (class-says b e) .1)
 
 pub other-not : {d : ℕ} → Other ≡ Digit d → ⊥
 other-not e = let z : _≡_ {A = ℕ} 0 1 = cc in omega arith

@@ -3,10 +3,10 @@ use mathlib.Core.Path.{sym, ap, _∙_}
 use mathlib.Core.Bool.{false≢true}
 use Prim.Native.Char.{code}
 use borrow.Author.Tests.{eqb-true}
-use Rattle.definitions.specs.Basics.{ℕ, _≡_, refl, Bool, true, false, not, _&&_, cond, Option, none, some, bind, Option·map, List, [], _∷_, _++_, eqb, every, isEmpty, noneOr, length, onAll}
+use Rattle.definitions.specs.Basics.{ℕ, _≡_, refl, Bool, true, false, not, _&&_, cond, Option, none, some, bind, Option·map, List, [], _∷_, _++_, eqb, every, isEmpty, noneOr, onAll}
 use Rattle.definitions.specs.Layout.{Reader, _>>=_, _>>_, give, giveIf, many, passing, word, whole, pieces, ontoFirst, items}
 use Rattle.lists.specs.Tests.{both}
-use Rattle.scanner.specs.Spans.{front, back, front-on, back-on, many-cuts, front-passes, back-fails}
+use Rattle.scanner.specs.Spans.{takeWhile, dropWhile, takeWhile-on, dropWhile-on, many-span, takeWhile-passes, dropWhile-fails}
 use Rattle.scanner.specs.Separators.{separator}
 
 -- Is a byte inside a list? Is it inside an item? A list ends at its bracket, an item at a space too.
@@ -41,34 +41,34 @@ items-open item xs = refl
 -- By what stands after a list's first item: the pieces that follow it, and what follows the list.
 abbrev morePieces : List ℕ → List (List ℕ)
 morePieces [] = []
-morePieces (b ∷ bs) = elim (eqb b (code " ")) [ true ↦ pieces (front inList bs) | false ↦ [] ]
+morePieces (b ∷ bs) = elim (eqb b (code " ")) [ true ↦ pieces (takeWhile inList bs) | false ↦ [] ]
 
 abbrev afterList : List ℕ → List ℕ
 afterList [] = []
-afterList (b ∷ bs) = elim (eqb b (code " ")) [ true ↦ back inList bs | false ↦ b ∷ bs ]
+afterList (b ∷ bs) = elim (eqb b (code " ")) [ true ↦ dropWhile inList bs | false ↦ b ∷ bs ]
 
 module _ (b : ℕ) (bs : List ℕ) where
-  piece-by : Kind b → pieces (front inList bs) ≡ front inItem bs ∷ morePieces (back inItem bs) → pieces (front inList (b ∷ bs)) ≡ front inItem (b ∷ bs) ∷ morePieces (back inItem (b ∷ bs))
+  piece-by : Kind b → pieces (takeWhile inList bs) ≡ takeWhile inItem bs ∷ morePieces (dropWhile inItem bs) → pieces (takeWhile inList (b ∷ bs)) ≡ takeWhile inItem (b ∷ bs) ∷ morePieces (dropWhile inItem (b ∷ bs))
   piece-by (space e) ih = rw e
   piece-by (close e) ih = rw e
-  piece-by (plain e q) ih = rw (front-on inList b bs (rw q), front-on inItem b bs (rw (e, q)), back-on inItem b bs (rw (e, q)), e, pieces) (ap (ontoFirst b) ih)
+  piece-by (plain e q) ih = rw (takeWhile-on inList b bs (rw q), takeWhile-on inItem b bs (rw (e, q)), dropWhile-on inItem b bs (rw (e, q)), e, pieces) (ap (ontoFirst b) ih)
 
-  after-by : Kind b → back inList bs ≡ afterList (back inItem bs) → back inList (b ∷ bs) ≡ afterList (back inItem (b ∷ bs))
+  after-by : Kind b → dropWhile inList bs ≡ afterList (dropWhile inItem bs) → dropWhile inList (b ∷ bs) ≡ afterList (dropWhile inItem (b ∷ bs))
   after-by (space e) ih = rw e
   after-by (close e) ih = rw e
-  after-by (plain e q) ih = rw (back-on inList b bs (rw q), back-on inItem b bs (rw (e, q))) ih
+  after-by (plain e q) ih = rw (dropWhile-on inList b bs (rw q), dropWhile-on inItem b bs (rw (e, q))) ih
 
-first-piece : (xs : List ℕ) → pieces (front inList xs) ≡ front inItem xs ∷ morePieces (back inItem xs)
+first-piece : (xs : List ℕ) → pieces (takeWhile inList xs) ≡ takeWhile inItem xs ∷ morePieces (dropWhile inItem xs)
 first-piece [] = refl
 first-piece (b ∷ bs) = piece-by b bs (kind b) (first-piece bs)
 
-after-list : (xs : List ℕ) → back inList xs ≡ afterList (back inItem xs)
+after-list : (xs : List ℕ) → dropWhile inList xs ≡ afterList (dropWhile inItem xs)
 after-list [] = refl
 after-list (b ∷ bs) = after-by b bs (kind b) (after-list bs)
 
 -- An item reader that looks at nothing behind an item: it reads an item alone as it does before other bytes, and leaves none of those.
 pub record Bounded {A : Type 0} (item : Reader ℕ A) : Type 0 where
-  pub before : (xs : List ℕ) → item xs ≡ Option·map (λ r. (r .0, r .1 ++ back inItem xs)) (item (front inItem xs))
+  pub before : (xs : List ℕ) → item xs ≡ Option·map (λ r. (r .0, r .1 ++ dropWhile inItem xs)) (item (takeWhile inItem xs))
   pub rest : (p : List ℕ) → every inItem p ≡ true → noneOr (λ r. every inItem (r .1)) (item p) ≡ true
 
 module _ {A : Type 0} (item : Reader ℕ A) where
@@ -77,9 +77,9 @@ module _ {A : Type 0} (item : Reader ℕ A) where
   afterItem a = do more ← separator; cond more (do others ← itemsFrom item; give (a ∷ others)) (give (a ∷ []))
 
   -- The list as its first item and what follows it.
-  cut : (xs : List ℕ) → itemsFrom item xs ≡ bind (word ")" (afterList (back inItem xs))) (λ q. giveIf (onAll (whole item) (front inItem xs ∷ morePieces (back inItem xs))) (q .1))
+  first-item : (xs : List ℕ) → itemsFrom item xs ≡ bind (word ")" (afterList (dropWhile inItem xs))) (λ q. giveIf (onAll (whole item) (takeWhile inItem xs ∷ morePieces (dropWhile inItem xs))) (q .1))
   unfolding itemsFrom bind
-  cut xs = rw (many-cuts inList xs, first-piece xs, after-list xs)
+  first-item xs = rw (many-span inList xs, first-piece xs, after-list xs)
 
   -- Where there is no item, what follows does not matter; and an item goes in front of those that follow.
   nowhere : {B C : Type 0} (o : Option B) → bind {B = C} o (λ r. none) ≡ none
@@ -97,7 +97,7 @@ module _ {A : Type 0} (item : Reader ℕ A) where
   after-whole : (a : A) (b : ℕ) (bs : List ℕ) → Kind b → inItem b ≡ false
       → bind (word ")" (afterList (b ∷ bs))) (λ q. giveIf (Option·map (λ l. a ∷ l) (onAll (whole item) (morePieces (b ∷ bs)))) (q .1)) ≡ afterItem a (b ∷ bs)
   unfolding afterItem itemsFrom separator bind
-  after-whole a b bs (space e) f = rw (e, many-cuts inList bs) (onto-all a (word ")" (back inList bs)) (onAll (whole item) (pieces (front inList bs))))
+  after-whole a b bs (space e) f = rw (e, many-span inList bs) (onto-all a (word ")" (dropWhile inList bs)) (onAll (whole item) (pieces (takeWhile inList bs))))
   after-whole a b bs (close e) f = rw e
   after-whole a b bs (plain e q) f = absurd (false≢true (sym f ∙ rw (e, q)))
 
@@ -123,14 +123,14 @@ module _ {A : Type 0} (item : Reader ℕ A) where
   -- One after the other: a list is an item and what follows it.
   pub items-step : Bounded item → (xs : List ℕ) → itemsFrom item xs ≡ (do a ← item; afterItem a) xs
   unfolding bind
-  items-step k xs = cut xs ∙ go (item (front inItem xs)) refl ∙ ap (λ o. bind o (λ r. afterItem (r .0) (r .1))) (sym (k .before xs))
+  items-step k xs = first-item xs ∙ go (item (takeWhile inItem xs)) refl ∙ ap (λ o. bind o (λ r. afterItem (r .0) (r .1))) (sym (k .before xs))
     where
-      go : (o : Option (A × List ℕ)) → item (front inItem xs) ≡ o
-          → bind (word ")" (afterList (back inItem xs))) (λ q. giveIf (bind (bind o (λ r. cond (isEmpty (r .1)) (some (r .0)) none)) (λ a. Option·map (λ l. a ∷ l) (onAll (whole item) (morePieces (back inItem xs))))) (q .1))
-          ≡ bind {A = A × List ℕ} (Option·map (λ r. (r .0, r .1 ++ back inItem xs)) o) (λ r. afterItem (r .0) (r .1))
-      go none e = nowhere (word ")" (afterList (back inItem xs)))
+      go : (o : Option (A × List ℕ)) → item (takeWhile inItem xs) ≡ o
+          → bind (word ")" (afterList (dropWhile inItem xs))) (λ q. giveIf (bind (bind o (λ r. cond (isEmpty (r .1)) (some (r .0)) none)) (λ a. Option·map (λ l. a ∷ l) (onAll (whole item) (morePieces (dropWhile inItem xs))))) (q .1))
+          ≡ bind {A = A × List ℕ} (Option·map (λ r. (r .0, r .1 ++ dropWhile inItem xs)) o) (λ r. afterItem (r .0) (r .1))
+      go none e = nowhere (word ")" (afterList (dropWhile inItem xs)))
       go (some r) e =
-          after-item (r .0) (r .1) (sym (ap (noneOr (λ r. every inItem (r .1))) e) ∙ k .rest (front inItem xs) (front-passes inItem xs)) (back inItem xs) (back-fails inItem xs)
+          after-item (r .0) (r .1) (sym (ap (noneOr (λ r. every inItem (r .1))) e) ∙ k .rest (takeWhile inItem xs) (takeWhile-passes inItem xs)) (dropWhile inItem xs) (dropWhile-fails inItem xs)
 
   -- The same for a loop: read an item, then a separator, until the list is closed.
   module _ (k : Bounded item) {xs : List ℕ} where

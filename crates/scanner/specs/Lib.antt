@@ -7,4 +7,4 @@ pub mod Numbers
 pub mod Separators
 pub mod Items
 pub mod Bounds
-pub mod Parts
+pub mod Tokens

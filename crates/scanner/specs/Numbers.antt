@@ -12,7 +12,7 @@ use Rattle.definitions.specs.Layout.{Reader, giveIf, isDigit, noLeadingZero, va
 use lib.ListN.{drop}
 use Rattle.scanner.specs.declared.Class.the-variants.{Digit}
 use Rattle.scanner.specs.Classes.{firstClass, NoDigit, DigitOf, digit-says, digit-not, other-not}
-use Rattle.scanner.specs.Spans.{front, back, front-on, front-off, back-on, back-off, many-cuts}
+use Rattle.scanner.specs.Spans.{takeWhile, dropWhile, takeWhile-on, takeWhile-off, dropWhile-on, dropWhile-off, many-span}
 
 -- May these digits follow k digits of value v? Behind a zero no digit may stand.
 abbrev pub mayFollow : ℕ → ℕ → List ℕ → Bool
@@ -24,16 +24,16 @@ abbrev pub numberAfter : ℕ → ℕ → List ℕ → Option ℕ
 numberAfter k v ds = cond (within digitCount (k + length ds) && mayFollow k v ds) (some (valueFrom v ds)) none
 
 unfoldable pub numberFrom : ℕ → ℕ → Reader ℕ ℕ
-numberFrom k v xs = giveIf (numberAfter k v (front isDigit xs)) (back isDigit xs)
+numberFrom k v xs = giveIf (numberAfter k v (takeWhile isDigit xs)) (dropWhile isDigit xs)
 
--- A number by the cut before the first byte that is no digit; it is what is left to read after no digits.
-pub number-cut : (xs : List ℕ) → number xs ≡ giveIf (numberOf (front isDigit xs)) (back isDigit xs)
+-- A number is what stands before the first byte that is no digit; it is what is left to read after no digits.
+pub number-span : (xs : List ℕ) → number xs ≡ giveIf (numberOf (takeWhile isDigit xs)) (dropWhile isDigit xs)
 unfolding number bind
-number-cut xs = rw (many-cuts isDigit xs)
+number-span xs = rw (many-span isDigit xs)
 
 pub number-start : (xs : List ℕ) → numberFrom 0 0 xs ≡ number xs
 unfolding numberFrom
-number-start xs = rw (number-cut xs, zero-add)
+number-start xs = rw (number-span xs, zero-add)
 
 -- Nothing may stand after any digits.
 nothing-follows : (k v : ℕ) → mayFollow k v [] ≡ true
@@ -52,7 +52,7 @@ module _ (k v : ℕ) (few : 1 ≤ k) (many : k ≤ limits digitCount .highest) w
 
   stops : (b : ℕ) (bs : List ℕ) → isDigit b ≡ false → numberFrom k v (b ∷ bs) ≡ some (v, b ∷ bs)
   unfolding numberFrom
-  stops b bs e = rw (front-off isDigit b bs e, back-off isDigit b bs e, after-some k v few many)
+  stops b bs e = rw (takeWhile-off isDigit b bs e, dropWhile-off isDigit b bs e, after-some k v few many)
 
 none-ends : (v : ℕ) → numberFrom 0 v [] ≡ none
 unfolding numberFrom within limits
@@ -60,7 +60,7 @@ none-ends v = refl
 
 none-stops : (v b : ℕ) (bs : List ℕ) → isDigit b ≡ false → numberFrom 0 v (b ∷ bs) ≡ none
 unfolding numberFrom within limits
-none-stops v b bs e = rw (front-off isDigit b bs e)
+none-stops v b bs e = rw (takeWhile-off isDigit b bs e)
 
 -- After a first digit the value is 0 where that digit is `0`.
 first-zero : (b : ℕ) → code "0" ≤ b → eqb b (code "0") ≡ eqb (0 * 10 + (b - code "0")) 0
@@ -85,26 +85,26 @@ none-follows zero v b ds l e = absurd (omega arith)
 none-follows (suc k) v b ds l e = rw (eq-eqb v 0 e)
 
 module _ (k v b : ℕ) {d : ℕ} (bs : List ℕ) (digit : DigitOf b d) where
-  goes-on : numberFrom k v (b ∷ bs) ≡ giveIf (numberAfter k v (b ∷ front isDigit bs)) (back isDigit bs)
+  goes-on : numberFrom k v (b ∷ bs) ≡ giveIf (numberAfter k v (b ∷ takeWhile isDigit bs)) (dropWhile isDigit bs)
   unfolding numberFrom
-  goes-on = rw (front-on isDigit b bs (digit .test), back-on isDigit b bs (digit .test))
+  goes-on = rw (takeWhile-on isDigit b bs (digit .test), dropWhile-on isDigit b bs (digit .test))
 
   -- One digit too many.
   long : k ≡ limits digitCount .highest → numberFrom k v (b ∷ bs) ≡ none
   unfolding within limits
-  long e = goes-on ∙ rw (lt-leb (k + suc (length (front isDigit bs))) (limits digitCount .highest) (omega arith), and-false)
+  long e = goes-on ∙ rw (lt-leb (k + suc (length (takeWhile isDigit bs))) (limits digitCount .highest) (omega arith), and-false)
 
   -- A digit behind a zero.
   behind-zero : 1 ≤ k → v ≡ 0 → numberFrom k v (b ∷ bs) ≡ none
-  behind-zero l e = goes-on ∙ rw (none-follows k v b (front isDigit bs) l e, and-false)
+  behind-zero l e = goes-on ∙ rw (none-follows k v b (takeWhile isDigit bs) l e, and-false)
 
   -- One more digit.
   more : (k ≡ 0 → v ≡ 0) → (1 ≤ k → v ≡ 0 → ⊥) → numberFrom k v (b ∷ bs) ≡ numberFrom (suc k) (v * 10 + d) bs
   unfolding numberFrom
   more start later =
       goes-on
-      ∙ ap₂ (λ n t. giveIf (cond (within digitCount n && t) (some (valueFrom (v * 10 + (b - code "0")) (front isDigit bs))) none) (back isDigit bs)) (omega arith)
-      (follows k v b (front isDigit bs) (digit .low) start later)
+      ∙ ap₂ (λ n t. giveIf (cond (within digitCount n && t) (some (valueFrom (v * 10 + (b - code "0")) (takeWhile isDigit bs))) none) (dropWhile isDigit bs)) (omega arith)
+      (follows k v b (takeWhile isDigit bs) (digit .low) start later)
       ∙ ap (λ n. numberFrom (suc k) (v * 10 + n) bs) (sym (digit .value))
 
 -- The same by the class of the first byte.

@@ -2,21 +2,23 @@
 
 ghost use mathlib.Core.Path.{_≡_};
 ghost use lib.ListN.{drop};
-ghost use Rattle.definitions.specs.Layout.{exactly, number, hyphenOrNumber};
-ghost use Rattle.scanner.specs.Classes.{classOf, firstClass};
+ghost use Rattle.definitions.specs.Basics.{true, eqb, every};
+ghost use Rattle.definitions.specs.Layout.{exactly, word, number, hyphenOrNumber};
+ghost use Rattle.scanner.specs.Classes.{isLetter, classOf, firstClass};
+ghost use Rattle.scanner.specs.Words.{formStart};
 ghost use Rattle.scanner.specs.Answers.{ReadAt, passed, numberRead, entryRead, stepRead};
 ghost use Rattle.scanner.specs.Separators.{separator};
 use limits::Field;
 use limits::highest;
 
-// The reader's class of a byte; a digit comes with its value.
+// The reader's class of a byte; a digit comes with its value, a letter with its byte.
 pub enum Class {
     Digit(u32),
     Open,
     Close,
     Space,
     Hyphen,
-    Letter,
+    Letter(u8),
     LineEnd,
     Other,
 }
@@ -30,7 +32,7 @@ pub fn class_of(b: u8) -> Class
         b')' => Class::Close,
         b' ' => Class::Space,
         b'-' => Class::Hyphen,
-        b'a'..=b'z' => Class::Letter,
+        b'a'..=b'z' => Class::Letter(b),
         b'\n' => Class::LineEnd,
         _ => Class::Other,
     }
@@ -47,31 +49,93 @@ pub fn class_at(s: &[u8], at: usize) -> Class
     }
 }
 
+pub fn is_line_end(b: u8) -> bool
+    ensures { λ r. ⌜ r ≡ eqb b 10 ⌝ }
+{
+    match class_of(b) {
+        Class::LineEnd => true,
+        _ => false,
+    }
+}
+
 // The place after what was passed.
 pub enum Passed {
     At(usize),
     Nothing,
 }
 
-// Exactly this word.
-pub fn word_at(s: &[u8], at: usize, word: &[u8]) -> Passed
-    ensures { λ r. ⌜ ReadAt (exactly (now (word .entry))) (now (s .entry)) at (passed r) ⌝ }
+// The bracket that opens a list.
+pub fn open_at(s: &[u8], at: usize) -> Passed
+    ensures { λ r. ⌜ ReadAt (word "(") (now (s .entry)) at (passed r) ⌝ }
+{
+    match class_at(s, at) {
+        Class::Open => Passed::At(at + 1),
+        _ => Passed::Nothing,
+    }
+}
+
+// The space between two parts.
+pub fn space_at(s: &[u8], at: usize) -> Passed
+    ensures { λ r. ⌜ ReadAt (word " ") (now (s .entry)) at (passed r) ⌝ }
+{
+    match class_at(s, at) {
+        Class::Space => Passed::At(at + 1),
+        _ => Passed::Nothing,
+    }
+}
+
+fn line_end_at(s: &[u8], at: usize) -> Passed
+    ensures { λ r. ⌜ ReadAt (word "\n") (now (s .entry)) at (passed r) ⌝ }
+{
+    match class_at(s, at) {
+        Class::LineEnd => Passed::At(at + 1),
+        _ => Passed::Nothing,
+    }
+}
+
+// The bracket that closes a form, and its line end.
+pub fn form_end_at(s: &[u8], at: usize) -> Passed
+    ensures { λ r. ⌜ ReadAt (word ")\n") (now (s .entry)) at (passed r) ⌝ }
+{
+    match class_at(s, at) {
+        Class::Close => line_end_at(s, at + 1),
+        _ => Passed::Nothing,
+    }
+}
+
+// Exactly these letters.
+fn letters_at(s: &[u8], at: usize, letters: &[u8]) -> Passed
+    requires { ⌜ every isLetter (now letters) ≡ true ⌝ }
+    ensures { λ r. ⌜ ReadAt (exactly (now (letters .entry))) (now (s .entry)) at (passed r) ⌝ }
 {
     let mut i = at;
     let mut k = 0;
-    while k < word.len() {
-        if i < s.len() {
-            if word[k] == s[i] {
+    while k < letters.len() {
+        match class_at(s, i) {
+            Class::Letter(letter) => {
+                if letters[k] != letter {
+                    return Passed::Nothing;
+                }
                 i += 1;
                 k += 1;
-            } else {
+            }
+            _ => {
                 return Passed::Nothing;
             }
-        } else {
-            return Passed::Nothing;
         }
     }
     Passed::At(i)
+}
+
+// The bracket that opens a form, and the form's word.
+pub fn form_start_at(s: &[u8], at: usize, word: &[u8]) -> Passed
+    requires { ⌜ every isLetter (now word) ≡ true ⌝ }
+    ensures { λ r. ⌜ ReadAt (exactly (formStart (now (word .entry)))) (now (s .entry)) at (passed r) ⌝ }
+{
+    match class_at(s, at) {
+        Class::Open => letters_at(s, at + 1, word),
+        _ => Passed::Nothing,
+    }
 }
 
 // A number and the place after it.

@@ -6,17 +6,18 @@ use native.Mathlib.Omega.{arith}
 use Prim.Native.Nat.{_≤_}
 use lib.ListN.{set, drop, length-append, length-map, length-set, length-take}
 use lib.Seq.{ext-getD, getD-take}
-use Rattle.definitions.specs.Basics.{ℕ, _+_, _<_, Option, none, some, List, bind, [], _∷_, _++_, map, length, take, replicate, isEmpty}
-use Rattle.definitions.specs.Layout.{Reader, whole, word, number, hyphenOrNumber, items, tableLine}
+use Rattle.definitions.specs.Basics.{ℕ, _+_, _<_, Option, none, some, List, bind, [], _∷_, _++_, map, length, take, replicate, isEmpty, text}
+use Rattle.definitions.specs.Layout.{Reader, whole, exactly, word, number, hyphenOrNumber, items, tableLine}
 use Rattle.held_region.specs.Meaning.{codeOf, noTable}
 use Rattle.scanner.specs.declared.Passed.{Passed}
 use Rattle.scanner.specs.declared.Passed.the-variants.{At, Nothing as NotPassed}
-use Rattle.scanner.specs.Answers.{ReadAt, passed}
+use Rattle.scanner.specs.Words.{formStart, words-there, words-missing}
+use Rattle.scanner.specs.Answers.{ReadAt, passed, there, missing}
 use Rattle.scanner.specs.Separators.{separator, separator-ahead}
 use Rattle.scanner.specs.Items.{Bounded}
 use Rattle.table_reader.specs.declared.Entries.{Entries}
 use Rattle.table_reader.specs.declared.Entries.the-variants.{Are}
-use Rattle.table_reader.specs.TakenItems.{items-start, items-no-item, items-next, items-closed, items-cut, items-no-list}
+use Rattle.table_reader.specs.TakenItems.{items-start, items-no-item, items-next, items-closed, items-no-separator, items-no-list}
 use Rattle.table_reader.specs.FirstHeld.{FirstHeld, held-none, held-more}
 use Rattle.table_reader.specs.Stores.{stored-set, stored-full}
 use Rattle.table_reader.specs.TableReading.{Found, ItemsSoFar, ItemsThere, MembersHeld, Adds, EntriesAdded, EntriesRead, TableRead}
@@ -51,8 +52,8 @@ module _ {A : Type 0} {item : Reader ℕ A} (k : Bounded item) {Kept : List A �
   list-no-item e = items-no-item k (f .taken) (read-as e h)
 
   module _ {a : A} {end : ℕ} (e : o ≡ some (a, end)) {step : Option (Bool × ℕ)} (q : ReadAt separator s end step) where
-    pub list-cut : step ≡ none → items item (drop at s) ≡ none
-    list-cut n = items-cut k (f .taken) (read-as e h) (read-as n q)
+    pub list-no-separator : step ≡ none → items item (drop at s) ≡ none
+    list-no-separator n = items-no-separator k (f .taken) (read-as e h) (read-as n q)
 
     -- After a separator the place is ahead, within the slice, and above the count.
     pub list-on : {b : Bool} {next : ℕ} → step ≡ some (b, next) → (i < next) × (next ≤ length s) × (count < next)
@@ -93,7 +94,7 @@ members-more a {first} {count = count} is said counted m = record {
 -- The first n that are held are the first n that are said.
 first-taken : {A : Type 0} (n : ℕ) (d : A) (first said : List A) → length first ≡ n → FirstHeld n (λ a b. a ≡ b) d d first said → take (length said) first ≡ take n said
 first-taken n d first said wide holds =
-    let cut = length-take (length said) first in
+    let taken = length-take (length said) first in
     ext-getD d (take (length said) first) (take n said) (omega (arith, length-take n said))
     (λ i h. let low : i < n = omega arith in let inside : i < length said = omega arith in getD-take (length said) first i d inside ∙ holds i low inside ∙ sym (getD-take n said i d low))
 
@@ -129,6 +130,14 @@ entries-more o is one said counted added =
 pub entries-there : {s : List ℕ} {at used : ℕ} {before after : List ℕ} {r : Entries} {count next : ℕ} → r ≡ Are count next → EntriesRead s at used before after r
     → ItemsThere hyphenOrNumber (EntriesAdded used before after) s at count next
 entries-there e h = rw e at h
+
+-- The beginning of a table line, by its bracket and word and the space behind them.
+module _ (line : List ℕ) {o : Option (Unit {0} × ℕ)} (h : ReadAt (exactly (formStart (text "cost"))) line 0 o) where
+  pub cost-missing : o ≡ none → word "(cost " line ≡ none
+  cost-missing e = words-missing (formStart (text "cost")) (text " ") line (missing h e)
+
+  pub cost-then : {start : ℕ} → o ≡ some (tt, start) → word "(cost " line ≡ word " " (drop start line)
+  cost-then e = words-there (formStart (text "cost")) (text " ") line (there h e)
 
 -- What a line says, as far as it was read.
 module _ (line : List ℕ) where

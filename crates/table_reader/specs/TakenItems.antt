@@ -71,8 +71,8 @@ module _ {A : Type 0} {item : Reader ℕ A} {s : List ℕ} {at : ℕ} where
         few = omega (arith, t .few, length-append done (a ∷ []));
       }
 
-      pub items-cut : ReadAt separator s end none → items item (drop at s) ≡ none
-      items-cut q = t .goesOn ∙ ap (onto done) (items-broken item k (sym (h .says)) (sym (q .says)))
+      pub items-no-separator : ReadAt separator s end none → items item (drop at s) ≡ none
+      items-no-separator q = t .goesOn ∙ ap (onto done) (items-broken item k (sym (h .says)) (sym (q .says)))
 
 -- It is not there.
 pub items-no-list : {A : Type 0} (item : Reader ℕ A) {s : List ℕ} {at : ℕ} → ReadAt (word "(") s at none → items item (drop at s) ≡ none

@@ -13,10 +13,13 @@ use scanner::ItemStep;
 use scanner::Number;
 use scanner::Optional;
 use scanner::Passed;
+use scanner::form_end_at;
+use scanner::form_start_at;
 use scanner::hyphen_or_number_at;
 use scanner::item_step;
 use scanner::number_at;
-use scanner::word_at;
+use scanner::open_at;
+use scanner::space_at;
 
 // The first four members of a list, how many there are, and the place after it; or no list was found.
 pub struct Members {
@@ -37,7 +40,7 @@ const NO_MEMBERS: Members = Members {
 pub fn members_at(line: &[u8], at: usize) -> Members
     ensures { λ r. ⌜ MembersRead (now (line .entry)) at r ⌝ }
 {
-    let Passed::At(start) = word_at(line, at, b"(") else {
+    let Passed::At(start) = open_at(line, at) else {
         return NO_MEMBERS;
     };
     let mut first = [0u32; 4];
@@ -101,7 +104,7 @@ pub enum Entries {
 pub fn entries_at(line: &[u8], at: usize, store: &mut [u32; 4096], used: usize) -> Entries
     ensures { λ r. ⌜ EntriesRead (now (line .entry)) at used (now (store .entry)) (now (store .exit)) r ⌝ }
 {
-    let Passed::At(start) = word_at(line, at, b"(") else {
+    let Passed::At(start) = open_at(line, at) else {
         return Entries::Nothing;
     };
     let mut count: usize = 0;
@@ -142,20 +145,23 @@ const NO_TABLE_LINE: TableLine = TableLine {
 pub fn table_line(line: &[u8], store: &mut [u32; 4096], used: usize) -> TableLine
     ensures { λ r. ⌜ TableRead (now (line .entry)) used (now (store .entry)) (now (store .exit)) r ⌝ }
 {
-    let Passed::At(a) = word_at(line, 0, b"(cost ") else {
+    let Passed::At(start) = form_start_at(line, 0, b"cost") else {
+        return NO_TABLE_LINE;
+    };
+    let Passed::At(a) = space_at(line, start) else {
         return NO_TABLE_LINE;
     };
     let members = members_at(line, a);
     if !members.found {
         return NO_TABLE_LINE;
     }
-    let Passed::At(b) = word_at(line, members.next, b" ") else {
+    let Passed::At(b) = space_at(line, members.next) else {
         return NO_TABLE_LINE;
     };
     let Entries::Are(entries, c) = entries_at(line, b, store, used) else {
         return NO_TABLE_LINE;
     };
-    let Passed::At(end) = word_at(line, c, b")\n") else {
+    let Passed::At(end) = form_end_at(line, c) else {
         return NO_TABLE_LINE;
     };
     if end < line.len() {

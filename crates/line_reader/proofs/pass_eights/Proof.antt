@@ -24,17 +24,17 @@ sub-if1 c = search needs
 returns : tie.Need-returns Inv-loop μ-loop
 returns c = c .before .before .loop .inv
 
-four-go-on-requires : tie.Need-four-go-on-requires Inv-loop μ-loop
-four-go-on-requires c κs = omega arith
+no-end-in-four-requires : tie.Need-no-end-in-four-requires Inv-loop μ-loop
+no-end-in-four-requires c κs = omega arith
 
 returns-2 : tie.Need-returns-2 Inv-loop μ-loop
 returns-2 c = c .before .before .before .before .loop .inv
 
-add-four-go-on : tie.Need-add-four-go-on Inv-loop μ-loop
-add-four-go-on c = search needs
+add-no-end-in-four : tie.Need-add-no-end-in-four Inv-loop μ-loop
+add-no-end-in-four c = search needs
 
-four-go-on-requires-2 : tie.Need-four-go-on-requires-2 Inv-loop μ-loop
-four-go-on-requires-2 c κs = omega arith
+no-end-in-four-requires-2 : tie.Need-no-end-in-four-requires-2 Inv-loop μ-loop
+no-end-in-four-requires-2 c κs = omega arith
 
 returns-3 : tie.Need-returns-3 Inv-loop μ-loop
 returns-3 c = c .before .before .before .before .before .before .loop .inv
@@ -47,8 +47,8 @@ loop-less c = omega arith
 
 loop-again : tie.Need-loop-again Inv-loop μ-loop
 loop-again c =
-    let first = seeking-four (c .before .before .before .before .before .before .loop .inv) (omega arith) (sym (c .before .before .before .four-go-on .ensures) ∙ not-false _ (c .before .before .if2 .left)) in
-    seeking-eight _ (seeking-four first (omega arith) (sym (c .before .four-go-on2 .ensures) ∙ not-false _ (c .if3 .left)))
+    let first = seeking-four (c .before .before .before .before .before .before .loop .inv) (omega arith) (sym (c .before .before .before .no-end-in-four .ensures) ∙ not-false _ (c .before .before .if2 .left)) in
+    seeking-eight _ (seeking-four first (omega arith) (sym (c .before .no-end-in-four2 .ensures) ∙ not-false _ (c .if3 .left)))
 
 returns-4 : tie.Need-returns-4 Inv-loop μ-loop
 returns-4 c = c .before .loop .inv
@@ -62,10 +62,10 @@ pass-eights-spec =
     loop-holds
     sub-if1
     returns
-    four-go-on-requires
+    no-end-in-four-requires
     returns-2
-    add-four-go-on
-    four-go-on-requires-2
+    add-no-end-in-four
+    no-end-in-four-requires-2
     returns-3
     add-i
     loop-less

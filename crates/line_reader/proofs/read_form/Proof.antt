@@ -8,13 +8,13 @@ use Rattle.line_reader.proofs.read_form.Statement.{statement}
 use Rattle.line_reader.proofs.read_form.Tie as tie
 
 abbrev Inv-loop : tie.InvT-loop
-Inv-loop line opening kinds values₀ start at₀ k₀ t12 t13 values at k = FieldsRead line opening kinds values at k
+Inv-loop line word kinds values₀ start at₀ k₀ values at k = FieldsRead line word kinds values at k
 
 abbrev μ-loop : tie.MeasureT-loop
-μ-loop line opening kinds values₀ start at₀ k₀ t12 t13 values at k = length kinds - k
+μ-loop line word kinds values₀ start at₀ k₀ values at k = length kinds - k
 
-word-at-requires : tie.Need-word-at-requires Inv-loop μ-loop
-word-at-requires c κs = search needs
+form-start-at-requires : tie.Need-form-start-at-requires Inv-loop μ-loop
+form-start-at-requires c κs = search needs
 
 enum-known-start : tie.Need-enum-known-start Inv-loop μ-loop
 enum-known-start c = search needs
@@ -23,18 +23,15 @@ enum-told : tie.Need-enum-told Inv-loop μ-loop
 enum-told c = search needs
 
 returns : tie.Need-returns Inv-loop μ-loop
-returns c = opening-missing _ _ (c .before .before .word-at .ensures) (ap passed (c .enum-told .given .1))
+returns c = opening-missing _ _ (c .before .before .form-start-at .ensures) (ap passed (c .enum-told .given .1))
 
 loop-holds : tie.Need-loop-holds Inv-loop μ-loop
 loop-holds c =
     let known = c .before .before .before in
-    opening-there _ _ (known .word-at .ensures) (known .before .before .before .before .before .pre) (ap passed (c .before .start .given .1))
+    opening-there _ _ (known .form-start-at .ensures) (known .before .before .before .before .before .pre .wide) (ap passed (c .before .start .given .1))
 
-slice-aggregate-word-at : tie.Need-slice-aggregate-word-at Inv-loop μ-loop
-slice-aggregate-word-at c = search needs
-
-word-at-requires-2 : tie.Need-word-at-requires-2 Inv-loop μ-loop
-word-at-requires-2 c κs = search needs
+space-at-requires : tie.Need-space-at-requires Inv-loop μ-loop
+space-at-requires c κs = search needs
 
 enum-known-begin : tie.Need-enum-known-begin Inv-loop μ-loop
 enum-known-begin c = search needs
@@ -47,8 +44,8 @@ same-length c = search needs
 
 returns-2 : tie.Need-returns-2 Inv-loop μ-loop
 returns-2 c =
-    let turn = c .before .before .before .before in
-    space-missing (turn .before .loop .inv) (turn .loop-test .taken) (c .before .before .word-at2 .ensures) (ap passed (c .enum-told2 .given .1))
+    let turn = c .before .before .before in
+    space-missing (turn .before .loop .inv) (turn .loop-test .taken) (c .before .before .space-at .ensures) (ap passed (c .enum-told2 .given .1))
 
 shared-slice-read-field-at : tie.Need-shared-slice-read-field-at Inv-loop μ-loop
 shared-slice-read-field-at c = search needs
@@ -69,8 +66,8 @@ returns-3 : tie.Need-returns-3 Inv-loop μ-loop
 returns-3 c =
     let begin = c .before .before .before .before .before in
     let space = begin .before .before in
-    let turn = space .before .before in
-    field-missing (turn .before .loop .inv) (turn .loop-test .taken) (space .word-at2 .ensures) (ap passed (begin .begin .given .1))
+    let turn = space .before in
+    field-missing (turn .before .loop .inv) (turn .loop-test .taken) (space .space-at .ensures) (ap passed (begin .begin .given .1))
     (c .before .before .field-at .ensures) (ap numberRead (c .enum-told3 .given .1))
 
 mul-values : tie.Need-mul-values Inv-loop μ-loop
@@ -90,15 +87,12 @@ loop-again c =
     let read = c .before .before .before in
     let begin = read .before .before .before in
     let space = begin .before .before in
-    let turn = space .before .before in
-    field-there (turn .before .loop .inv) (turn .loop-test .taken) (space .word-at2 .ensures) (ap passed (begin .begin .given .1))
+    let turn = space .before in
+    field-there (turn .before .loop .inv) (turn .loop-test .taken) (space .space-at .ensures) (ap passed (begin .begin .given .1))
     (read .field-at .ensures) (ap numberRead (c .before .value .given .1))
 
-slice-aggregate-word-at-2 : tie.Need-slice-aggregate-word-at-2 Inv-loop μ-loop
-slice-aggregate-word-at-2 c = search needs
-
-word-at-requires-3 : tie.Need-word-at-requires-3 Inv-loop μ-loop
-word-at-requires-3 c κs = search needs
+form-end-at-requires : tie.Need-form-end-at-requires Inv-loop μ-loop
+form-end-at-requires c κs = search needs
 
 enum-known-end : tie.Need-enum-known-end Inv-loop μ-loop
 enum-known-end c = search needs
@@ -111,8 +105,8 @@ same-length-3 c = search needs
 
 returns-4 : tie.Need-returns-4 Inv-loop μ-loop
 returns-4 c =
-    let after = c .before .before .before .before in
-    end-missing (after .before .loop .inv) (after .loop-test .left) (c .before .before .word-at3 .ensures) (ap passed (c .enum-told4 .given .1))
+    let after = c .before .before .before in
+    end-missing (after .before .loop .inv) (after .loop-test .left) (c .before .before .form-end-at .ensures) (ap passed (c .enum-told4 .given .1))
 
 same-length-4 : tie.Need-same-length-4 Inv-loop μ-loop
 same-length-4 c = search needs
@@ -120,8 +114,8 @@ same-length-4 c = search needs
 returns-5 : tie.Need-returns-5 Inv-loop μ-loop
 returns-5 c =
     let read = c .before .before .before in
-    let after = read .before .before in
-    form-there (after .before .loop .inv) (after .loop-test .left) (read .word-at3 .ensures) (ap passed (c .before .end .given .1))
+    let after = read .before in
+    form-there (after .before .loop .inv) (after .loop-test .left) (read .form-end-at .ensures) (ap passed (c .before .end .given .1))
 
 pub read-form-spec : {M : Type 1} → statement M
 read-form-spec =
@@ -129,13 +123,12 @@ read-form-spec =
     (tie.spec
     Inv-loop
     μ-loop
-    word-at-requires
+    form-start-at-requires
     enum-known-start
     enum-told
     returns
     loop-holds
-    slice-aggregate-word-at
-    word-at-requires-2
+    space-at-requires
     enum-known-begin
     enum-told-2
     same-length
@@ -151,8 +144,7 @@ read-form-spec =
     add-k
     loop-less
     loop-again
-    slice-aggregate-word-at-2
-    word-at-requires-3
+    form-end-at-requires
     enum-known-end
     enum-told-4
     same-length-3

@@ -7,7 +7,7 @@ use Rattle.definitions.specs.Layout.{hyphenOrNumber}
 use Rattle.scanner.specs.Answers.{entryRead, stepRead}
 use Rattle.scanner.specs.Bounds.{hyphen-bounded}
 use Rattle.table_reader.specs.TableReading.{ItemsSoFar, EntriesAdded}
-use Rattle.table_reader.proofs.HeldTables.{list-start, list-missing, list-no-item, list-cut, list-on, list-more, list-closed, adds-none, entries-more}
+use Rattle.table_reader.proofs.HeldTables.{list-start, list-missing, list-no-item, list-no-separator, list-on, list-more, list-closed, adds-none, entries-more}
 use Rattle.table_reader.proofs.entries_at.Statement.{statement}
 use Rattle.table_reader.proofs.entries_at.Tie as tie
 
@@ -17,11 +17,8 @@ Inv-loop line at store₀ used start count₀ i₀ store count i = ItemsSoFar hy
 abbrev μ-loop : tie.MeasureT-loop
 μ-loop line at store₀ used start count₀ i₀ store count i = length line - i
 
-slice-aggregate-word-at : tie.Need-slice-aggregate-word-at Inv-loop μ-loop
-slice-aggregate-word-at c = search needs
-
-word-at-requires : tie.Need-word-at-requires Inv-loop μ-loop
-word-at-requires c κs = search needs
+open-at-requires : tie.Need-open-at-requires Inv-loop μ-loop
+open-at-requires c κs = search needs
 
 enum-known-start : tie.Need-enum-known-start Inv-loop μ-loop
 enum-known-start c = search needs
@@ -30,10 +27,10 @@ enum-told : tie.Need-enum-told Inv-loop μ-loop
 enum-told c = search needs
 
 returns : tie.Need-returns Inv-loop μ-loop
-returns c = list-missing hyphenOrNumber (c .before .before .word-at .ensures) (c .enum-told .given .1)
+returns c = list-missing hyphenOrNumber (c .before .before .open-at .ensures) (c .enum-told .given .1)
 
 loop-holds : tie.Need-loop-holds Inv-loop μ-loop
-loop-holds c = list-start hyphenOrNumber (c .before .before .before .word-at .ensures) (c .before .start .given .1) adds-none
+loop-holds c = list-start hyphenOrNumber (c .before .before .before .open-at .ensures) (c .before .start .given .1) adds-none
 
 hyphen-or-number-at-requires : tie.Need-hyphen-or-number-at-requires Inv-loop μ-loop
 hyphen-or-number-at-requires c κs = search needs
@@ -83,8 +80,8 @@ loop-again c =
 enum-known-next-2 : tie.Need-enum-known-next-2 Inv-loop μ-loop
 enum-known-next-2 c = search needs
 
-add-t21 : tie.Need-add-t21 Inv-loop μ-loop
-add-t21 c =
+add-t18 : tie.Need-add-t18 Inv-loop μ-loop
+add-t18 c =
     let step = c .before .before .before in
     let entry = step .before .before .before .before .before in
     let read = entry .before .before in
@@ -105,7 +102,7 @@ returns-4 c =
     let step = c .before .before in
     let entry = step .before .before .before .before .before in
     let read = entry .before .before in
-    list-cut hyphen-bounded (read .before .loop .inv) (read .hyphen-or-number-at .ensures) (ap entryRead (entry .entry .given .1)) (step .item-step .ensures) (ap stepRead (c .enum-told3 .given .1))
+    list-no-separator hyphen-bounded (read .before .loop .inv) (read .hyphen-or-number-at .ensures) (ap entryRead (entry .entry .given .1)) (step .item-step .ensures) (ap stepRead (c .enum-told3 .given .1))
 
 pub entries-at-spec : {M : Type 1} → statement M
 entries-at-spec =
@@ -113,8 +110,7 @@ entries-at-spec =
     (tie.spec
     Inv-loop
     μ-loop
-    slice-aggregate-word-at
-    word-at-requires
+    open-at-requires
     enum-known-start
     enum-told
     returns
@@ -131,7 +127,7 @@ entries-at-spec =
     loop-less
     loop-again
     enum-known-next-2
-    add-t21
+    add-t18
     returns-3
     enum-told-3
     returns-4)

@@ -9,7 +9,7 @@ use Rattle.scanner.specs.Answers.{numberRead, stepRead}
 use Rattle.scanner.specs.Bounds.{number-bounded}
 use Rattle.table_reader.specs.FirstHeld.{set-full}
 use Rattle.table_reader.specs.TableReading.{ItemsSoFar, MembersHeld}
-use Rattle.table_reader.proofs.HeldTables.{found, not-found, list-start, list-missing, list-no-item, list-cut, list-on, list-more, list-closed, members-none, members-more}
+use Rattle.table_reader.proofs.HeldTables.{found, not-found, list-start, list-missing, list-no-item, list-no-separator, list-on, list-more, list-closed, members-none, members-more}
 use Rattle.table_reader.proofs.members_at.Statement.{statement}
 use Rattle.table_reader.proofs.members_at.Tie as tie
 
@@ -19,11 +19,8 @@ Inv-loop line at start first₀ count₀ i₀ first count i = ItemsSoFar number 
 abbrev μ-loop : tie.MeasureT-loop
 μ-loop line at start first₀ count₀ i₀ first count i = length line - i
 
-slice-aggregate-word-at : tie.Need-slice-aggregate-word-at Inv-loop μ-loop
-slice-aggregate-word-at c = search needs
-
-word-at-requires : tie.Need-word-at-requires Inv-loop μ-loop
-word-at-requires c κs = search needs
+open-at-requires : tie.Need-open-at-requires Inv-loop μ-loop
+open-at-requires c κs = search needs
 
 enum-known-start : tie.Need-enum-known-start Inv-loop μ-loop
 enum-known-start c = search needs
@@ -32,10 +29,10 @@ enum-told : tie.Need-enum-told Inv-loop μ-loop
 enum-told c = search needs
 
 returns : tie.Need-returns Inv-loop μ-loop
-returns c = not-found (list-missing number (c .before .before .word-at .ensures) (c .enum-told .given .1))
+returns c = not-found (list-missing number (c .before .before .open-at .ensures) (c .enum-told .given .1))
 
 loop-holds : tie.Need-loop-holds Inv-loop μ-loop
-loop-holds c = list-start number (c .before .before .before .word-at .ensures) (c .before .start .given .1) members-none
+loop-holds c = list-start number (c .before .before .before .open-at .ensures) (c .before .start .given .1) members-none
 
 number-at-requires : tie.Need-number-at-requires Inv-loop μ-loop
 number-at-requires c κs = search needs
@@ -88,8 +85,8 @@ loop-again c =
 enum-known-next-2 : tie.Need-enum-known-next-2 Inv-loop μ-loop
 enum-known-next-2 c = search needs
 
-add-t24 : tie.Need-add-t24 Inv-loop μ-loop
-add-t24 c =
+add-t21 : tie.Need-add-t21 Inv-loop μ-loop
+add-t21 c =
     let step = c .before .before .before in
     let member = step .before .before .before in
     let read = member .before .before in
@@ -113,7 +110,7 @@ returns-4 c =
     let step = c .before .before in
     let member = step .before .before .before in
     let read = member .before .before in
-    not-found (list-cut number-bounded (read .before .loop .inv) (read .number-at .ensures) (ap numberRead (member .member .given .1)) (step .item-step .ensures) (ap stepRead (c .enum-told3 .given .1)))
+    not-found (list-no-separator number-bounded (read .before .loop .inv) (read .number-at .ensures) (ap numberRead (member .member .given .1)) (step .item-step .ensures) (ap stepRead (c .enum-told3 .given .1)))
 
 pub members-at-spec : {M : Type 1} → statement M
 members-at-spec =
@@ -121,8 +118,7 @@ members-at-spec =
     (tie.spec
     Inv-loop
     μ-loop
-    slice-aggregate-word-at
-    word-at-requires
+    open-at-requires
     enum-known-start
     enum-told
     returns
@@ -139,7 +135,7 @@ members-at-spec =
     loop-less
     loop-again
     enum-known-next-2
-    add-t24
+    add-t21
     returns-3
     enum-told-3
     returns-4)
