@@ -1,5 +1,5 @@
 -- The numbers from a on, and those below n; what a function gives there, and what tests say of them.
-use mathlib.Core.Path.{sym, ap, ap₂, _∙_}
+use mathlib.Core.Path.{sym, ap, _∙_}
 use mathlib.Core.Logic.{inl, inr}
 use mathlib.Core.Bool.{and-assoc, and-true}
 use mathlib.Core.List.{map-append}

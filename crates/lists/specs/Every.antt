@@ -3,7 +3,6 @@ use mathlib.Core.Path.{sym, ap, ap₂, _∙_}
 use mathlib.Core.Logic.{_⊎_, inl, inr, _↔_}
 use mathlib.Core.Bool.{true≢false, and-false, and-assoc}
 use mathlib.Core.Option.{Option·none-ne-some}
-use native.Mathlib.Omega.{arith}
 use borrow.Author.Tests.{eqb-true, eq-eqb}
 use Rattle.definitions.specs.Basics.{ℕ, zero, suc, _<_, _≡_, refl, Bool, true, false, _&&_, _||_, Option, none, some}
 use Rattle.definitions.specs.Basics.{List, [], _∷_, _++_, map, flatMap, length, getD, eqb, every, everyTwo, any, contains}

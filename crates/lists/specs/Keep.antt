@@ -1,7 +1,7 @@
 -- Laws of `keep`: what is kept was there and passes.
 use mathlib.Core.Path.{sym, ap, _∙_}
 use mathlib.Core.Logic.{_⊎_, inl, inr}
-use mathlib.Core.Bool.{true≢false, and-false}
+use mathlib.Core.Bool.{true≢false}
 use native.Mathlib.Omega.{arith}
 use Prim.Native.Nat.{_≤_}
 use Rattle.definitions.specs.Basics.{ℕ, suc, _≡_, refl, Bool, true, false, not, _&&_, _||_, cond, List, [], _∷_, map, length, isEmpty, every, any, everyTwo, keep, contains}

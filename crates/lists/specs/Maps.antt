@@ -7,7 +7,7 @@ use native.Mathlib.Nat.{mul-le-mul, pow-zero, pow-succ'}
 use native.Mathlib.Omega.{arith}
 use borrow.Author.Tests.{leb-true}
 use Prim.Native.Nat.{_≤_}
-use Rattle.definitions.specs.Basics.{ℕ, _*_, _^_, _≡_, refl, Bool, true, Option, none, some, Option·elim}
+use Rattle.definitions.specs.Basics.{ℕ, _*_, _^_, _≡_, refl, true, Option, none, some, Option·elim}
 use Rattle.definitions.specs.Basics.{List, [], _∷_, _++_, map, length, leb, product, flatten, flatMap, filterMap, dropLast, onAll, every}
 use Rattle.lists.specs.Tests.{both}
 use Rattle.lists.specs.Members.{_∈_, here, there, here-or-there, none-in-nil, in-cast, Distinct}
