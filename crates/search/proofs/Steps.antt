@@ -3,7 +3,7 @@ use mathlib.Core.Path.{_≡_, refl, sym, ap, _∙_, subst⁻¹}
 use Prim.Native.Nat.{_≤_}
 use native.Mathlib.Omega.{arith}
 use lib.ListN.{set, length-set}
-use lib.Seq.{set-set, take-set-lt}
+use lib.Seq.{take-set-lt}
 use borrow.Author.Tests.{eq-eqb}
 use Rattle.definitions.specs.Basics.{ℕ, _+_, _<_, true, not, _&&_, _||_, Option, List, _∷_, map, length, getD, take, sum, eqb, isEmpty, contains, ltb, everyTwo, replicate}
 use Rattle.definitions.specs.Syntax.{Region, patientAt}
@@ -17,6 +17,7 @@ use Rattle.buckets.specs.Terms.{Fitting, bucketOf, leastIn, leastAt, bedsAt, fi
 use Rattle.pricing.specs.BedCosts as Price
 use Rattle.pricing.specs.Pricing.{sumIn}
 use Rattle.pricing.specs.Costs.{fitting-set}
+use Rattle.pricing.specs.declared.Plan as Code
 use Rattle.search.specs.Lowest.{list-split, list-lowest, bucket-decided, upward-rest, bound-members}
 use Rattle.search.specs.Walks.{Branching, remaining, leftIn, headRow, Light, Heads, AsksNext, Below, Decides, GivesRest}
 use Rattle.search.specs.declared.walk.Rest.{Rest}
@@ -120,16 +121,13 @@ pub bound-holds : {r : Region} {store patients terms : List ℕ} {v : ℕ} {head
 bound-holds {r} {head} heads =
     rw (heads .bound) (bound-members r (remaining head) (leftIn head) (λ q. refl) (rising (head .left .0)) (heads .upward) (head .plan .beds))
 
--- The head below a bed, put together: its beds are a copy of those so far, whatever bed the copy had for the patient before.
-pub below-head : {patients : List ℕ} (head : Branching) {s : ℕ} (bed : ℕ) {c : ℕ} {rest : Rest} (next others : List ℕ) → remaining head ≡ s ∷ others
-    → GivesRest patients (remaining head) (head .bound) s rest → set next s bed ≡ set (head .plan .beds) s bed → c ≤ 64_000_000
-    → Below patients head s bed c (record { left = rest .left; plan = record { beds = set next s bed; len = head .plan .len + 1 }; cost = head .cost + c; bound = rest .bound })
-below-head head bed next others lowest rest beds most = record { left = rest .left others lowest; beds = beds; len = refl; cost = refl; most = most; bound = rest .bound }
-
-pub same-beds : (next beds : List ℕ) (s bed : ℕ) → ((b : ℕ) → set next s b ≡ set beds s b) → (b : ℕ) → set (set next s bed) s b ≡ set beds s b
-same-beds next beds s bed same b = set-set next s bed b ∙ same b
+-- The head below a bed, put together from the longer plan.
+pub below-head : {patients : List ℕ} {head : Branching} {s bed c : ℕ} {rest : Rest} (longer : Code.Plan) (others : List ℕ) → remaining head ≡ s ∷ others
+    → GivesRest patients (remaining head) (head .bound) s rest → longer .beds ≡ set (head .plan .beds) s bed → longer .len ≡ head .plan .len + 1 → c ≤ 64_000_000
+    → Below patients head s bed c (record { left = rest .left; plan = record { beds = longer .beds; len = longer .len }; cost = head .cost + c; bound = rest .bound })
+below-head longer others lowest rest beds len most = record { left = rest .left others lowest; beds = beds; len = len; cost = refl; most = most; bound = rest .bound }
 
 -- The same of the plan that the bed would make.
 pub below-bed : {patients : List ℕ} {head : Branching} {s bed c : ℕ} {rest : Rest} (others : List ℕ) → remaining head ≡ s ∷ others → GivesRest patients (remaining head) (head .bound) s rest → c ≤ 64_000_000
     → Below patients head s bed c (record { left = rest .left; plan = record { beds = set (head .plan .beds) s bed; len = head .plan .len + 1 }; cost = head .cost + c; bound = rest .bound })
-below-bed {head} {bed} others lowest rest most = below-head head bed (head .plan .beds) others lowest rest refl most
+below-bed {head} {s} {bed} others lowest rest most = below-head (record { beds = set (head .plan .beds) s bed; len = head .plan .len + 1 }) others lowest rest refl refl most

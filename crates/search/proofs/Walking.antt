@@ -5,8 +5,8 @@ use Prim.Native.Nat.{_≤_}
 use native.Mathlib.Numerals.{add-one}
 use native.Mathlib.Omega.{arith}
 use lib.ListN.{set, drop}
-use borrow.Author.Tests.{eqb-true, not-true}
-use Rattle.definitions.specs.Basics.{ℕ, suc, _+_, _-_, _<_, Ordering, true, false, none, some, List, [], _∷_, length, take, eqb, isEmpty, insert, contains}
+use borrow.Author.Tests.{eqb-true, not-true, not-false}
+use Rattle.definitions.specs.Basics.{ℕ, suc, _+_, _-_, _<_, Ordering, Bool, true, false, not, none, some, List, [], _∷_, length, take, eqb, isEmpty, insert, contains}
 use Rattle.definitions.specs.Syntax.{Region, patientAt}
 use Rattle.definitions.specs.Plans.{Row, costOver, compareRows}
 use Rattle.ranking.specs.Orders.{View, before, equal, after}
@@ -133,7 +133,7 @@ module _ {store patients terms : List ℕ} {v n m : ℕ} {area : List ℕ} {head
             fits = fits (asks .region) (asks .heads);
           }
 
-      pub asks-cut : AsksCut v found m now (head .plan .beds) (head .plan .len) s bed
+      pub asks-cut : AsksCut v found m now (head .plan) s bed
       asks-cut =
           record {
             patients = asks .heads .few;
@@ -203,10 +203,10 @@ module _ {store patients terms : List ℕ} {v n m : ℕ} {area : List ℕ} {head
             next-bed (gives .count) (gives .long) (gives .padded) (λ r heads ready.
             grown-below r heads ready then grows (gives .grown r (heads-below is heads (asks .light) (fits r heads)) (ready-below r heads ready)))
 
-        pub sofar-cut : isPast v found m now (below .cost + below .bound) (below .plan .beds) ≡ true → Sofar store patients terms v n m area head s count now found (bed + 1)
+        pub sofar-cut : {r : Bool} → r ≡ isPast v found m now (below .cost + below .bound) (below .plan .beds) → not r ≡ false → Sofar store patients terms v n m area head s count now found (bed + 1)
         unfolding isPast
-        sofar-cut past =
-            let parts = both (eqb found m) past in
+        sofar-cut {r} past gone =
+            let parts = both (eqb found m) (sym past ∙ not-false r gone) in
             let full : found ≡ m = eqb-true found m (parts .0) in
             let d : Row = record { cost = 0; beds = [] } in
             let best : Row = record { cost = below .cost + below .bound; beds = take v (below .plan .beds) } in

@@ -104,14 +104,14 @@ AllPadded v n area = (z : Row) → z ∈ wholeRows n area → Padded v z
 unfoldable pub isPast : ℕ → ℕ → ℕ → List ℕ → ℕ → List ℕ → Bool
 isPast v n m area cost beds = eqb n m && not (isBefore (compareRows (cut v (record { cost = cost; beds = beds })) (rowIn v area (m - 1))))
 
-pub record AsksCut (v n m : ℕ) (area beds : List ℕ) (placed s bed : ℕ) : Type 0 where
+pub record AsksCut (v n m : ℕ) (area : List ℕ) (plan : Code.Plan) (s bed : ℕ) : Type 0 where
   pub patients : v ≤ 32
   pub room : Room n m area
   pub padded : AllPadded v n area
   pub few : s < 32
-  pub notAll : placed < 32
-  pub long : length beds ≡ 32
-  pub low : (q : ℕ) → q < v → bedOf (set beds s bed) q < 16
+  pub notAll : plan .len < 32
+  pub long : length (plan .beds) ≡ 32
+  pub low : (q : ℕ) → q < v → bedOf (set (plan .beds) s bed) q < 16
 
 -- ---- the walk
 
