@@ -19,7 +19,7 @@ use Rattle.pricing.specs.Pricing.{sumIn}
 use Rattle.pricing.specs.Costs.{fitting-set}
 use Rattle.pricing.specs.declared.Plan as Code
 use Rattle.search.specs.Lowest.{list-split, list-lowest, bucket-decided, upward-rest, bound-members}
-use Rattle.search.specs.Walks.{Branching, remaining, leftIn, headRow, Light, Heads, AsksNext, Below, Decides, GivesRest}
+use Rattle.search.specs.Walks.{Branching, remaining, leftIn, headRow, SumsFit, Heads, AsksNext, Below, Decides, GivesRest}
 use Rattle.search.specs.declared.walk.Rest.{Rest}
 
 module _ {r : Region} {store patients terms : List ℕ} {v : ℕ} {head : Branching} (heads : Heads r store patients terms v head) {s : ℕ} {others : List ℕ} (lowest : remaining head ≡ s ∷ others) where
@@ -47,16 +47,16 @@ module _ {r : Region} {store patients terms : List ℕ} {v : ℕ} {head : Branch
   pub decided : decidedTables r (only s) (contains others) ≡ bucketOf r s
   decided = bucket-decided r s split low (heads .upward)
 
-  pub fits-next : Light head → (bed : ℕ) → bed < patientAt r s .bedCount → Fitting r (set (head .plan .beds) s bed)
-  fits-next light bed h = fitting-set r (head .plan .beds) s bed (omega (arith, known, heads .counted, heads .few, light .beds)) (heads .fits) h
+  pub fits-next : SumsFit head → (bed : ℕ) → bed < patientAt r s .bedCount → Fitting r (set (head .plan .beds) s bed)
+  fits-next sumsFit bed h = fitting-set r (head .plan .beds) s bed (omega (arith, known, heads .counted, heads .few, sumsFit .beds)) (heads .fits) h
 
   pub few : s < 32
   few = omega (arith, known, heads .counted, heads .few)
 
   -- What the costs of the patient's beds ask for.
-  pub asks-beds : Light head → {count : ℕ} → count ≡ bedsAt patients s → Price.Asks store patients terms s count (head .plan .beds) (replicate 16 0)
-  asks-beds light counts =
-      record { region = r; prepared = heads .prepared; fits = heads .fits; known = known; few = few; counts = counts; long = light .beds; free = heads .position .free s here; zeros = refl }
+  pub asks-beds : SumsFit head → {count : ℕ} → count ≡ bedsAt patients s → Price.Asks store patients terms s count (head .plan .beds) (replicate 16 0)
+  asks-beds sumsFit counts =
+      record { region = r; prepared = heads .prepared; fits = heads .fits; known = known; few = few; counts = counts; long = sumsFit .beds; free = heads .position .free s here; zeros = refl }
 
 -- Four bits hold each bed that fits.
 pub low-beds : {r : Region} {store patients terms : List ℕ} {v : ℕ} {head : Branching} → Heads r store patients terms v head → (beds : List ℕ) → Fitting r beds → (q : ℕ) → q < v → bedOf beds q < 16
@@ -68,7 +68,7 @@ module _ {store patients terms : List ℕ} {head : Branching} {s bed : ℕ} (ask
   asks-few = few (asks .heads) (asks .lowest)
 
   pub asks-room : head .plan .len < 32
-  asks-room = omega (arith, asks .light .placed, ap length (asks .lowest))
+  asks-room = omega (arith, asks .sumsFit .placed, ap length (asks .lowest))
 
   -- What the bed decides costs as much as the sum for it says.
   pub decides : {count : ℕ} {sums : List ℕ} → Price.Gives store patients terms s count (head .plan .beds) sums → {o : Option ℕ} → sumIn (getD sums bed 0) ≡ o
@@ -82,13 +82,13 @@ rest-left w s one rest others e is minus = lowest-and-rest w s one rest (ap isEm
 
 -- The head below a bed.
 module _ {patients : List ℕ} {head below : Branching} {s bed c : ℕ} (is : Below patients head s bed c below) where
-  pub light-below : Light head → Light below
-  light-below light =
+  pub sums-fit-below : SumsFit head → SumsFit below
+  sums-fit-below sumsFit =
       record {
-        beds = ap length (is .beds) ∙ length-set (head .plan .beds) s bed ∙ light .beds;
-        placed = omega (arith, is .len, light .placed, ap length (is .left));
-        cost = omega (arith, is .len, is .cost, is .most, light .cost);
-        bound = omega (arith, is .bound, light .bound);
+        beds = ap length (is .beds) ∙ length-set (head .plan .beds) s bed ∙ sumsFit .beds;
+        placed = omega (arith, is .len, sumsFit .placed, ap length (is .left));
+        cost = omega (arith, is .len, is .cost, is .most, sumsFit .cost);
+        bound = omega (arith, is .bound, sumsFit .bound);
       }
 
   module _ {r : Region} {store terms : List ℕ} {v : ℕ} (heads : Heads r store patients terms v head) where
@@ -102,13 +102,13 @@ module _ {patients : List ℕ} {head below : Branching} {s bed c : ℕ} (is : Be
         ap (take v) (is .beds) ∙ take-set-lt v (head .plan .beds) s bed (omega (arith, known heads (is .left), heads .counted)) in
         λ i. record { cost = cost i; beds = beds i }
 
-    pub heads-below : Light head → bed < patientAt r s .bedCount → Heads r store patients terms v below
-    heads-below light h =
+    pub heads-below : SumsFit head → bed < patientAt r s .bedCount → Heads r store patients terms v below
+    heads-below sumsFit h =
         record {
           prepared = heads .prepared;
           counted = heads .counted;
           few = heads .few;
-          fits = rw (is .beds) (fits-next heads (is .left) light bed h);
+          fits = rw (is .beds) (fits-next heads (is .left) sumsFit bed h);
           position = subst⁻¹ (λ p. Position r (leftIn below) p (headRow v below)) (is .beds)
               (subst⁻¹ (λ u. Position r (leftIn below) (set (head .plan .beds) s bed) u) row-below (position-bed s below-split (heads .position) bed c));
           upward = upward-rest r s below-split (low heads (is .left)) (heads .upward);

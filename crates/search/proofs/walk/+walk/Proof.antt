@@ -1,6 +1,6 @@
 use borrow.Author.Needs.{needs}
 use native.Mathlib.Omega.{arith}
-use mathlib.Core.Path.{_≡_, refl, sym, ap, _∙_}
+use mathlib.Core.Path.{sym, ap, _∙_}
 use mathlib.Core.Logic.{⊎-elim}
 use Prim.Native.Nat.{ℕ, _<_, _-_}
 use denote.Ref.{now}
@@ -102,7 +102,7 @@ walk-rest-of-requires t c κs =
     record { few = few (c .before .before .before .before .before .before .pre .1 .heads) lowest; least = least-most (c .before .before .before .before .before .before .pre .1 .heads) lowest }
 
 walk-bed-costs-requires : (t : ℕ) → walk-lts.Need-bed-costs-requires (calls t) (walk-at t) walk.Post walk-Inv-loop walk-μ-loop
-walk-bed-costs-requires t c κs = asks-beds (c .before .before .before .before .before .before .before .before .before .pre .1 .heads) (lowest-first _ _ (sym (c .before .before .before .before .before .before .is-empty .ensures) ∙ c .before .before .before .before .before .if1 .left) (c .before .before .before .before .lowest .ensures)) (c .before .before .before .before .before .before .before .before .before .pre .1 .light) (c .before .before .before .bed-count .ensures)
+walk-bed-costs-requires t c κs = asks-beds (c .before .before .before .before .before .before .before .before .before .pre .1 .heads) (lowest-first _ _ (sym (c .before .before .before .before .before .before .is-empty .ensures) ∙ c .before .before .before .before .before .if1 .left) (c .before .before .before .before .lowest .ensures)) (c .before .before .before .before .before .before .before .before .before .pre .1 .sumsFit) (c .before .before .before .bed-count .ensures)
 
 walk-loop-holds : (t : ℕ) → walk-lts.Need-loop-holds (calls t) (walk-at t) walk.Post walk-Inv-loop walk-μ-loop
 walk-loop-holds t c = sofar-start (c .before .before .before .before .before .before .before .before .before .before .before .pre .1) (drop 1 (members (c .before .before .before .before .before .before .before .before .before .before .before .args .head .left .0))) (lowest-first _ _ (sym (c .before .before .before .before .before .before .before .before .is-empty .ensures) ∙ c .before .before .before .before .before .before .before .if1 .left) (c .before .before .before .before .before .before .lowest .ensures)) (c .before .before .before .before .before .bed-count .ensures)
@@ -116,14 +116,14 @@ walk-enum-known-cost t c = search needs
 walk-add-sum : (t : ℕ) → walk-lts.Need-add-sum (calls t) (walk-at t) walk.Post walk-Inv-loop walk-μ-loop
 walk-add-sum t c =
     let most = c .before .before .before .before .before .before .before .before .before .bed-costs .ensures .small _ (c .before .before .before .before .before .before .loop-test .taken) _ (sym (c .before .before .before .before .bed-cost .ensures) ∙ ap costIn (c .before .before .cost .given .1)) in
-    let light = c .before .before .before .before .before .before .before .before .before .before .before .before .before .before .before .before .before .before .before .pre .1 .light in
-    omega (arith, most, light .cost, light .placed)
+    let sumsFit = c .before .before .before .before .before .before .before .before .before .before .before .before .before .before .before .before .before .before .before .pre .1 .sumsFit in
+    omega (arith, most, sumsFit .cost, sumsFit .placed)
 
 walk-add-least : (t : ℕ) → walk-lts.Need-add-least (calls t) (walk-at t) walk.Post walk-Inv-loop walk-μ-loop
 walk-add-least t c =
     let most = c .before .before .before .before .before .before .before .before .before .bed-costs .ensures .small _ (c .before .before .before .before .before .before .loop-test .taken) _ (sym (c .before .before .before .before .bed-cost .ensures) ∙ ap costIn (c .before .before .cost .given .1)) in
-    let light = c .before .before .before .before .before .before .before .before .before .before .before .before .before .before .before .before .before .before .before .pre .1 .light in
-    omega (arith, most, light .cost, light .placed, light .bound, c .before .before .before .before .before .before .before .before .before .before .before .before .rest-of .ensures .bound)
+    let sumsFit = c .before .before .before .before .before .before .before .before .before .before .before .before .before .before .before .before .before .before .before .pre .1 .sumsFit in
+    omega (arith, most, sumsFit .cost, sumsFit .placed, sumsFit .bound, c .before .before .before .before .before .before .before .before .before .before .before .before .rest-of .ensures .bound)
 
 walk-cast-is-cut : (t : ℕ) → walk-lts.Need-cast-is-cut (calls t) (walk-at t) walk.Post walk-Inv-loop walk-μ-loop
 walk-cast-is-cut t c = omega (arith, bed-small (c .before .before .before .before .before .before .before .before .before .before .before .before .before .before .before .before .before .before .before .before .pre .1) (c .before .before .before .before .before .before .before .before .loop .inv) (c .before .before .before .before .before .before .before .loop-test .taken))

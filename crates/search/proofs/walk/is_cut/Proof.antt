@@ -4,7 +4,7 @@ use mathlib.Core.Path.{ap, _∙_, subst}
 use Prim.Native.Nat.{ℕ, _<_}
 use lib.ListN.{set, length-set}
 use Rattle.packed_rows.specs.Packing.{packedRow}
-use Rattle.search.proofs.Cutting.{not-full, cheaper, dearer}
+use Rattle.search.proofs.Cutting.{not-full, cheaper, costlier}
 use Rattle.search.proofs.Padded.{past-cut}
 use Rattle.search.proofs.walk.is_cut.Statement.{statement}
 use Rattle.search.proofs.walk.is_cut.Tie as tie
@@ -28,7 +28,7 @@ returns-2 c =
 returns-3 : tie.Need-returns-3
 returns-3 c =
     let a = c .before .before .before .before .before .args in
-    dearer (a .v) (a .n) (a .m) _ (a .cost) _ (c .before .before .before .before .before .pre .room) (omega arith) (subst (λ (k : ℕ). k < a .cost) (c .before .before .cost-at .ensures) (c .if3 .taken))
+    costlier (a .v) (a .n) (a .m) _ (a .cost) _ (c .before .before .before .before .before .pre .room) (omega arith) (subst (λ (k : ℕ). k < a .cost) (c .before .before .cost-at .ensures) (c .if3 .taken))
 
 place-requires : tie.Need-place-requires
 place-requires c κs = search needs
