@@ -30,7 +30,7 @@ use Rattle.buckets.specs.WithTables.{withTables, accepted-with, term-wit
 use Rattle.buckets.specs.Written.{PatientsWritten, lastOf, TermKnown, TermAdded}
 use Rattle.buckets.proofs.Writing.{zeros}
 use Rattle.buckets.proofs.Held.{held-lines, least-fits, held-place, held-right, members-same, entries-same, count-same}
-use Rattle.buckets.proofs.Held.{first-same, last-same, last-known, least-told, least-one}
+use Rattle.buckets.proofs.Held.{first-same, last-same, last-known, least-in-store, least-one}
 
 -- The tables that pass a test, from place i on, of which s is the highest member.
 abbrev pub bucketFrom : (Said.Table → Bool) → Said.Region → ℕ → ℕ → List Said.Table
@@ -91,7 +91,7 @@ module _ (h : Region) (store : List ℕ) (test : Said.Table → Bool) (a : Accep
     from-is = omega (arith, start-down)
 
     least-is : leastNumber store from (from + table .entries) ≡ leastEntry t
-    least-is = ap (λ n. leastNumber store n (n + table .entries)) from-is ∙ least-told h store a i l
+    least-is = ap (λ n. leastNumber store n (n + table .entries)) from-is ∙ least-in-store h store a i l
 
     next-table : (s : ℕ) → bucketFrom test r i s
         ≡ keep (highest s) (cond (test t) (t ∷ keep test (drop (suc i) (r .tables))) (keep test (drop (suc i) (r .tables))))

@@ -117,9 +117,9 @@ module _ (h : Region) (store : List ℕ) (a : Accepted (said h store)) where
     pub last-known : lastOf table < length (r .patients)
     last-known = omega (arith, last-same, member-at held-right (length (t .members) - 1) (omega (arith, held-right .some)))
 
-    pub least-told : leastNumber store (startOf (r .tables) i) (startOf (r .tables) i + table .entries) ≡ leastEntry t
+    pub least-in-store : leastNumber store (startOf (r .tables) i) (startOf (r .tables) i + table .entries) ≡ leastEntry t
     unfolding leastEntry
-    least-told =
+    least-in-store =
         ap (λ n. leastNumber store (startOf (r .tables) i) (startOf (r .tables) i + n)) entries-same
         ∙ least-of-entries store (startOf (r .tables) i) (t .entries) (λ q m. stands h store i q held-place m)
         (every-weaken (noneOr (within entry)) (noneOr (λ n. ltb n mark)) below-mark (t .entries) (held-right .within))

@@ -14,7 +14,7 @@ use Rattle.lists.specs.Below.{length-by-places, at-place}
 use Rattle.lists.specs.Loops.{placesFrom}
 use Rattle.buckets.specs.Terms.{memberAt, strideAt, bedsAt}
 use Rattle.buckets.specs.Places.{strideOf, stride-past}
-use Rattle.buckets.specs.Written.{MembersKnown, OthersKept, MembersSoFar, MembersWritten}
+use Rattle.buckets.specs.Written.{MembersWritable, OthersKept, MembersSoFar, MembersWritten}
 use Rattle.buckets.proofs.Writing.{two-length, two-other, two-first, two-second}
 
 -- The place that a loop from the end takes next.
@@ -41,7 +41,7 @@ stride-from f t i h =
     stride-places f (λ j. getD (t .first) j 0) 0 (t .members) i h
     ∙ ap (λ b. product (map f (map (λ j. getD (t .first) j 0) (numbersFrom b (t .members - (i + 1)))))) from
 
-module _ (patients : List ℕ) (t : Table) (k : ℕ) (before : List ℕ) (known : MembersKnown patients t k before) where
+module _ (patients : List ℕ) (t : Table) (k : ℕ) (before : List ℕ) (known : MembersWritable patients t k before) where
   -- Before the loop.
   pub members-none : MembersSoFar patients t k before (t .members) 1 before
   members-none =

@@ -17,7 +17,7 @@ pub record PatientsWritten (patients : List Patient) (v : ℕ) (words : List ℕ
   pub first : (s : ℕ) → s < v → firstAt words s ≡ 64
 
 -- What writing a table's members relies on: they are patients, with few beds each, and the term has its place.
-pub record MembersKnown (patients : List ℕ) (t : Table) (k : ℕ) (terms : List ℕ) : Type 0 where
+pub record MembersWritable (patients : List ℕ) (t : Table) (k : ℕ) (terms : List ℕ) : Type 0 where
   pub few : t .members ≤ 4
   pub known : (j : ℕ) → j < t .members → getD (t .first) j 0 < 32
   pub small : (j : ℕ) → j < t .members → bedsAt patients (getD (t .first) j 0) ≤ 16
@@ -59,7 +59,7 @@ pub record LastKnown (t : Table) : Type 0 where
 
 -- What adding a term relies on: its entries are in the store, and the sum of the least numbers fits.
 pub record TermKnown (store : List ℕ) (t : Table) (k start : ℕ) (patients terms : List ℕ) : Type 0 where
-  pub members : MembersKnown patients t k terms
+  pub members : MembersWritable patients t k terms
   pub wide : length patients ≡ 96
   pub last : LastKnown t
   pub inside : start + t .entries ≤ 4096

@@ -16,7 +16,7 @@ ghost use Rattle.buckets.specs.WithTables.{withTables};
 ghost use Rattle.buckets.specs.Among.{isAmong};
 ghost use Rattle.buckets.specs.Terms.{Prepared};
 ghost use Rattle.buckets.specs.Least.{leastNumber};
-ghost use Rattle.buckets.specs.Written.{PatientsWritten, MembersKnown, MembersWritten, LastKnown, lastOf, TermKnown, TermAdded};
+ghost use Rattle.buckets.specs.Written.{PatientsWritten, MembersWritable, MembersWritten, LastKnown, lastOf, TermKnown, TermAdded};
 
 // For each patient three words: its count of beds, the sum of the least numbers of its bucket, and the first term of its bucket.
 // For each table a term of ten words: the start of its entries, the next term of the bucket, four members and their strides.
@@ -63,7 +63,7 @@ fn least_number(entries: &[u32; 4096], from: usize, to: usize) -> u32
 
 // The members of a table, and for each the product of the bed counts of the members after it.
 fn write_members(terms: &mut [u32; 640], patients: &[u32; 96], table: Table, k: usize)
-    requires { ⌜ MembersKnown (now patients) table k (now terms) ⌝ }
+    requires { ⌜ MembersWritable (now patients) table k (now terms) ⌝ }
     ensures { λ r. ⌜ MembersWritten (now (patients .entry)) table k (now (terms .entry)) (now (terms .exit)) ⌝ }
 {
     let mut stride: u32 = 1;

@@ -28,8 +28,8 @@ module _ (r : Said.Region) (smaller : parentsSmaller r ≡ true) where
   root-next s p e = rw (ancestors-next r smaller s p e) refl
 
 -- The first n numbers are roots, whatever the store says.
-abbrev pub RootedTo : Region → ℕ → List ℕ → Type 0
-RootedTo h n roots = (store : List ℕ) (s : ℕ) → s < n → getD roots s 0 ≡ rootOf (said h store) s
+abbrev pub RootNumbersTo : Region → ℕ → List ℕ → Type 0
+RootNumbersTo h n roots = (store : List ℕ) (s : ℕ) → s < n → getD roots s 0 ≡ rootOf (said h store) s
 
 module _ (h : Region) (first : ParentsFirst h) (s : ℕ) (l : s < h .v) where
   abbrev parent : Option ℕ
@@ -45,15 +45,15 @@ module _ (h : Region) (first : ParentsFirst h) (s : ℕ) (l : s < h .v) where
   parent-known p e = omega (arith, parent-smaller p e, first .places .patients)
 
   -- One patient more.
-  pub rooted-more : (roots : List ℕ) (root : ℕ) → s < length roots → root ≡ rootFrom roots s parent → RootedTo h s roots → RootedTo h (s + 1) (set roots s root)
-  rooted-more roots root room is rooted store j m = go (decLt j s)
+  pub root-numbers-more : (roots : List ℕ) (root : ℕ) → s < length roots → root ≡ rootFrom roots s parent → RootNumbersTo h s roots → RootNumbersTo h (s + 1) (set roots s root)
+  root-numbers-more roots root room is rootNumbers store j m = go (decLt j s)
     where
       own : (o : Option ℕ) → parent ≡ o → rootFrom roots s o ≡ rootOf (said h store) s
       own none e = sym (root-itself (said h store) (parents-first h first store) s (own-parent store ∙ e))
-      own (some p) e = rooted store p (parent-smaller p e) ∙ sym (root-next (said h store) (parents-first h first store) s p (own-parent store ∙ e))
+      own (some p) e = rootNumbers store p (parent-smaller p e) ∙ sym (root-next (said h store) (parents-first h first store) s p (own-parent store ∙ e))
 
       go : Dec (j < s) → getD (set roots s root) j 0 ≡ rootOf (said h store) j
-      go (yes n) = getD-set-other roots s j root 0 (λ e. omega arith) ∙ rooted store j n
+      go (yes n) = getD-set-other roots s j root 0 (λ e. omega arith) ∙ rootNumbers store j n
       go (no n) =
           let same : j ≡ s = omega arith in
           ap (λ k. getD (set roots s root) k 0) same ∙ getD-set-same roots s root 0 room ∙ is ∙ own parent refl ∙ ap (rootOf (said h store)) (sym same)

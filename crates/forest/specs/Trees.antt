@@ -18,7 +18,7 @@ use Rattle.partial_rows.specs.Trees.{rootOf, treeOf, rootsBelow, roots-closed, 
 use Rattle.patient_set.specs.Sets.{inSet}
 
 -- The numbers are the patients' roots.
-pub record Rooted (r : Region) (numbers : List ℕ) : Type 0 where
+pub record RootNumbers (r : Region) (numbers : List ℕ) : Type 0 where
   pub roots : (s : ℕ) → s < length (r .patients) → getD numbers s 0 ≡ rootOf r s
 
 -- The root of a patient with this parent, from the roots of those before it.
@@ -27,11 +27,11 @@ rootFrom roots s none = s
 rootFrom roots s (some p) = getD roots p 0
 
 -- A word that has the patients with root k.
-module _ {r : Region} {roots : List ℕ} (rooted : Rooted r roots) (accepted : Accepted r) {v : ℕ} (all : v ≡ length (r .patients))
+module _ {r : Region} {roots : List ℕ} (rootNumbers : RootNumbers r roots) (accepted : Accepted r) {v : ℕ} (all : v ≡ length (r .patients))
     (w k : ℕ) (is : (q : ℕ) → inSet w q ≡ (ltb q v && eqb (getD roots q 0) k)) where
   -- It is the tree of k, ..
   pub tree-is : (q : ℕ) → q < v → inSet w q ≡ treeOf r k q
-  tree-is q l = is q ∙ ap (λ b. b && eqb (getD roots q 0) k) (lt-ltb q v l) ∙ ap (λ root. eqb root k) (rooted .roots q (omega (arith, all)))
+  tree-is q l = is q ∙ ap (λ b. b && eqb (getD roots q 0) k) (lt-ltb q v l) ∙ ap (λ root. eqb root k) (rootNumbers .roots q (omega (arith, all)))
 
   pub tree-beyond : (q : ℕ) → v ≤ q → inSet w q ≡ false
   tree-beyond q l = is q ∙ ap (λ b. b && eqb (getD roots q 0) k) (le-ltb q v l)

@@ -8,7 +8,7 @@ ghost use Rattle.definitions.specs.Basics.{List, some, _&&_, eqb, ltb, getD};
 ghost use Rattle.patient_set.specs.Sets.{inSet};
 ghost use Rattle.held_region.specs.Meaning.{parentOf, said};
 ghost use Rattle.held_region.specs.Sound.{ParentsFirst};
-ghost use Rattle.forest.specs.Trees.{Rooted, rootFrom};
+ghost use Rattle.forest.specs.Trees.{RootNumbers, rootFrom};
 
 // The root of patient s, who has this parent: its own number, or its parent's root.
 fn root_number(roots: [u32; 32], s: usize, parent: Parent) -> u32
@@ -27,7 +27,7 @@ fn root_number(roots: [u32; 32], s: usize, parent: Parent) -> u32
 // The root of each patient. A parent's number is smaller, so its root is known first.
 pub fn root_numbers(region: Region) -> [u32; 32]
     requires { ⌜ ParentsFirst region ⌝ }
-    ensures { λ roots. ⌜ ((store : List ℕ) → Rooted (said region store) roots) ⌝ }
+    ensures { λ roots. ⌜ ((store : List ℕ) → RootNumbers (said region store) roots) ⌝ }
 {
     let mut roots = [0u32; 32];
     let patients = region.patients;

@@ -33,8 +33,8 @@ module _ (x y : Row) where
     pub cheaper : x .cost < y .cost → true ≡ answer tie x y
     cheaper h = sym (by-cost Ordering·lt (less (x .cost) (y .cost) h))
 
-    pub dearer : y .cost < x .cost → false ≡ answer tie x y
-    dearer h = sym (by-cost Ordering·gt (more (x .cost) (y .cost) h))
+    pub costlier : y .cost < x .cost → false ≡ answer tie x y
+    costlier h = sym (by-cost Ordering·gt (more (x .cost) (y .cost) h))
 
   module _ (p : length (x .words) ≡ 4) (q : length (y .words) ≡ 4) where
     pub same-cost : (tie : Bool) → y .cost ≤ x .cost → x .cost ≤ y .cost → answer tie x y ≡ answerFrom tie x y 0

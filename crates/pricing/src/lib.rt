@@ -71,7 +71,7 @@ fn entry_place(terms: &[u32; 640], k: usize, beds: &[u8; 32]) -> usize
 }
 
 // What the tables of a patient's bucket cost together.
-pub fn bucket_cost(
+fn bucket_cost(
     patients: &[u32; 96],
     terms: &[u32; 640],
     entries: &[u32; 4096],

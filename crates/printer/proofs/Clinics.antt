@@ -13,7 +13,7 @@ use Rattle.held_region.specs.declared.Region as Code
 use Rattle.held_region.specs.Meaning.{said}
 use Rattle.definitions.specs.Syntax.{patientsOf}
 use Rattle.row_list.specs.Rows.{rowsIn}
-use Rattle.row_sums.specs.Sums.{part}
+use Rattle.row_sums.specs.Sums.{workPart}
 use Rattle.row_sums.specs.Areas.{part-long}
 use Rattle.sheets.specs.Sheets.{Given, Asks, Gives}
 use Rattle.theorems.specs.Clinics.{present-asked}
@@ -59,11 +59,11 @@ module _ (h : Code.Region) (store : List ℕ) {n clinic at : ℕ} (out work : Li
 
   -- The rows of the sheet lie in the second part of the work area, with k beds a row.
   module _ (present : empty ≡ false) {k count : ℕ} {area : List ℕ} (gives : Gives h store n set work area count) (wide : k ≡ length (members set)) where
-    rows-said : sheetText clinic (rowsIn k count (part 1 area)) ≡ clinicText r clinic
+    rows-said : sheetText clinic (rowsIn k count (workPart 1 area)) ≡ clinicText r clinic
     rows-said =
-        ap (sheetText clinic) (ap (λ w. rowsIn w count (part 1 area)) wide ∙ gives .sheet clinic given) ∙ sym (text-said present)
+        ap (sheetText clinic) (ap (λ w. rowsIn w count (workPart 1 area)) wide ∙ gives .sheet clinic given) ∙ sym (text-said present)
 
-    pub printable : Printable (sheetText clinic (rowsIn k count (part 1 area))) k count (part 1 area) at out
+    pub printable : Printable (sheetText clinic (rowsIn k count (workPart 1 area))) k count (workPart 1 area) at out
     printable =
         let part-is = part-long 1 area (omega (arith, gives .long, asks .listed .long)) in
         let same = rows-said in
@@ -73,7 +73,7 @@ module _ (h : Code.Region) (store : List ℕ) {n clinic at : ℕ} (out work : Li
           room = rw same (asks .room);
         }
 
-    pub clinic-printed : {after : List ℕ} {end : ℕ} → Wrote (sheetText clinic (rowsIn k count (part 1 area))) at out after end
+    pub clinic-printed : {after : List ℕ} {end : ℕ} → Wrote (sheetText clinic (rowsIn k count (workPart 1 area))) at out after end
         → GivesClinic h store n clinic at out work after area end
     clinic-printed wrote = record {
       kept = record { long = gives .long; list = gives .list };

@@ -11,7 +11,7 @@ use Rattle.held_region.specs.declared.Region as Code
 use Rattle.held_region.specs.Meaning.{said}
 use Rattle.row_list.specs.Rows.{rowsIn}
 use Rattle.row_list.specs.Laws.{unpadded-long}
-use Rattle.row_sums.specs.Sums.{part}
+use Rattle.row_sums.specs.Sums.{workPart}
 use Rattle.row_sums.specs.Areas.{part-long}
 use Rattle.search.specs.Trees.{GivesRegion}
 use Rattle.region_answers.specs.Counts.{counts-few}
@@ -34,7 +34,7 @@ module _ (h : Code.Region) (store : List ℕ) (out work : List ℕ) (asks : Asks
 
   -- As many rows as the list has.
   counted : n ≡ length (listOf r)
-  counted = sym (unpadded-long (h .v) n (part 0 area)) ∙ ap length (gives .list)
+  counted = sym (unpadded-long (h .v) n (workPart 0 area)) ∙ ap length (gives .list)
 
   -- Question 13 is answered no.
   module _ (none-found : n ≡ 0) where
@@ -51,12 +51,12 @@ module _ (h : Code.Region) (store : List ℕ) (out work : List ℕ) (asks : Asks
 
   -- The list is left, then the sheets.
   module _ (some-found : n ≡ 0 → ⊥) where
-    all-left : Left (regionText r) 0 out (listText (rowsIn (h .v) n (part 0 area)) ∷ sheetsFrom r 0 ∷ []) out 0
+    all-left : Left (regionText r) 0 out (listText (rowsIn (h .v) n (workPart 0 area)) ∷ sheetsFrom r 0 ∷ []) out 0
     all-left =
         let list = gives .list in
         rw list (none-yet _ (text-parts r (list-some r (asks .accepted) counted some-found)))
 
-    pub list-printable : Printable (listText (rowsIn (h .v) n (part 0 area))) (h .v) n (part 0 area) 0 out
+    pub list-printable : Printable (listText (rowsIn (h .v) n (workPart 0 area))) (h .v) n (workPart 0 area) 0 out
     list-printable =
         let part-is = part-long 0 area (omega (arith, gives .long, asks .long)) in
         record {
@@ -65,7 +65,7 @@ module _ (h : Code.Region) (store : List ℕ) (out work : List ℕ) (asks : Asks
           room = room-for all-left (asks .room);
         }
 
-    module _ {now : List ℕ} {at : ℕ} (wrote : Wrote (listText (rowsIn (h .v) n (part 0 area))) 0 out now at) where
+    module _ {now : List ℕ} {at : ℕ} (wrote : Wrote (listText (rowsIn (h .v) n (workPart 0 area))) 0 out now at) where
       pub asks-sheets : AsksSheets h store n at now area
       asks-sheets =
           record {

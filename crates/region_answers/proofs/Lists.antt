@@ -16,7 +16,7 @@ use Rattle.held_region.specs.declared.Region.{Region}
 use Rattle.held_region.specs.Meaning.{said}
 use Rattle.row_list.specs.Rows.{rowsIn}
 use Rattle.row_list.specs.Laws.{rows-take}
-use Rattle.row_sums.specs.Sums.{part}
+use Rattle.row_sums.specs.Sums.{workPart}
 use Rattle.row_writer.specs.Writing.{longEnough, Writable, RowsWritten}
 use Rattle.search.specs.Trees.{GivesRegion}
 use Rattle.answers.specs.declared.Listed.the-variants.{Short, Nothing, Rows}
@@ -33,7 +33,7 @@ module _ (h : Region) (store : List ℕ) (accepted : Accepted (said h store)) {n
   most = omega (arith, gives .count, counts-few h store accepted .1)
 
   found : rowsIn (h .v) n area ≡ listOf (said h store)
-  unfolding part
+  unfolding workPart
   found = sym (ap (map (unpadded (h .v))) (rows-take n 384 area (omega (arith, most)))) ∙ gives .list
 
   pub found-count : n ≡ length (listOf (said h store))

@@ -18,7 +18,7 @@ use Rattle.held_region.specs.declared.Region.{Region}
 use Rattle.held_region.specs.Meaning.{said}
 use Rattle.held_region.specs.Asked.{patients-said}
 use Rattle.row_list.specs.Rows.{rowsIn}
-use Rattle.row_sums.specs.Sums.{part}
+use Rattle.row_sums.specs.Sums.{workPart}
 use Rattle.row_sums.specs.Areas.{part-long}
 use Rattle.row_writer.specs.Writing.{longEnough, Writable, RowsWritten}
 use Rattle.search.specs.Trees.{GivesRegion}
@@ -37,14 +37,14 @@ use Rattle.region_answers.proofs.Clinics.{own-costs-small}
 module _ (h : Region) (store : List ℕ) {n set k count : ℕ} (beds costs work : List ℕ) {area : List ℕ} (asks : AsksSheet h store n set beds costs work) (wide : k ≡ length (members set))
     (gives : Gives h store n set work area count) where
   -- They are the sheet of every clinic that the set holds.
-  rows : (clinic : ℕ) → Given h store clinic n set work → rowsIn k count (part 1 area) ≡ sheetOf (said h store) clinic
-  rows clinic given = ap (λ w. rowsIn w count (part 1 area)) wide ∙ gives .sheet clinic given
+  rows : (clinic : ℕ) → Given h store clinic n set work → rowsIn k count (workPart 1 area) ≡ sheetOf (said h store) clinic
+  rows clinic given = ap (λ w. rowsIn w count (workPart 1 area)) wide ∙ gives .sheet clinic given
 
   -- A clinic has at most V patients.
   narrower : k ≤ h .v
   narrower = omega (arith, wide, ap length (asks .asks .given .patients), patients-few (said h store) (asks .asks .clinic), patients-said h store)
 
-  pub writable-sheet : Writable k count (part 1 area) beds costs
+  pub writable-sheet : Writable k count (workPart 1 area) beds costs
   writable-sheet =
       let part-is = part-long 1 area (omega (arith, gives .long, asks .asks .long)) in
       record {
@@ -53,13 +53,13 @@ module _ (h : Region) (store : List ℕ) {n set k count : ℕ} (beds costs work 
         held = omega (arith, part-is, gives .count, asks .asks .few);
         bedsLong = le-trans (mul-le-mul (le-trans (gives .count) (asks .count)) narrower) (asks .bedsLong);
         costsLong = omega (arith, gives .count, asks .count, asks .costsLong);
-        narrow = narrow k count (part 1 area) (rows (asks .asks .clinic) (asks .asks .given)) (own-costs-small (said h store) (asks .asks .accepted) (asks .asks .clinic));
+        narrow = narrow k count (workPart 1 area) (rows (asks .asks .clinic) (asks .asks .given)) (own-costs-small (said h store) (asks .asks .accepted) (asks .asks .clinic));
       }
 
-  pub sheet-written : {bedsAfter costsAfter after : List ℕ} → RowsWritten k count (part 1 area) beds costs bedsAfter costsAfter → after ≡ replicate (length area) 0
+  pub sheet-written : {bedsAfter costsAfter after : List ℕ} → RowsWritten k count (workPart 1 area) beds costs bedsAfter costsAfter → after ≡ replicate (length area) 0
       → SheetWritten h store n set beds costs work count bedsAfter costsAfter after
   sheet-written rows-out zeros clinic given =
-      written-out k count (part 1 area) (rows clinic given) (length (patientsOf (said h store) clinic)) beds costs work (wide ∙ ap length (given .patients)) rows-out
+      written-out k count (workPart 1 area) (rows clinic given) (length (patientsOf (said h store) clinic)) beds costs work (wide ∙ ap length (given .patients)) rows-out
       (zeros ∙ ap (λ l. replicate l 0) (gives .long))
 
 -- Areas of one length are the same zeros.

@@ -14,7 +14,7 @@ use Rattle.theorems.specs.List.{rowOrder}
 use Rattle.partial_rows.specs.Adding.{addRows}
 use Rattle.row_list.specs.Rows.{wholeRow, wholeRows}
 use Rattle.row_list.specs.Laws.{rows-none, rows-more}
-use Rattle.row_sums.specs.Sums.{part, Gives}
+use Rattle.row_sums.specs.Sums.{workPart, Gives}
 use Rattle.row_sums.specs.Steps.{backwards, Found, Copied}
 
 distinct-last : {A : Type 0} (l : List A) (x : A) → Distinct (l ++ (x ∷ [])) → (x ∈ l → ⊥) × Distinct l
@@ -65,7 +65,7 @@ pub all-found : (m a b i n : ℕ) (work now after : List ℕ) → i ≤ a → a 
 all-found m a b i n work now after h k f c = record {
   count = f .count;
   long = c .long ∙ f .kept .long;
-  first = λ s t shows. rw (c .rows, all .sums (sorted-rising rowOrder (wholeRows b (part 1 work)) t)) (sums-first m a b (part 0 work) (part 1 work) s t shows);
+  first = λ s t shows. rw (c .rows, all .sums (sorted-rising rowOrder (wholeRows b (workPart 1 work)) t)) (sums-first m a b (workPart 0 work) (workPart 1 work) s t shows);
 }
   where
     all : Found m b a work now n

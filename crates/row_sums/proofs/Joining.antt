@@ -17,7 +17,7 @@ use Rattle.packed_rows.specs.declared.Row.{Row}
 use Rattle.packed_rows.specs.Packed.{rowOf}
 use Rattle.row_list.specs.Rows.{wholeRow, wholeRows, Inserted}
 use Rattle.row_list.specs.Laws.{rows-long, rows-at, rows-none}
-use Rattle.row_sums.specs.Sums.{part, Asks}
+use Rattle.row_sums.specs.Sums.{workPart, Asks}
 use Rattle.row_sums.specs.Steps.{backwards, Kept, AsksRow, Joined, GivesRow, Found}
 use Rattle.row_sums.specs.Areas.{replaced, replaced-long, part-new, part-before, part-long}
 
@@ -35,8 +35,8 @@ module _ (m n : ℕ) (x : Row) (work : List ℕ) where
   unfolding backwards
   none-joined h = record { count = h; kept = none-changed work; joined = λ sums s. s }
 
-  pub one-joined : (j count r : ℕ) (now new : List ℕ) (y sum : Row) → 1_152 ≤ length now → Joined m n j x work now count → rowOf y ≡ wholeRow (part 1 now) j
-      → rowOf sum ≡ addRows (rowOf x) (rowOf y) → Inserted count m sum (part 2 now) new r
+  pub one-joined : (j count r : ℕ) (now new : List ℕ) (y sum : Row) → 1_152 ≤ length now → Joined m n j x work now count → rowOf y ≡ wholeRow (workPart 1 now) j
+      → rowOf sum ≡ addRows (rowOf x) (rowOf y) → Inserted count m sum (workPart 2 now) new r
       → Joined m n (j + 1) x work (replaced 768 new now) r
   unfolding backwards
   one-joined j count r now new y sum h g read added ins = record {
@@ -47,8 +47,8 @@ module _ (m n : ℕ) (x : Row) (work : List ℕ) where
       long = replaced-long 2 now new h long ∙ g .kept .long;
     };
     joined = λ sums s.
-        let l = map f (backwards j (part 1 work)) ++ sums in
-        let e : rowOf sum ∷ l ≡ map f (backwards (j + 1) (part 1 work)) ++ sums = rw add-one (ap (λ (z : Said.Row). z ∷ l) sum-is) in
+        let l = map f (backwards j (workPart 1 work)) ++ sums in
+        let e : rowOf sum ∷ l ≡ map f (backwards (j + 1) (workPart 1 work)) ++ sums = rw add-one (ap (λ (z : Said.Row). z ∷ l) sum-is) in
         ap (wholeRows r) (part-new 2 now new h long) ∙ ins .rows (subst⁻¹ (Rising rowOrder) (g .joined sums s) (rising-take rowOrder m (sort compareRows l) (rising-sort rowOrder l))) ∙ ap (λ (k : List Said.Row). take m (insert compareRows (rowOf sum) k)) (g .joined sums s)
         ∙ take-insert compareRows m (rowOf sum) (sort compareRows l) ∙ ap (λ (k : List Said.Row). take m (sort compareRows k)) e;
   }
@@ -59,7 +59,7 @@ module _ (m n : ℕ) (x : Row) (work : List ℕ) where
       long : length new ≡ 384
       long = ins .long ∙ part-long 2 now h
 
-      sum-is : rowOf sum ≡ f (wholeRow (part 1 work) j)
+      sum-is : rowOf sum ≡ f (wholeRow (workPart 1 work) j)
       sum-is = added ∙ ap f (read ∙ ap (λ (p : List ℕ). wholeRow p j) (g .kept .second))
 
 -- With all rows joined, their order does not matter.
@@ -69,9 +69,9 @@ all-joined m n b x g = record { count = g .count; kept = g .kept; joined = λ ri
 module _ (m b : ℕ) (work : List ℕ) where
   pub none-found : Found m b 0 work work 0
   unfolding backwards flatMap
-  none-found = record { count = omega arith; kept = none-changed work; sums = λ rising. rows-none (part 2 work) ∙ sym (take-nil m) }
+  none-found = record { count = omega arith; kept = none-changed work; sums = λ rising. rows-none (workPart 2 work) ∙ sym (take-nil m) }
 
-  pub row-found : (i n r : ℕ) (now after : List ℕ) (x : Row) → Found m b i work now n → rowOf x ≡ wholeRow (part 0 now) i → GivesRow m n b x now after r
+  pub row-found : (i n r : ℕ) (now after : List ℕ) (x : Row) → Found m b i work now n → rowOf x ≡ wholeRow (workPart 0 now) i → GivesRow m n b x now after r
       → Found m b (i + 1) work after r
   unfolding backwards flatMap
   row-found i n r now after x f read g = record {
@@ -81,21 +81,21 @@ module _ (m b : ℕ) (work : List ℕ) where
   }
     where
       before : List Said.Row
-      before = cross addRows (backwards i (part 0 work)) (backwards b (part 1 work))
+      before = cross addRows (backwards i (workPart 0 work)) (backwards b (workPart 1 work))
 
-      x-is : rowOf x ≡ wholeRow (part 0 work) i
+      x-is : rowOf x ≡ wholeRow (workPart 0 work) i
       x-is = read ∙ ap (λ (p : List ℕ). wholeRow p i) (f .kept .first)
 
-      more : map (addRows (rowOf x)) (backwards b (part 1 now)) ++ before ≡ cross addRows (backwards (i + 1) (part 0 work)) (backwards b (part 1 work))
+      more : map (addRows (rowOf x)) (backwards b (workPart 1 now)) ++ before ≡ cross addRows (backwards (i + 1) (workPart 0 work)) (backwards b (workPart 1 work))
       more = rw add-one (ap₂ (λ (z : Said.Row) (p : List ℕ). map (addRows z) (backwards b p) ++ before) x-is (f .kept .second))
 
   -- What the sums of the next row ask.
-  pub next-row : (a i n : ℕ) (now : List ℕ) (x : Row) → Asks m a b work → i < a → Found m b i work now n → rowOf x ≡ wholeRow (part 0 now) i → AsksRow m n b x now
+  pub next-row : (a i n : ℕ) (now : List ℕ) (x : Row) → Asks m a b work → i < a → Found m b i work now n → rowOf x ≡ wholeRow (workPart 0 now) i → AsksRow m n b x now
   next-row a i n now x asks h f read = record {
     some = asks .some;
     wanted = asks .wanted;
     held = f .count;
     second = asks .second;
     long = omega (arith, asks .long, f .kept .long);
-    fits = λ y k. asks .fits (rowOf x) y (read-in a i (part 0 work) (part 0 now) x h (f .kept .first) read) (subst (λ (p : List ℕ). y ∈ wholeRows b p) (f .kept .second) k);
+    fits = λ y k. asks .fits (rowOf x) y (read-in a i (workPart 0 work) (workPart 0 now) x h (f .kept .first) read) (subst (λ (p : List ℕ). y ∈ wholeRows b p) (f .kept .second) k);
   }

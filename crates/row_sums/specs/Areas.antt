@@ -5,14 +5,14 @@ use Prim.Native.Nat.{_≤_}
 use lib.ListN.{drop, length-append, length-drop, take-append-drop}
 use lib.Seq.{length-take-le, take-at, drop-at, take-append-le, drop-append-le, drop-append-add, drop-drop}
 use Rattle.definitions.specs.Basics.{ℕ, _+_, _-_, _*_, _<_, List, _++_, length, take}
-use Rattle.row_sums.specs.Sums.{part}
+use Rattle.row_sums.specs.Sums.{workPart}
 
 -- An area whose 384 words from one place on are replaced.
 abbrev pub replaced : ℕ → List ℕ → List ℕ → List ℕ
 replaced at new work = take at work ++ (new ++ drop 384 (drop at work))
 
-pub part-long : (i : ℕ) (work : List ℕ) → i * 384 + 384 ≤ length work → length (part i work) ≡ 384
-unfolding part
+pub part-long : (i : ℕ) (work : List ℕ) → i * 384 + 384 ≤ length work → length (workPart i work) ≡ 384
+unfolding workPart
 part-long i work h = length-take-le 384 (drop (i * 384) work) (omega (arith, length-drop (i * 384) work))
 
 -- What lies in the front of a list does not depend on what follows it.
@@ -29,22 +29,22 @@ module _ (k : ℕ) (work new : List ℕ) (fits : k * 384 + 384 ≤ length work) 
       let rest = drop 384 (drop (k * 384) work) in
       omega (arith, length-append (take (k * 384) work) (new ++ rest), length-append new rest, front-long, length-drop 384 (drop (k * 384) work), length-drop (k * 384) work)
 
-  pub part-new : part k (replaced (k * 384) new work) ≡ new
-  unfolding part
+  pub part-new : workPart k (replaced (k * 384) new work) ≡ new
+  unfolding workPart
   part-new =
       let rest = drop 384 (drop (k * 384) work) in
       ap (take 384) (drop-at (take (k * 384) work) (new ++ rest) (k * 384) front-long) ∙ take-at new rest 384 long
 
-  pub part-before : (i : ℕ) → i < k → part i (replaced (k * 384) new work) ≡ part i work
-  unfolding part
+  pub part-before : (i : ℕ) → i < k → workPart i (replaced (k * 384) new work) ≡ workPart i work
+  unfolding workPart
   part-before i h =
       let at = k * 384 in
       in-front (i * 384) (take at work) (new ++ drop 384 (drop at work)) (omega (arith, front-long))
       ∙ sym (in-front (i * 384) (take at work) (drop at work) (omega (arith, front-long)))
       ∙ ap (λ (l : List ℕ). take 384 (drop (i * 384) l)) (take-append-drop at work)
 
-  pub part-after : (i : ℕ) → k < i → part i (replaced (k * 384) new work) ≡ part i work
-  unfolding part
+  pub part-after : (i : ℕ) → k < i → workPart i (replaced (k * 384) new work) ≡ workPart i work
+  unfolding workPart
   part-after i h =
       let at = k * 384 in
       let rest = drop 384 (drop at work) in

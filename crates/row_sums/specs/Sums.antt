@@ -12,15 +12,15 @@ use Rattle.packed_rows.specs.Packed.{Fit}
 use Rattle.row_list.specs.Rows.{wholeRows, rowsIn}
 
 -- The three parts of the work area, 384 words each: the list so far, the next list, their sums.
-unfoldable pub part : ℕ → List ℕ → List ℕ
-part i work = take 384 (drop (i * 384) work)
+unfoldable pub workPart : ℕ → List ℕ → List ℕ
+workPart i work = take 384 (drop (i * 384) work)
 
 -- The first n rows of a part, with 32 beds each, and for v patients.
 abbrev pub wholeAt : ℕ → ℕ → List ℕ → List Row
-wholeAt n i work = wholeRows n (part i work)
+wholeAt n i work = wholeRows n (workPart i work)
 
 abbrev pub listAt : ℕ → ℕ → ℕ → List ℕ → List Row
-listAt v n i work = rowsIn v n (part i work)
+listAt v n i work = rowsIn v n (workPart i work)
 
 pub record Asks (m a b : ℕ) (work : List ℕ) : Type 0 where
   pub some : 0 < m

@@ -4,7 +4,7 @@ ghost use mathlib.Core.Path.{_≡_};
 ghost use Prim.Native.Nat.{_<_, _≤_};
 ghost use lib.ListN.{length};
 ghost use Rattle.row_sums.specs.Sums.{Asks, Gives};
-ghost use Rattle.row_sums.specs.Steps.{isDear, AsksRow, GivesRow, Copied};
+ghost use Rattle.row_sums.specs.Steps.{exceedsLast, AsksRow, GivesRow, Copied};
 use packed_rows::Row;
 use packed_rows::add_rows;
 use row_list::cost_at;
@@ -20,9 +20,9 @@ pub const THIRD: usize = 768;
 const END: usize = 1_152;
 
 // Is the list full, and does its last row cost less than this?
-fn is_dear(list: &[u32], n: usize, m: usize, cost: u64) -> bool
+fn exceeds_last(list: &[u32], n: usize, m: usize, cost: u64) -> bool
     requires { ⌜ (0 < m) × (n ≤ m) × (m ≤ 64) × (384 ≤ length (now list)) ⌝ }
-    ensures { λ r. ⌜ r ≡ isDear n m cost (now (list .entry)) ⌝ }
+    ensures { λ r. ⌜ r ≡ exceedsLast n m cost (now (list .entry)) ⌝ }
 {
     if n < m {
         return false;
@@ -40,7 +40,7 @@ fn insert_sums(work: &mut [u32], m: usize, n: usize, b: usize, x: Row) -> usize
     let mut j: usize = 0;
     while j < b {
         let cost = x.cost + cost_at(&work[SECOND..THIRD], j);
-        if is_dear(&work[THIRD..END], count, m, cost) {
+        if exceeds_last(&work[THIRD..END], count, m, cost) {
             return count;
         }
         let y = row_at(&work[SECOND..THIRD], j);

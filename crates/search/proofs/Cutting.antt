@@ -25,5 +25,5 @@ module _ (v n m : ℕ) (area : List ℕ) (cost : ℕ) (beds : List ℕ) where
     pub cheaper : cost < rowIn v area (m - 1) .cost → false ≡ isPast v n m area cost beds
     cheaper h = sym (by-cost Ordering·lt (less cost (rowIn v area (m - 1) .cost) h))
 
-    pub dearer : rowIn v area (m - 1) .cost < cost → true ≡ isPast v n m area cost beds
-    dearer h = sym (by-cost Ordering·gt (more cost (rowIn v area (m - 1) .cost) h))
+    pub costlier : rowIn v area (m - 1) .cost < cost → true ≡ isPast v n m area cost beds
+    costlier h = sym (by-cost Ordering·gt (more cost (rowIn v area (m - 1) .cost) h))

@@ -25,11 +25,11 @@ use Rattle.held_region.specs.declared.Region as Code
 use Rattle.held_region.specs.Meaning.{said}
 use Rattle.held_region.specs.Asked.{patients-said}
 use Rattle.buckets.specs.Terms.{Prepared}
-use Rattle.forest.specs.Trees.{Rooted, tree-beyond, tree-upward, tree-apart, trees-next}
-use Rattle.row_sums.specs.Sums.{part, listAt}
+use Rattle.forest.specs.Trees.{RootNumbers, tree-beyond, tree-upward, tree-apart, trees-next}
+use Rattle.row_sums.specs.Sums.{workPart, listAt}
 use Rattle.search.specs.Lowest.{Upward}
 use Rattle.search.specs.Walks.{AllPadded}
-use Rattle.search.specs.Trees.{AsksStart, GivesStart, Treed, AsksTree, GivesTree, Planted, AsksForest, GivesForest}
+use Rattle.search.specs.Trees.{AsksStart, GivesStart, NextTree, AsksTree, GivesTree, PreparedForest, AsksForest, GivesForest}
 
 -- A word without patients from v on has those that it says.
 word-members : (w v : ℕ) → v ≤ 32 → ((q : ℕ) → v ≤ q → inSet w q ≡ false) → contains (members w) ≡ inSet w
@@ -64,21 +64,21 @@ pub record Listed (store patients terms roots : List ℕ) (v m size : ℕ) (now 
   pub count : n ≤ m
   pub long : length now ≡ size
   pub upto : k ≤ v
-  pub padded : AllPadded v n (part 0 now)
-  pub first : (r : Region) → Planted r store patients terms roots v m → First rowOrder m (RowOf r (treesBelow r v k) (noBeds r)) (listAt v n 0 now)
+  pub padded : AllPadded v n (workPart 0 now)
+  pub first : (r : Region) → PreparedForest r store patients terms roots v m → First rowOrder m (RowOf r (treesBelow r v k) (noBeds r)) (listAt v n 0 now)
 
 module _ {store patients terms roots : List ℕ} {v m : ℕ} {work : List ℕ} (asks : AsksForest store patients terms roots v m work) where
   accepted : Accepted (asks .region)
-  accepted = asks .planted .prepared .accepted
+  accepted = asks .forest .prepared .accepted
 
   few : v ≤ 32
-  few = omega (arith, asks .planted .counted, patients-few (asks .region) accepted)
+  few = omega (arith, asks .forest .counted, patients-few (asks .region) accepted)
 
   some : 0 < m
-  some = omega (arith, asks .planted .wanted, plans-wanted (asks .region) accepted .0)
+  some = omega (arith, asks .forest .wanted, plans-wanted (asks .region) accepted .0)
 
   wanted : m ≤ 64
-  wanted = omega (arith, asks .planted .wanted, plans-wanted (asks .region) accepted .1)
+  wanted = omega (arith, asks .forest .wanted, plans-wanted (asks .region) accepted .1)
 
   pub forest-few : v ≤ 32
   forest-few = few
@@ -93,9 +93,9 @@ module _ {store patients terms roots : List ℕ} {v m : ℕ} {work : List ℕ} (
         long = refl;
         upto = omega arith;
         padded = gives .padded;
-        first = λ r planted.
+        first = λ r forest.
             let nobody = first-nobody r (treesBelow r v 0) m some (λ s. ap (λ b. ltb s v && b) (roots-none r s) ∙ and-false (ltb s v)) in
-            let row : emptyRow r ≡ record { cost = 0; beds = replicate v 0 } = ap (λ k. record { cost = 0; beds = replicate k 0 }) (sym (planted .counted)) in
+            let row : emptyRow r ≡ record { cost = 0; beds = replicate v 0 } = ap (λ k. record { cost = 0; beds = replicate k 0 }) (sym (forest .counted)) in
             subst⁻¹ (First rowOrder m (RowOf r (treesBelow r v 0) (noBeds r))) (gives .row ∙ ap (λ z. z ∷ []) (sym row)) nobody;
       }
 
@@ -105,43 +105,43 @@ module _ {store patients terms roots : List ℕ} {v m : ℕ} {work : List ℕ} (
         record {
           count = listed .count;
           long = listed .long ∙ same-size;
-          list = λ r planted.
-              let a = planted .prepared .accepted in
-              let upto : k ≡ length (r .patients) = omega (arith, listed .upto, planted .counted) in
+          list = λ r forest.
+              let a = forest .prepared .accepted in
+              let upto : k ≡ length (r .patients) = omega (arith, listed .upto, forest .counted) in
               let all : (s : ℕ) → s < length (r .patients) → treesBelow r v k s ≡ true =
-              (λ s h. trees-known r v k s (omega (arith, planted .counted)) ∙ ap (λ j. rootsBelow r j s) upto ∙ roots-all r a s h) in
+              (λ s h. trees-known r v k s (omega (arith, forest .counted)) ∙ ap (λ j. rootsBelow r j s) upto ∙ roots-all r a s h) in
               whole-list r (treesBelow r v k) all (tables-held r (treesBelow r v k) a all)
-              (subst (λ j. First rowOrder j (RowOf r (treesBelow r v k) (noBeds r)) (listAt v n 0 now)) (planted .wanted) (listed .first r planted));
+              (subst (λ j. First rowOrder j (RowOf r (treesBelow r v k) (noBeds r)) (listAt v n 0 now)) (forest .wanted) (listed .first r forest));
         }
 
     module _ (more : k < v) (w : ℕ) (is : (q : ℕ) → inSet w q ≡ (ltb q v && eqb (getD roots q 0) k)) where
-      module _ (r : Region) (planted : Planted r store patients terms roots v m) where
+      module _ (r : Region) (forest : PreparedForest r store patients terms roots v m) where
         a : Accepted r
-        a = planted .prepared .accepted
+        a = forest .prepared .accepted
 
         same : contains (members w) ≡ inSet w
-        same = word-members w v few (tree-beyond (planted .rooted) a (planted .counted) w k is)
+        same = word-members w v few (tree-beyond (forest .rootNumbers) a (forest .counted) w k is)
 
         split : Splits (treesBelow r v (suc k)) (treesBelow r v k) (inSet w)
-        split = trees-next (planted .rooted) a (planted .counted) w k is (treesBelow r v (suc k)) (treesBelow r v k)
+        split = trees-next (forest .rootNumbers) a (forest .counted) w k is (treesBelow r v (suc k)) (treesBelow r v k)
             (trees-known r v (suc k)) (trees-beyond r v (suc k)) (trees-known r v k) (trees-beyond r v k)
 
-        treed : Treed r (treesBelow r v (suc k)) (treesBelow r v k) store patients terms v m n now w
-        treed =
+        nextTree : NextTree r (treesBelow r v (suc k)) (treesBelow r v k) store patients terms v m n now w
+        nextTree =
             record {
-              prepared = planted .prepared;
-              counted = planted .counted;
+              prepared = forest .prepared;
+              counted = forest .counted;
               known = subst⁻¹ (λ F. (s : ℕ) → F s ≡ true → s < length (r .patients)) same known;
-              upward = subst⁻¹ (Upward r) same (λ t i s p e q j h. tree-upward (planted .rooted) a (planted .counted) w k is t i s q p j e);
+              upward = subst⁻¹ (Upward r) same (λ t i s p e q j h. tree-upward (forest .rootNumbers) a (forest .counted) w k is t i s q p j e);
               split = subst⁻¹ (Splits (treesBelow r v (suc k)) (treesBelow r v k)) same split;
-              apart = subst⁻¹ (Apart r (treesBelow r v k)) same (tree-apart (planted .rooted) a (planted .counted) w k is (treesBelow r v k) (trees-known r v k));
-              first = listed .first r planted;
+              apart = subst⁻¹ (Apart r (treesBelow r v k)) same (tree-apart (forest .rootNumbers) a (forest .counted) w k is (treesBelow r v k) (trees-known r v k));
+              first = listed .first r forest;
             }
           where
             known : (s : ℕ) → inSet w s ≡ true → s < length (r .patients)
             known s e = elim (decLt s v) [
-              | yes h ↦ omega (arith, planted .counted)
-              | no h ↦ absurd (true≢false (sym e ∙ tree-beyond (planted .rooted) a (planted .counted) w k is s (omega arith)))
+              | yes h ↦ omega (arith, forest .counted)
+              | no h ↦ absurd (true≢false (sym e ∙ tree-beyond (forest .rootNumbers) a (forest .counted) w k is s (omega arith)))
             ]
 
       pub asks-tree : AsksTree store patients terms v m n now w
@@ -150,7 +150,7 @@ module _ {store patients terms roots : List ℕ} {v m : ℕ} {work : List ℕ} (
             region = asks .region;
             D = treesBelow (asks .region) v (suc k);
             E = treesBelow (asks .region) v k;
-            treed = treed (asks .region) (asks .planted);
+            nextTree = nextTree (asks .region) (asks .forest);
             few = few;
             some = some;
             wanted = wanted;
@@ -159,8 +159,8 @@ module _ {store patients terms roots : List ℕ} {v m : ℕ} {work : List ℕ} (
             padded = listed .padded;
           }
 
-      next-tree : {after : List ℕ} {j : ℕ} → j ≤ m → length after ≡ length now → AllPadded v j (part 0 after)
-          → ((r : Region) → Planted r store patients terms roots v m → First rowOrder m (RowOf r (treesBelow r v (suc k)) (noBeds r)) (listAt v j 0 after))
+      next-tree : {after : List ℕ} {j : ℕ} → j ≤ m → length after ≡ length now → AllPadded v j (workPart 0 after)
+          → ((r : Region) → PreparedForest r store patients terms roots v m → First rowOrder m (RowOf r (treesBelow r v (suc k)) (noBeds r)) (listAt v j 0 after))
           → Listed store patients terms roots v m size after j (k + 1)
       next-tree {after = then} {j} count long padded found =
           record {
@@ -168,24 +168,24 @@ module _ {store patients terms roots : List ℕ} {v m : ℕ} {work : List ℕ} (
             long = long ∙ listed .long;
             upto = omega arith;
             padded = padded;
-            first = λ r planted. subst⁻¹ (λ i. First rowOrder m (RowOf r (treesBelow r v i) (noBeds r)) (listAt v j 0 then)) (add-one k) (found r planted);
+            first = λ r forest. subst⁻¹ (λ i. First rowOrder m (RowOf r (treesBelow r v i) (noBeds r)) (listAt v j 0 then)) (add-one k) (found r forest);
           }
 
       pub listed-tree : {after : List ℕ} {j : ℕ} → GivesTree store patients terms v m n now w after j → Listed store patients terms roots v m size after j (k + 1)
-      listed-tree gives = next-tree (gives .count) (gives .long) (gives .padded) (λ r planted. gives .first r _ _ (treed r planted))
+      listed-tree gives = next-tree (gives .count) (gives .long) (gives .padded) (λ r forest. gives .first r _ _ (nextTree r forest))
 
       -- Nobody has k for a root.
       pub listed-none : length (members w) ≡ 0 → Listed store patients terms roots v m size now n (k + 1)
       listed-none empty =
-          next-tree (listed .count) refl (listed .padded) (λ r planted.
-          subst⁻¹ (λ D. First rowOrder m (RowOf r D (noBeds r)) (listAt v n 0 now)) (fun-ext (λ q. gone (split r planted q) (nobody r planted q))) (listed .first r planted))
+          next-tree (listed .count) refl (listed .padded) (λ r forest.
+          subst⁻¹ (λ D. First rowOrder m (RowOf r D (noBeds r)) (listAt v n 0 now)) (fun-ext (λ q. gone (split r forest q) (nobody r forest q))) (listed .first r forest))
         where
           none-in : (l : List ℕ) → length l ≡ 0 → (q : ℕ) → contains l q ≡ false
           none-in [] e q = refl
           none-in (x ∷ l) e q = absurd (omega arith)
 
-          nobody : (r : Region) → Planted r store patients terms roots v m → (q : ℕ) → inSet w q ≡ false
-          nobody r planted q = sym (ap (λ F. F q) (same r planted)) ∙ none-in (members w) empty q
+          nobody : (r : Region) → PreparedForest r store patients terms roots v m → (q : ℕ) → inSet w q ≡ false
+          nobody r forest q = sym (ap (λ F. F q) (same r forest)) ∙ none-in (members w) empty q
 
           gone : {x y z : Bool} → Part x y z → z ≡ false → x ≡ y
           gone first e = refl
@@ -193,7 +193,7 @@ module _ {store patients terms roots : List ℕ} {v m : ℕ} {work : List ℕ} (
           gone neither e = refl
 
 -- A held region's words and roots.
-pub planted : (h : Code.Region) (store : List ℕ) {patients terms roots : List ℕ}
-    → Prepared (said h store) store patients terms → Rooted (said h store) roots → Planted (said h store) store patients terms roots (h .v) (h .m)
+pub forest : (h : Code.Region) (store : List ℕ) {patients terms roots : List ℕ}
+    → Prepared (said h store) store patients terms → RootNumbers (said h store) roots → PreparedForest (said h store) store patients terms roots (h .v) (h .m)
 unfolding said
-planted h store prepared rooted = record { prepared = prepared; rooted = rooted; counted = sym (patients-said h store); wanted = refl }
+forest h store prepared rootNumbers = record { prepared = prepared; rootNumbers = rootNumbers; counted = sym (patients-said h store); wanted = refl }

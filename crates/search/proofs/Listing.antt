@@ -35,11 +35,11 @@ use Rattle.packed_rows.specs.Packing.{packedRow}
 use Rattle.row_list.specs.Rows.{wholeRows, rowsIn, Stored}
 use Rattle.row_list.specs.Laws.{rows-none, rows-more}
 use Rattle.row_sums.specs.Sums as Sums
-use Rattle.row_sums.specs.Sums.{part, wholeAt, listAt}
+use Rattle.row_sums.specs.Sums.{workPart, wholeAt, listAt}
 use Rattle.row_sums.specs.Areas.{replaced, replaced-long, part-long, part-new, part-before}
 use Rattle.search.specs.Lowest.{Upward}
-use Rattle.search.specs.Walks.{Branching, leftIn, headRow, Light, Heads, BranchOf, AllPadded, Asks, Gives}
-use Rattle.search.specs.Trees.{LeastSummed, AsksStart, GivesStart, Treed, AsksTree, GivesTree}
+use Rattle.search.specs.Walks.{Branching, leftIn, headRow, SumsFit, Heads, BranchOf, AllPadded, Asks, Gives}
+use Rattle.search.specs.Trees.{LeastSummed, AsksStart, GivesStart, NextTree, AsksTree, GivesTree}
 use Rattle.search.proofs.Padded.{unpadded-keeps, row-padded, row-unpadded, sum-padded, injective-back, first-unpadded}
 
 pub take-zeros : (v n : ℕ) → v ≤ n → take {A = ℕ} v (replicate n 0) ≡ replicate v 0
@@ -49,7 +49,7 @@ take-zeros (suc v) (suc n) h = ap (λ l. 0 ∷ l) (take-zeros v n (omega arith))
 
 -- ---- the list of nobody
 
-pub started : (v : ℕ) (work new : List ℕ) (x : Code.Row) → AsksStart v work → rowOf x ≡ packedRow v 0 (replicate 32 0) → Stored 0 x (part 0 work) new → GivesStart v work (replaced 0 new work)
+pub started : (v : ℕ) (work new : List ℕ) (x : Code.Row) → AsksStart v work → rowOf x ≡ packedRow v 0 (replicate 32 0) → Stored 0 x (workPart 0 work) new → GivesStart v work (replaced 0 new work)
 started v work new x asks packed stored = record {
   long = replaced-long 0 work new fits long;
   row = ap (map (unpadded v)) whole ∙ ap (λ (z : Row). z ∷ []) row;
@@ -83,8 +83,8 @@ pub record Fresh (set : ℕ) (patients : List ℕ) (head : Branching) : Type 0 w
   pub cost : head .cost ≡ 0
   pub bound : LeastSummed patients (members set) (head .bound)
 
-pub light-start : {set : ℕ} {patients : List ℕ} {head : Branching} → Fresh set patients head → Light head
-light-start {set} {head} fresh =
+pub sums-fit-start : {set : ℕ} {patients : List ℕ} {head : Branching} → Fresh set patients head → SumsFit head
+sums-fit-start {set} {head} fresh =
     record {
       beds = ap length (fresh .beds);
       placed = omega (arith, fresh .len, size-most (head .left .0));
@@ -92,21 +92,21 @@ light-start {set} {head} fresh =
       bound = fresh .bound .most;
     }
 
-module _ {r : Region} {D E : Patients} {store patients terms : List ℕ} {v m n : ℕ} {work : List ℕ} {set : ℕ} (treed : Treed r D E store patients terms v m n work set) (few : v ≤ 32) where
+module _ {r : Region} {D E : Patients} {store patients terms : List ℕ} {v m n : ℕ} {work : List ℕ} {set : ℕ} (nextTree : NextTree r D E store patients terms v m n work set) (few : v ≤ 32) where
   zeros-fit : Fitting r (replicate 32 0)
-  zeros-fit s h = omega (arith, zero-bed 32 s, beds-some r (treed .prepared .accepted) s h)
+  zeros-fit s h = omega (arith, zero-bed 32 s, beds-some r (nextTree .prepared .accepted) s h)
 
   -- The least numbers that the words say are those of the buckets.
   least-same : (l : List ℕ) → ((s : ℕ) → contains l s ≡ true → s < length (r .patients)) → sum (map (leastAt patients) l) ≡ sum (map (leastIn r) l)
   least-same [] known = refl
   least-same (s ∷ l) known =
-      ap₂ _+_ (treed .prepared .least s (known s (ap (λ b. b || contains l s) (eq-eqb s s refl))))
+      ap₂ _+_ (nextTree .prepared .least s (known s (ap (λ b. b || contains l s) (eq-eqb s s refl))))
       (least-same l (λ q e. known q (ap (λ b. eqb q s || b) e ∙ or-true (eqb q s))))
 
   module _ {head : Branching} (fresh : Fresh set patients head) where
     fresh-row : headRow v head ≡ emptyRow r
     fresh-row =
-        let beds : take v (head .plan .beds) ≡ noBeds r = ap (take v) (fresh .beds) ∙ take-zeros v 32 few ∙ ap (λ k. replicate k 0) (treed .counted) in
+        let beds : take v (head .plan .beds) ≡ noBeds r = ap (take v) (fresh .beds) ∙ take-zeros v 32 few ∙ ap (λ k. replicate k 0) (nextTree .counted) in
         λ i. record { cost = fresh .cost i; beds = beds i }
 
     fresh-left : leftIn head ≡ contains (members set)
@@ -118,15 +118,15 @@ module _ {r : Region} {D E : Patients} {store patients terms : List ℕ} {v m n 
     pub heads-start : Heads r store patients terms v head
     heads-start =
         record {
-          prepared = treed .prepared;
-          counted = treed .counted;
+          prepared = nextTree .prepared;
+          counted = nextTree .counted;
           few = few;
           fits = rw (fresh .beds) zeros-fit;
           position = subst⁻¹ (Position r (leftIn head) (head .plan .beds)) fresh-row
-              (position-start r (leftIn head) (head .plan .beds) (subst⁻¹ (λ F. (s : ℕ) → F s ≡ true → s < length (r .patients)) fresh-left (treed .known))
-              (omega (arith, treed .counted, ap length (fresh .beds))) (λ s e. fresh-free s));
-          upward = subst⁻¹ (Upward r) fresh-left (treed .upward);
-          bound = fresh .bound .is ∙ least-same (members set) (treed .known) ∙ ap (λ w. sum (map (leastIn r) (members w))) (sym (fresh .left));
+              (position-start r (leftIn head) (head .plan .beds) (subst⁻¹ (λ F. (s : ℕ) → F s ≡ true → s < length (r .patients)) fresh-left (nextTree .known))
+              (omega (arith, nextTree .counted, ap length (fresh .beds))) (λ s e. fresh-free s));
+          upward = subst⁻¹ (Upward r) fresh-left (nextTree .upward);
+          bound = fresh .bound .is ∙ least-same (members set) (nextTree .known) ∙ ap (λ w. sum (map (leastIn r) (members w))) (sym (fresh .left));
         }
 
     -- The walk from there finds the first rows of the set.
@@ -172,22 +172,22 @@ sum-fits r accepted {D} {E} {F} split placed v x y p q one two = record {
 -- ---- one more tree
 
 module _ {store patients terms : List ℕ} {v m n : ℕ} {work : List ℕ} {set : ℕ} (asks : AsksTree store patients terms v m n work set) {head : Branching} (fresh : Fresh set patients head) where
-  pub asks-walk : Asks store patients terms v 0 m (part 1 work) head
+  pub asks-walk : Asks store patients terms v 0 m (workPart 1 work) head
   asks-walk =
       record {
         region = asks .region;
-        heads = heads-start (asks .treed) (asks .few) fresh;
-        light = light-start fresh;
+        heads = heads-start (asks .nextTree) (asks .few) fresh;
+        sumsFit = sums-fit-start fresh;
         room = record {
           held = omega arith;
           wanted = asks .wanted;
           some = asks .some;
           long = omega (arith, part-long 1 work (omega (arith, asks .long)));
         };
-        padded = λ z k. absurd (none-in-nil (subst (λ (l : List Row). z ∈ l) (rows-none (part 1 work)) k));
+        padded = λ z k. absurd (none-in-nil (subst (λ (l : List Row). z ∈ l) (rows-none (workPart 1 work)) k));
       }
 
-  module _ {new : List ℕ} {found : ℕ} (gives : Gives store patients terms v 0 m (part 1 work) head new found) where
+  module _ {new : List ℕ} {found : ℕ} (gives : Gives store patients terms v 0 m (workPart 1 work) head new found) where
     fits : 1 * 384 + 384 ≤ length work
     fits = omega (arith, asks .long)
 
@@ -197,10 +197,10 @@ module _ {store patients terms : List ℕ} {v m n : ℕ} {work : List ℕ} {set 
     abbrev walked : List ℕ
     walked = replaced 384 new work
 
-    next-part : part 1 walked ≡ new
+    next-part : workPart 1 walked ≡ new
     next-part = part-new 1 work new fits long
 
-    part-kept : part 0 walked ≡ part 0 work
+    part-kept : workPart 0 walked ≡ workPart 0 work
     part-kept = part-before 1 work new fits long 0 (omega arith)
 
     -- The rows of both lists have bed 0 from patient v on.
@@ -211,16 +211,16 @@ module _ {store patients terms : List ℕ} {v m n : ℕ} {work : List ℕ} {set 
     second-padded = subst⁻¹ (AllPadded v found) next-part (gives .padded)
 
     -- And they are the first rows of their parts.
-    module _ (r : Region) {D E : Patients} (treed : Treed r D E store patients terms v m n work set) where
+    module _ (r : Region) {D E : Patients} (nextTree : NextTree r D E store patients terms v m n work set) where
       one : First rowOrder m (RowOf r E (noBeds r)) (listAt v n 0 walked)
-      one = subst⁻¹ (λ (p : List ℕ). First rowOrder m (RowOf r E (noBeds r)) (rowsIn v n p)) part-kept (treed .first)
+      one = subst⁻¹ (λ (p : List ℕ). First rowOrder m (RowOf r E (noBeds r)) (rowsIn v n p)) part-kept (nextTree .first)
 
       two : First rowOrder m (RowOf r (contains (members set)) (noBeds r)) (listAt v found 1 walked)
-      two = subst⁻¹ (λ (p : List ℕ). First rowOrder m (RowOf r (contains (members set)) (noBeds r)) (rowsIn v found p)) next-part (tree-first treed (asks .few) fresh gives)
+      two = subst⁻¹ (λ (p : List ℕ). First rowOrder m (RowOf r (contains (members set)) (noBeds r)) (rowsIn v found p)) next-part (tree-first nextTree (asks .few) fresh gives)
 
       module _ {after : List ℕ} {k : ℕ} (sums : Sums.Gives m n found walked after k) where
         shows : Injective addRows (λ x. x ∈ listAt v n 0 walked) (λ y. y ∈ listAt v found 1 walked)
-        shows a x b y i j p q = parts-injective r (treed .split) (treed .apart) (noBeds r) a x b y (one .sound i) (one .sound j) (two .sound p) (two .sound q)
+        shows a x b y i j p q = parts-injective r (nextTree .split) (nextTree .apart) (noBeds r) a x b y (one .sound i) (one .sound j) (two .sound p) (two .sound q)
 
         whole-first : First rowOrder m (Combined addRows (λ x. x ∈ wholeAt n 0 walked) (λ y. y ∈ wholeAt found 1 walked)) (wholeAt k 0 after)
         whole-first =
@@ -232,7 +232,7 @@ module _ {store patients terms : List ℕ} {v m n : ℕ} {work : List ℕ} {set 
 
         both-first : First rowOrder m (RowOf r D (noBeds r)) (listAt v k 0 after)
         both-first =
-            parts-combined r (treed .split) (treed .apart) (noBeds r) (omega arith) (omega arith) one two
+            parts-combined r (nextTree .split) (nextTree .apart) (noBeds r) (omega arith) (omega arith) one two
             (first-unpadded v (asks .few) (wholeAt n 0 walked) (wholeAt found 1 walked) first-padded second-padded whole-first)
 
     pub asks-combine : Sums.Asks m n found walked
@@ -244,8 +244,8 @@ module _ {store patients terms : List ℕ} {v m n : ℕ} {work : List ℕ} {set 
           second = gives .count;
           long = omega (arith, asks .long, replaced-long 1 work new fits long);
           fits = λ x y i j.
-              sum-fits (asks .region) (asks .treed .prepared .accepted) (asks .treed .split) (noBeds (asks .region)) v x y (first-padded x i) (second-padded y j)
-              (one (asks .region) (asks .treed) .sound (in-map (unpadded v) i)) (two (asks .region) (asks .treed) .sound (in-map (unpadded v) j));
+              sum-fits (asks .region) (asks .nextTree .prepared .accepted) (asks .nextTree .split) (noBeds (asks .region)) v x y (first-padded x i) (second-padded y j)
+              (one (asks .region) (asks .nextTree) .sound (in-map (unpadded v) i)) (two (asks .region) (asks .nextTree) .sound (in-map (unpadded v) j));
         }
 
     pub tree-added : {after : List ℕ} {k : ℕ} → Sums.Gives m n found walked after k → GivesTree store patients terms v m n work set after k
@@ -254,6 +254,6 @@ module _ {store patients terms : List ℕ} {v m n : ℕ} {work : List ℕ} {set 
           count = sums .count;
           long = sums .long ∙ replaced-long 1 work new fits long;
           padded = λ z i.
-              sum-padded v (asks .few) (wholeAt n 0 walked) (wholeAt found 1 walked) first-padded second-padded z (whole-first (asks .region) (asks .treed) sums .sound i);
-          first = λ r D E treed. both-first r treed sums;
+              sum-padded v (asks .few) (wholeAt n 0 walked) (wholeAt found 1 walked) first-padded second-padded z (whole-first (asks .region) (asks .nextTree) sums .sound i);
+          first = λ r D E nextTree. both-first r nextTree sums;
         }

@@ -3,7 +3,7 @@ use mathlib.Core.Path.{_≡_, refl, sym, ap, ap₂, _∙_, subst⁻¹}
 use mathlib.Core.Logic.{inl, inr}
 use Prim.Native.Nat.{_≤_}
 use native.Mathlib.Omega.{arith}
-use Rattle.definitions.specs.Basics.{ℕ, zero, suc, _-_, _<_, not, _&&_, eqb, List, [], _∷_, map, length, take, insert}
+use Rattle.definitions.specs.Basics.{ℕ, zero, suc, _-_, _<_, Bool, not, _&&_, eqb, List, [], _∷_, map, length, take, insert}
 use Rattle.definitions.specs.Plans.{Row, bedOf, compareRows}
 use Rattle.lists.specs.Members.{_∈_, getD-in, in-map, in-map-cases}
 use Rattle.ranking.specs.First.{First, first-iff}
@@ -50,13 +50,13 @@ module _ (v n m : ℕ) (area : List ℕ) (few : v ≤ 32) (padded : AllPadded v 
 
   -- Compared with the last row of a full list.
   pub past-cut : Room n m area → m ≤ n → (cost : ℕ) (beds : List ℕ) → length beds ≡ 32 → ((s : ℕ) → s < v → bedOf beds s < 16) → (x : Code.Row) → rowOf x ≡ packedRow v cost beds
-      → (eqb n m && not (isBefore (compareRows (rowOf x) (wholeRow area (m - 1))))) ≡ isPast v n m area cost beds
+      → {r : Bool} → r ≡ (eqb n m && not (isBefore (compareRows (rowOf x) (wholeRow area (m - 1))))) → r ≡ isPast v n m area cost beds
   unfolding isPast
-  past-cut room full cost beds long low x packed =
+  past-cut room full cost beds long low x packed asked =
       let last = wholeRow area (m - 1) in
       let inside : last ∈ wholeRows n area = subst⁻¹ (λ (z : Row). z ∈ wholeRows n area) (rows-at n area (m - 1) last (omega (arith, room .some)))
       (getD-in (wholeRows n area) (m - 1) last (omega (arith, room .some, rows-long n area))) in
-      ap (λ o. eqb n m && not (isBefore o))
+      asked ∙ ap (λ o. eqb n m && not (isBefore o))
       (sym (unpadded-compare v (rowOf x) last few (row-padded v cost beds few long x packed) (padded last inside)) ∙ ap (λ (z : Row). compareRows z (unpadded v last)) (row-unpadded v cost beds few long x packed low))
 
 -- The sums of two lists of padded rows, and of the same rows without the padding.

@@ -3,7 +3,7 @@ use mathlib.Core.Path.{_≡_, refl, sym, ap, _∙_, subst⁻¹}
 use Prim.Native.Nat.{_≤_}
 use native.Mathlib.Omega.{arith}
 use lib.ListN.{set, length-set}
-use lib.Seq.{set-set, take-set-lt}
+use lib.Seq.{take-set-lt}
 use borrow.Author.Tests.{eq-eqb}
 use Rattle.definitions.specs.Basics.{ℕ, _+_, _<_, true, not, _&&_, _||_, Option, List, _∷_, map, length, getD, take, sum, eqb, isEmpty, contains, ltb, everyTwo, replicate}
 use Rattle.definitions.specs.Syntax.{Region, patientAt}
@@ -17,8 +17,9 @@ use Rattle.buckets.specs.Terms.{Fitting, bucketOf, leastIn, leastAt, bedsAt, fi
 use Rattle.pricing.specs.BedCosts as Price
 use Rattle.pricing.specs.Pricing.{sumIn}
 use Rattle.pricing.specs.Costs.{fitting-set}
+use Rattle.pricing.specs.declared.Plan as Code
 use Rattle.search.specs.Lowest.{list-split, list-lowest, bucket-decided, upward-rest, bound-members}
-use Rattle.search.specs.Walks.{Branching, remaining, leftIn, headRow, Light, Heads, AsksNext, Below, Decides, GivesRest}
+use Rattle.search.specs.Walks.{Branching, remaining, leftIn, headRow, SumsFit, Heads, AsksNext, Below, Decides, GivesRest}
 use Rattle.search.specs.declared.walk.Rest.{Rest}
 
 module _ {r : Region} {store patients terms : List ℕ} {v : ℕ} {head : Branching} (heads : Heads r store patients terms v head) {s : ℕ} {others : List ℕ} (lowest : remaining head ≡ s ∷ others) where
@@ -46,16 +47,16 @@ module _ {r : Region} {store patients terms : List ℕ} {v : ℕ} {head : Branch
   pub decided : decidedTables r (only s) (contains others) ≡ bucketOf r s
   decided = bucket-decided r s split low (heads .upward)
 
-  pub fits-next : Light head → (bed : ℕ) → bed < patientAt r s .bedCount → Fitting r (set (head .plan .beds) s bed)
-  fits-next light bed h = fitting-set r (head .plan .beds) s bed (omega (arith, known, heads .counted, heads .few, light .beds)) (heads .fits) h
+  pub fits-next : SumsFit head → (bed : ℕ) → bed < patientAt r s .bedCount → Fitting r (set (head .plan .beds) s bed)
+  fits-next sumsFit bed h = fitting-set r (head .plan .beds) s bed (omega (arith, known, heads .counted, heads .few, sumsFit .beds)) (heads .fits) h
 
   pub few : s < 32
   few = omega (arith, known, heads .counted, heads .few)
 
   -- What the costs of the patient's beds ask for.
-  pub asks-beds : Light head → {count : ℕ} → count ≡ bedsAt patients s → Price.Asks store patients terms s count (head .plan .beds) (replicate 16 0)
-  asks-beds light counts =
-      record { region = r; prepared = heads .prepared; fits = heads .fits; known = known; few = few; counts = counts; long = light .beds; free = heads .position .free s here; zeros = refl }
+  pub asks-beds : SumsFit head → {count : ℕ} → count ≡ bedsAt patients s → Price.Asks store patients terms s count (head .plan .beds) (replicate 16 0)
+  asks-beds sumsFit counts =
+      record { region = r; prepared = heads .prepared; fits = heads .fits; known = known; few = few; counts = counts; long = sumsFit .beds; free = heads .position .free s here; zeros = refl }
 
 -- Four bits hold each bed that fits.
 pub low-beds : {r : Region} {store patients terms : List ℕ} {v : ℕ} {head : Branching} → Heads r store patients terms v head → (beds : List ℕ) → Fitting r beds → (q : ℕ) → q < v → bedOf beds q < 16
@@ -67,7 +68,7 @@ module _ {store patients terms : List ℕ} {head : Branching} {s bed : ℕ} (ask
   asks-few = few (asks .heads) (asks .lowest)
 
   pub asks-room : head .plan .len < 32
-  asks-room = omega (arith, asks .light .placed, ap length (asks .lowest))
+  asks-room = omega (arith, asks .sumsFit .placed, ap length (asks .lowest))
 
   -- What the bed decides costs as much as the sum for it says.
   pub decides : {count : ℕ} {sums : List ℕ} → Price.Gives store patients terms s count (head .plan .beds) sums → {o : Option ℕ} → sumIn (getD sums bed 0) ≡ o
@@ -81,13 +82,13 @@ rest-left w s one rest others e is minus = lowest-and-rest w s one rest (ap isEm
 
 -- The head below a bed.
 module _ {patients : List ℕ} {head below : Branching} {s bed c : ℕ} (is : Below patients head s bed c below) where
-  pub light-below : Light head → Light below
-  light-below light =
+  pub sums-fit-below : SumsFit head → SumsFit below
+  sums-fit-below sumsFit =
       record {
-        beds = ap length (is .beds) ∙ length-set (head .plan .beds) s bed ∙ light .beds;
-        placed = omega (arith, is .len, light .placed, ap length (is .left));
-        cost = omega (arith, is .len, is .cost, is .most, light .cost);
-        bound = omega (arith, is .bound, light .bound);
+        beds = ap length (is .beds) ∙ length-set (head .plan .beds) s bed ∙ sumsFit .beds;
+        placed = omega (arith, is .len, sumsFit .placed, ap length (is .left));
+        cost = omega (arith, is .len, is .cost, is .most, sumsFit .cost);
+        bound = omega (arith, is .bound, sumsFit .bound);
       }
 
   module _ {r : Region} {store terms : List ℕ} {v : ℕ} (heads : Heads r store patients terms v head) where
@@ -101,13 +102,13 @@ module _ {patients : List ℕ} {head below : Branching} {s bed c : ℕ} (is : Be
         ap (take v) (is .beds) ∙ take-set-lt v (head .plan .beds) s bed (omega (arith, known heads (is .left), heads .counted)) in
         λ i. record { cost = cost i; beds = beds i }
 
-    pub heads-below : Light head → bed < patientAt r s .bedCount → Heads r store patients terms v below
-    heads-below light h =
+    pub heads-below : SumsFit head → bed < patientAt r s .bedCount → Heads r store patients terms v below
+    heads-below sumsFit h =
         record {
           prepared = heads .prepared;
           counted = heads .counted;
           few = heads .few;
-          fits = rw (is .beds) (fits-next heads (is .left) light bed h);
+          fits = rw (is .beds) (fits-next heads (is .left) sumsFit bed h);
           position = subst⁻¹ (λ p. Position r (leftIn below) p (headRow v below)) (is .beds)
               (subst⁻¹ (λ u. Position r (leftIn below) (set (head .plan .beds) s bed) u) row-below (position-bed s below-split (heads .position) bed c));
           upward = upward-rest r s below-split (low heads (is .left)) (heads .upward);
@@ -120,16 +121,13 @@ pub bound-holds : {r : Region} {store patients terms : List ℕ} {v : ℕ} {head
 bound-holds {r} {head} heads =
     rw (heads .bound) (bound-members r (remaining head) (leftIn head) (λ q. refl) (rising (head .left .0)) (heads .upward) (head .plan .beds))
 
--- The head below a bed, put together: its beds are a copy of those so far, whatever bed the copy had for the patient before.
-pub below-head : {patients : List ℕ} (head : Branching) {s : ℕ} (bed : ℕ) {c : ℕ} {rest : Rest} (next others : List ℕ) → remaining head ≡ s ∷ others
-    → GivesRest patients (remaining head) (head .bound) s rest → set next s bed ≡ set (head .plan .beds) s bed → c ≤ 64_000_000
-    → Below patients head s bed c (record { left = rest .left; plan = record { beds = set next s bed; len = head .plan .len + 1 }; cost = head .cost + c; bound = rest .bound })
-below-head head bed next others lowest rest beds most = record { left = rest .left others lowest; beds = beds; len = refl; cost = refl; most = most; bound = rest .bound }
-
-pub same-beds : (next beds : List ℕ) (s bed : ℕ) → ((b : ℕ) → set next s b ≡ set beds s b) → (b : ℕ) → set (set next s bed) s b ≡ set beds s b
-same-beds next beds s bed same b = set-set next s bed b ∙ same b
+-- The head below a bed, put together from the longer plan.
+pub below-head : {patients : List ℕ} {head : Branching} {s bed c : ℕ} {rest : Rest} (longer : Code.Plan) (others : List ℕ) → remaining head ≡ s ∷ others
+    → GivesRest patients (remaining head) (head .bound) s rest → longer .beds ≡ set (head .plan .beds) s bed → longer .len ≡ head .plan .len + 1 → c ≤ 64_000_000
+    → Below patients head s bed c (record { left = rest .left; plan = record { beds = longer .beds; len = longer .len }; cost = head .cost + c; bound = rest .bound })
+below-head longer others lowest rest beds len most = record { left = rest .left others lowest; beds = beds; len = len; cost = refl; most = most; bound = rest .bound }
 
 -- The same of the plan that the bed would make.
 pub below-bed : {patients : List ℕ} {head : Branching} {s bed c : ℕ} {rest : Rest} (others : List ℕ) → remaining head ≡ s ∷ others → GivesRest patients (remaining head) (head .bound) s rest → c ≤ 64_000_000
     → Below patients head s bed c (record { left = rest .left; plan = record { beds = set (head .plan .beds) s bed; len = head .plan .len + 1 }; cost = head .cost + c; bound = rest .bound })
-below-bed {head} {bed} others lowest rest most = below-head head bed (head .plan .beds) others lowest rest refl most
+below-bed {head} {s} {bed} others lowest rest most = below-head (record { beds = set (head .plan .beds) s bed; len = head .plan .len + 1 }) others lowest rest refl refl most

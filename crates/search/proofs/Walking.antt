@@ -5,8 +5,8 @@ use Prim.Native.Nat.{_≤_}
 use native.Mathlib.Numerals.{add-one}
 use native.Mathlib.Omega.{arith}
 use lib.ListN.{set, drop}
-use borrow.Author.Tests.{eqb-true, not-true}
-use Rattle.definitions.specs.Basics.{ℕ, suc, _+_, _-_, _<_, Ordering, true, false, none, some, List, [], _∷_, length, take, eqb, isEmpty, insert, contains}
+use borrow.Author.Tests.{eqb-true, not-true, not-false}
+use Rattle.definitions.specs.Basics.{ℕ, suc, _+_, _-_, _<_, Ordering, Bool, true, false, not, none, some, List, [], _∷_, length, take, eqb, isEmpty, insert, contains}
 use Rattle.definitions.specs.Syntax.{Region, patientAt}
 use Rattle.definitions.specs.Plans.{Row, costOver, compareRows}
 use Rattle.ranking.specs.Orders.{View, before, equal, after}
@@ -27,7 +27,7 @@ use Rattle.packed_rows.specs.Packing.{packedRow}
 use Rattle.row_list.specs.Rows.{rowIn, rowsIn, Room, Inserted}
 use Rattle.row_list.specs.Laws.{unpadded-long, unpadded-at}
 use Rattle.search.specs.Walks.{Branching, remaining, leftIn, headRow, Heads, BranchOf, AsksNext, Below, Decides, AllPadded, isPast, AsksCut, Asks, Gives}
-use Rattle.search.proofs.Steps.{known, low-beds, split, decided, fits-next, asks-few, asks-room, below-split, row-below, light-below, heads-below, bound-holds}
+use Rattle.search.proofs.Steps.{known, low-beds, split, decided, fits-next, asks-few, asks-room, below-split, row-below, sums-fit-below, heads-below, bound-holds}
 use Rattle.search.proofs.Padded.{row-padded, row-unpadded, inserted-unpadded, inserted-padded}
 
 -- A row that is not before another.
@@ -73,10 +73,10 @@ module _ {store patients terms : List ℕ} {v n m : ℕ} {area : List ℕ} {head
       few = asks .heads .few
 
       row : Padded v (rowOf x)
-      row = row-padded v (head .cost) (head .plan .beds) few (asks .light .beds) x packed
+      row = row-padded v (head .cost) (head .plan .beds) few (asks .sumsFit .beds) x packed
 
       is : unpadded v (rowOf x) ≡ headRow v head
-      is = row-unpadded v (head .cost) (head .plan .beds) few (asks .light .beds) x packed (low-beds (asks .heads) (head .plan .beds) (asks .heads .fits))
+      is = row-unpadded v (head .cost) (head .plan .beds) few (asks .sumsFit .beds) x packed (low-beds (asks .heads) (head .plan .beds) (asks .heads .fits))
 
   module _ (asks : Asks store patients terms v n m area head) {s : ℕ} where
     pub sofar-start : {count : ℕ} (others : List ℕ) → remaining head ≡ s ∷ others → count ≡ bedsAt patients s → Sofar store patients terms v n m area head s count area n 0
@@ -127,13 +127,13 @@ module _ {store patients terms : List ℕ} {v n m : ℕ} {area : List ℕ} {head
             region = asks .region;
             v = v;
             heads = asks .heads;
-            light = asks .light;
+            sumsFit = asks .sumsFit;
             others = sofar .others;
             lowest = sofar .lowest;
             fits = fits (asks .region) (asks .heads);
           }
 
-      pub asks-cut : AsksCut v found m now (head .plan .beds) (head .plan .len) s bed
+      pub asks-cut : AsksCut v found m now (head .plan) s bed
       asks-cut =
           record {
             patients = asks .heads .few;
@@ -141,8 +141,8 @@ module _ {store patients terms : List ℕ} {v n m : ℕ} {area : List ℕ} {head
             padded = sofar .padded;
             few = asks-few asks-next;
             notAll = asks-room asks-next;
-            long = asks .light .beds;
-            low = low-beds (asks .heads) (set (head .plan .beds) s bed) (fits-next (asks .heads) (sofar .lowest) (asks .light) bed (fits (asks .region) (asks .heads)));
+            long = asks .sumsFit .beds;
+            low = low-beds (asks .heads) (set (head .plan .beds) s bed) (fits-next (asks .heads) (sofar .lowest) (asks .sumsFit) bed (fits (asks .region) (asks .heads)));
           }
 
       -- One more bed, however the list grew by its rows.
@@ -176,8 +176,8 @@ module _ {store patients terms : List ℕ} {v n m : ℕ} {area : List ℕ} {head
         asks-below =
             record {
               region = asks .region;
-              heads = heads-below is (asks .heads) (asks .light) (fits (asks .region) (asks .heads));
-              light = light-below is (asks .light);
+              heads = heads-below is (asks .heads) (asks .sumsFit) (fits (asks .region) (asks .heads));
+              sumsFit = sums-fit-below is (asks .sumsFit);
               room = room-now;
               padded = sofar .padded;
             }
@@ -201,12 +201,12 @@ module _ {store patients terms : List ℕ} {v n m : ℕ} {area : List ℕ} {head
         pub sofar-walk : {after : List ℕ} {grows : ℕ} → Gives store patients terms v found m now below after grows → Sofar store patients terms v n m area head s count after grows (bed + 1)
         sofar-walk {after = then} {grows} gives =
             next-bed (gives .count) (gives .long) (gives .padded) (λ r heads ready.
-            grown-below r heads ready then grows (gives .grown r (heads-below is heads (asks .light) (fits r heads)) (ready-below r heads ready)))
+            grown-below r heads ready then grows (gives .grown r (heads-below is heads (asks .sumsFit) (fits r heads)) (ready-below r heads ready)))
 
-        pub sofar-cut : isPast v found m now (below .cost + below .bound) (below .plan .beds) ≡ true → Sofar store patients terms v n m area head s count now found (bed + 1)
+        pub sofar-cut : {r : Bool} → r ≡ isPast v found m now (below .cost + below .bound) (below .plan .beds) → not r ≡ false → Sofar store patients terms v n m area head s count now found (bed + 1)
         unfolding isPast
-        sofar-cut past =
-            let parts = both (eqb found m) past in
+        sofar-cut {r} past gone =
+            let parts = both (eqb found m) (sym past ∙ not-false r gone) in
             let full : found ≡ m = eqb-true found m (parts .0) in
             let d : Row = record { cost = 0; beds = [] } in
             let best : Row = record { cost = below .cost + below .bound; beds = take v (below .plan .beds) } in
@@ -214,7 +214,7 @@ module _ {store patients terms : List ℕ} {v n m : ℕ} {area : List ℕ} {head
             next-bed (sofar .few) refl (sofar .padded) (λ r heads ready.
             grown-below r heads ready now found
             (walk-cut r (leftIn below) (below .plan .beds) (headRow v below) (ready-below r heads ready) (m - 1) (below .bound) d (omega (arith, asks .room .some)) (unpadded-long v found now ∙ full)
-            (bound-holds (heads-below is heads (asks .light) (fits r heads)))
+            (bound-holds (heads-below is heads (asks .sumsFit) (fits r heads)))
             (λ lt. not-before best (rowIn v now (m - 1)) (not-true _ (parts .1)) (subst⁻¹ (rowOrder .Lt best) last lt))))
 
 -- The lowest of those who are left, and the others.

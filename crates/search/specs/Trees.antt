@@ -13,8 +13,8 @@ use Rattle.partial_rows.specs.Parts.{Apart}
 use Rattle.held_region.specs.declared.Region as Code
 use Rattle.held_region.specs.Meaning.{said}
 use Rattle.buckets.specs.Terms.{leastAt, Prepared}
-use Rattle.forest.specs.Trees.{Rooted}
-use Rattle.row_sums.specs.Sums.{part, listAt}
+use Rattle.forest.specs.Trees.{RootNumbers}
+use Rattle.row_sums.specs.Sums.{workPart, listAt}
 use Rattle.search.specs.Lowest.{Upward}
 use Rattle.search.specs.Walks.{AllPadded}
 
@@ -32,12 +32,12 @@ pub record AsksStart (v : ℕ) (work : List ℕ) : Type 0 where
 pub record GivesStart (v : ℕ) (work after : List ℕ) : Type 0 where
   pub long : length after ≡ length work
   pub row : listAt v 1 0 after ≡ record { cost = 0; beds = replicate v 0 } ∷ []
-  pub padded : AllPadded v 1 (part 0 after)
+  pub padded : AllPadded v 1 (workPart 0 after)
 
 -- ---- one more tree
 
 -- The list so far holds the first rows of E, and D is E with the patients of the set, which no table joins to E.
-pub record Treed (r : Region) (D E : Patients) (store patients terms : List ℕ) (v m n : ℕ) (work : List ℕ) (set : ℕ) : Type 0 where
+pub record NextTree (r : Region) (D E : Patients) (store patients terms : List ℕ) (v m n : ℕ) (work : List ℕ) (set : ℕ) : Type 0 where
   pub prepared : Prepared r store patients terms
   pub counted : v ≡ length (r .patients)
   pub known : (s : ℕ) → contains (members set) s ≡ true → s < length (r .patients)
@@ -50,38 +50,38 @@ pub record AsksTree (store patients terms : List ℕ) (v m n : ℕ) (work : List
   pub region : Region
   pub D : Patients
   pub E : Patients
-  pub treed : Treed region D E store patients terms v m n work set
+  pub nextTree : NextTree region D E store patients terms v m n work set
   pub few : v ≤ 32
   pub some : 0 < m
   pub wanted : m ≤ 64
   pub held : n ≤ m
   pub long : 1_152 ≤ length work
-  pub padded : AllPadded v n (part 0 work)
+  pub padded : AllPadded v n (workPart 0 work)
 
 pub record GivesTree (store patients terms : List ℕ) (v m n : ℕ) (work : List ℕ) (set : ℕ) (after : List ℕ) (k : ℕ) : Type 0 where
   pub count : k ≤ m
   pub long : length after ≡ length work
-  pub padded : AllPadded v k (part 0 after)
-  pub first : (r : Region) (D E : Patients) → Treed r D E store patients terms v m n work set → First rowOrder m (RowOf r D (noBeds r)) (listAt v k 0 after)
+  pub padded : AllPadded v k (workPart 0 after)
+  pub first : (r : Region) (D E : Patients) → NextTree r D E store patients terms v m n work set → First rowOrder m (RowOf r D (noBeds r)) (listAt v k 0 after)
 
 -- ---- all trees
 
 -- The words and roots of a region.
-pub record Planted (r : Region) (store patients terms roots : List ℕ) (v m : ℕ) : Type 0 where
+pub record PreparedForest (r : Region) (store patients terms roots : List ℕ) (v m : ℕ) : Type 0 where
   pub prepared : Prepared r store patients terms
-  pub rooted : Rooted r roots
+  pub rootNumbers : RootNumbers r roots
   pub counted : v ≡ length (r .patients)
   pub wanted : m ≡ r .plansWanted
 
 pub record AsksForest (store patients terms roots : List ℕ) (v m : ℕ) (work : List ℕ) : Type 0 where
   pub region : Region
-  pub planted : Planted region store patients terms roots v m
+  pub forest : PreparedForest region store patients terms roots v m
   pub long : 1_152 ≤ length work
 
 pub record GivesForest (store patients terms roots : List ℕ) (v m : ℕ) (work after : List ℕ) (n : ℕ) : Type 0 where
   pub count : n ≤ m
   pub long : length after ≡ length work
-  pub list : (r : Region) → Planted r store patients terms roots v m → listAt v n 0 after ≡ listOf r
+  pub list : (r : Region) → PreparedForest r store patients terms roots v m → listAt v n 0 after ≡ listOf r
 
 -- ---- the whole region
 

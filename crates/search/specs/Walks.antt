@@ -40,7 +40,7 @@ abbrev pub headRow : ℕ → Branching → Row
 headRow v head = record { cost = head .cost; beds = take v (head .plan .beds) }
 
 -- A head whose sums fit: the cost grows with the patients placed.
-pub record Light (head : Branching) : Type 0 where
+pub record SumsFit (head : Branching) : Type 0 where
   pub beds : length (head .plan .beds) ≡ 32
   pub placed : head .plan .len + length (remaining head) ≤ 32
   pub cost : head .cost ≤ head .plan .len * 64_000_000
@@ -66,7 +66,7 @@ pub record AsksNext (store patients terms : List ℕ) (head : Branching) (s bed 
   pub region : Region
   pub v : ℕ
   pub heads : Heads region store patients terms v head
-  pub light : Light head
+  pub sumsFit : SumsFit head
   pub others : List ℕ
   pub lowest : remaining head ≡ s ∷ others
   pub fits : bed < patientAt region s .bedCount
@@ -104,21 +104,21 @@ AllPadded v n area = (z : Row) → z ∈ wholeRows n area → Padded v z
 unfoldable pub isPast : ℕ → ℕ → ℕ → List ℕ → ℕ → List ℕ → Bool
 isPast v n m area cost beds = eqb n m && not (isBefore (compareRows (unpadded v (record { cost = cost; beds = beds })) (rowIn v area (m - 1))))
 
-pub record AsksCut (v n m : ℕ) (area beds : List ℕ) (placed s bed : ℕ) : Type 0 where
+pub record AsksCut (v n m : ℕ) (area : List ℕ) (plan : Code.Plan) (s bed : ℕ) : Type 0 where
   pub patients : v ≤ 32
   pub room : Room n m area
   pub padded : AllPadded v n area
   pub few : s < 32
-  pub notAll : placed < 32
-  pub long : length beds ≡ 32
-  pub low : (q : ℕ) → q < v → bedOf (set beds s bed) q < 16
+  pub notAll : plan .len < 32
+  pub long : length (plan .beds) ≡ 32
+  pub low : (q : ℕ) → q < v → bedOf (set (plan .beds) s bed) q < 16
 
 -- ---- the walk
 
 pub record Asks (store patients terms : List ℕ) (v n m : ℕ) (area : List ℕ) (head : Branching) : Type 0 where
   pub region : Region
   pub heads : Heads region store patients terms v head
-  pub light : Light head
+  pub sumsFit : SumsFit head
   pub room : Room n m area
   pub padded : AllPadded v n area
 

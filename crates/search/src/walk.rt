@@ -40,11 +40,10 @@ fn rest_of(patients: &[u32; 96], left: PatientSet, bound: u64, s: usize) -> Rest
     }
 }
 
-// Is the list full, and a row of this cost, with the beds so far and one more, not before its last? Only at equal costs the beds are looked at.
+// Is the list full, and a row of this cost, with the plan so far and one more bed, not before its last? Only at equal costs the beds are looked at.
 fn is_cut(
     list: &[u32],
-    beds: &[u8; 32],
-    placed: usize,
+    plan: Plan,
     v: usize,
     n: usize,
     m: usize,
@@ -52,8 +51,8 @@ fn is_cut(
     s: usize,
     bed: u8,
 ) -> bool
-    requires { ⌜ AsksCut v n m (now list) (now beds) placed s bed ⌝ }
-    ensures { λ r. ⌜ r ≡ isPast v n m (now (list .entry)) cost (set (now (beds .entry)) s bed) ⌝ }
+    requires { ⌜ AsksCut v n m (now list) plan s bed ⌝ }
+    ensures { λ r. ⌜ r ≡ isPast v n m (now (list .entry)) cost (set (plan .beds) s bed) ⌝ }
 {
     if n < m {
         return false;
@@ -65,16 +64,12 @@ fn is_cut(
     if last < cost {
         return true;
     }
-    let before = Plan {
-        beds: *beds,
-        len: placed,
-    };
-    let plan = before.place(s, bed);
-    let row = pack(cost, &plan.beds, v);
+    let longer = plan.place(s, bed);
+    let row = pack(cost, &longer.beds, v);
     is_past(list, n, m, row)
 }
 
-// Adds the rows of the branch to the list: the m cheapest are kept. The beds so far are lent, and copied once for all beds of the patient.
+// Adds the rows of the branch to the list: the m cheapest are kept. Each bed that is not cut gives a longer plan, whose beds are lent to the branch below.
 pub fn walk(
     list: &mut [u32],
     patients: &[u32; 96],
@@ -101,8 +96,10 @@ pub fn walk(
     let bound = rest.bound;
     let mut sums = [0u64; 16];
     bed_costs(&mut sums, patients, terms, entries, s, count, beds);
-    let placed = head.placed;
-    let mut next = *beds;
+    let plan = Plan {
+        beds: *beds,
+        len: head.placed,
+    };
     let mut found = n;
     let mut bed: usize = 0;
     while bed < count {
@@ -110,15 +107,25 @@ pub fn walk(
         if let Cost::Of(n) = cost {
             let sum = head.cost + n;
             let least = sum + bound;
-            if !is_cut(list, beds, placed, v, found, m, least, s, bed as u8) {
-                next[s] = bed as u8;
+            if !is_cut(list, plan, v, found, m, least, s, bed as u8) {
+                let longer = plan.place(s, bed as u8);
                 let below = Head {
                     left: others,
-                    placed: placed + 1,
+                    placed: longer.len,
                     cost: sum,
                     bound: bound,
                 };
-                found = walk(list, patients, terms, entries, &next, v, found, m, below);
+                found = walk(
+                    list,
+                    patients,
+                    terms,
+                    entries,
+                    &longer.beds,
+                    v,
+                    found,
+                    m,
+                    below,
+                );
             }
         }
         bed += 1;

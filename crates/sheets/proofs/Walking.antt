@@ -20,7 +20,7 @@ use Rattle.packed_rows.specs.declared.Row.{Row}
 use Rattle.packed_rows.specs.Packed.{rowOf}
 use Rattle.row_list.specs.Rows.{wholeRow, wholeRows, rowsIn}
 use Rattle.row_list.specs.Laws.{rows-none, unpadded-long, unpadded-at}
-use Rattle.row_sums.specs.Sums.{part, wholeAt, listAt}
+use Rattle.row_sums.specs.Sums.{workPart, wholeAt, listAt}
 use Rattle.row_sums.specs.Areas.{replaced, replaced-long, part-new, part-before, part-long}
 use Rattle.sheets.specs.Steps.{AsksOwn, GivesOwn, Room, withNew, Kept, Listed, AsksList, GivesList}
 use Rattle.sheets.proofs.Own.{listed-fits}
@@ -31,7 +31,7 @@ pub record Walked (store patients terms : List ℕ) (v n set : ℕ) (first : Lis
   pub most : i ≤ n
   pub count : kept ≤ i
   pub long : length work ≡ length first
-  pub list : part 0 work ≡ part 0 first
+  pub list : workPart 0 work ≡ workPart 0 first
   pub padded : (z : Said.Row) → z ∈ wholeAt kept 1 work → Padded (length (members set)) z
   pub sheet : (r : Region) (clinic : ℕ) → Listed r clinic store patients terms v n set first
       → sheetFrom (listAt (length (members set)) kept 1 work) (map (ownRow r clinic) (drop i (listOf r))) ≡ sheetOf r clinic
@@ -48,8 +48,8 @@ module _ (store patients terms : List ℕ) (v n set : ℕ) (first : List ℕ) wh
         count = omega arith;
         long = refl;
         list = refl;
-        padded = λ z m. absurd (none-in-nil (rw (rows-none (part 1 first)) at m));
-        sheet = λ r clinic l. ap (λ rows. sheetFrom (map (unpadded size) rows) (map (ownRow r clinic) (listOf r))) (rows-none (part 1 first));
+        padded = λ z m. absurd (none-in-nil (rw (rows-none (workPart 1 first)) at m));
+        sheet = λ r clinic l. ap (λ rows. sheetFrom (map (unpadded size) rows) (map (ownRow r clinic) (listOf r))) (rows-none (workPart 1 first));
       }
 
   module _ (i : ℕ) (work : List ℕ) (kept : ℕ) (w : Walked store patients terms v n set first i work kept) where
@@ -60,28 +60,28 @@ module _ (store patients terms : List ℕ) (v n set : ℕ) (first : List ℕ) wh
           long = w .long;
           list = w .list;
           sheet = λ r clinic l.
-              let none-left : drop i (listOf r) ≡ [] = drop-of-length-le (listOf r) {i = i} (omega (arith, sym (ap length (l .list)) ∙ unpadded-long v n (part 0 first))) in
+              let none-left : drop i (listOf r) ≡ [] = drop-of-length-le (listOf r) {i = i} (omega (arith, sym (ap length (l .list)) ∙ unpadded-long v n (workPart 0 first))) in
               sym (from-done (listAt size kept 1 work))
               ∙ ap (λ rows. sheetFrom (listAt size kept 1 work) (map (ownRow r clinic) rows)) (sym none-left) ∙ w .sheet r clinic l;
         }
 
     module _ (more : i < n) where
       -- There is room for the next row.
-      pub walked-room : n ≤ 64 → 1_152 ≤ length first → Room kept (part 1 work)
+      pub walked-room : n ≤ 64 → 1_152 ≤ length first → Room kept (workPart 1 work)
       walked-room few long = record { few = omega (arith, w .count); long = omega (arith, part-long 1 work (omega (arith, w .long))) }
 
-      module _ (row : Row) (read : rowOf row ≡ wholeRow (part 0 work) i) where
+      module _ (row : Row) (read : rowOf row ≡ wholeRow (workPart 0 work) i) where
         module _ (r : Region) (clinic : ℕ) (l : Listed r clinic store patients terms v n set first) where
           abbrev noRow : Said.Row
           noRow = record { cost = 0; beds = [] }
 
           -- The row that is read is the list's.
           rows-left : length (listOf r) ≡ n
-          rows-left = sym (ap length (l .list)) ∙ unpadded-long v n (part 0 first)
+          rows-left = sym (ap length (l .list)) ∙ unpadded-long v n (workPart 0 first)
 
           read-row : unpadded v (rowOf row) ≡ getD (listOf r) i noRow
           read-row =
-              ap (unpadded v) read ∙ unpadded-at v n (part 0 work) i noRow more
+              ap (unpadded v) read ∙ unpadded-at v n (workPart 0 work) i noRow more
               ∙ ap (λ rows. getD rows i noRow) (ap (rowsIn v n) (w .list) ∙ l .list)
 
           read-fits : Fitting r (rowOf row .beds)
@@ -103,7 +103,7 @@ module _ (store patients terms : List ℕ) (v n set : ℕ) (first : List ℕ) wh
             }
 
         -- One more row.
-        pub walked-next : (own : Row) (new : List ℕ) (after : ℕ) → 1_152 ≤ length first → GivesOwn store patients terms v row set own → Kept kept own (part 1 work) new after
+        pub walked-next : (own : Row) (new : List ℕ) (after : ℕ) → 1_152 ≤ length first → GivesOwn store patients terms v row set own → Kept kept own (workPart 1 work) new after
             → Walked store patients terms v n set first (i + 1) (replaced 384 new work) after
         walked-next own new after far made g =
             record {

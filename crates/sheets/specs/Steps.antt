@@ -13,7 +13,7 @@ use Rattle.partial_rows.specs.Padding.{unpadded, Padded}
 use Rattle.packed_rows.specs.declared.Row as Code
 use Rattle.packed_rows.specs.Packed.{rowOf}
 use Rattle.row_list.specs.Rows.{wholeRows}
-use Rattle.row_sums.specs.Sums.{part, listAt}
+use Rattle.row_sums.specs.Sums.{workPart, listAt}
 
 -- The beds of some patients, moved together in their order.
 abbrev pub PartTaken : List ℕ → List ℕ → List ℕ → Type 0
@@ -79,5 +79,5 @@ pub record AsksList (store patients terms : List ℕ) (v n set : ℕ) (work : Li
 pub record GivesList (store patients terms : List ℕ) (v n set : ℕ) (work after : List ℕ) (k : ℕ) : Type 0 where
   pub count : k ≤ n
   pub long : length after ≡ length work
-  pub list : part 0 after ≡ part 0 work
+  pub list : workPart 0 after ≡ workPart 0 work
   pub sheet : (r : Region) (clinic : ℕ) → Listed r clinic store patients terms v n set work → listAt (length (members set)) k 1 after ≡ sheetOf r clinic

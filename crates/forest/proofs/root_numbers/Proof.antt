@@ -4,12 +4,12 @@ use Prim.Native.Nat.{_-_}
 use native.Mathlib.Omega.{arith}
 use lib.ListN.{length, length-set}
 use Rattle.held_region.specs.Asked.{patients-said}
-use Rattle.forest.proofs.Roots.{RootedTo, parent-known, rooted-more}
+use Rattle.forest.proofs.Roots.{RootNumbersTo, parent-known, root-numbers-more}
 use Rattle.forest.proofs.root_numbers.Statement.{statement}
 use Rattle.forest.proofs.root_numbers.Tie as tie
 
 abbrev Inv-loop : tie.InvT-loop
-Inv-loop region roots₀ patients s₀ roots s = (length roots ≡ 32) × RootedTo region s roots
+Inv-loop region roots₀ patients s₀ roots s = (length roots ≡ 32) × RootNumbersTo region s roots
 
 abbrev μ-loop : tie.MeasureT-loop
 μ-loop region roots₀ patients s₀ roots s = region .v - s
@@ -46,7 +46,7 @@ loop-again c =
     let first = loop .before .before .pre in
     let room = first .places .patients in
     let inv = loop .loop .inv in
-    (simp length-set (inv .0), rooted-more _ first _ (c .before .before .if1 .taken) _ _ (omega (arith, room)) (c .root-number .ensures) (inv .1))
+    (simp length-set (inv .0), root-numbers-more _ first _ (c .before .before .if1 .taken) _ _ (omega (arith, room)) (c .root-number .ensures) (inv .1))
 
 returns : tie.Need-returns Inv-loop μ-loop
 returns c =

@@ -2,7 +2,7 @@ use borrow.Author.Needs.{needs}
 use native.Mathlib.Omega.{arith}
 use mathlib.Core.Path.{_≡_, sym, _∙_}
 use Prim.Native.Nat.{_-_, _≤_}
-use Rattle.packed_rows.proofs.Comparing.{answer, answerFrom, cheaper, dearer, same-cost, all-same, smaller-word, larger-word, tied-word}
+use Rattle.packed_rows.proofs.Comparing.{answer, answerFrom, cheaper, costlier, same-cost, all-same, smaller-word, larger-word, tied-word}
 use Rattle.packed_rows.proofs.precedes.Statement.{statement}
 use Rattle.packed_rows.proofs.precedes.Tie as tie
 
@@ -16,7 +16,7 @@ returns : tie.Need-returns Inv-loop μ-loop
 returns c = let a = c .before .args in cheaper (a .t1) (a .t2) (a .equal) (c .if1 .taken)
 
 returns-2 : tie.Need-returns-2 Inv-loop μ-loop
-returns-2 c = let a = c .before .before .args in dearer (a .t1) (a .t2) (a .equal) (c .if2 .taken)
+returns-2 c = let a = c .before .before .args in costlier (a .t1) (a .t2) (a .equal) (c .if2 .taken)
 
 loop-holds : tie.Need-loop-holds Inv-loop μ-loop
 loop-holds c = let a = c .before .before .args in (search needs, same-cost (a .t1) (a .t2) (search needs) (search needs) (a .equal) (c .before .if1 .left) (c .if2 .left))

@@ -1,7 +1,7 @@
 use Rattle.held_region.specs.Sound.{accepted-sound}
 use borrow.Author.Needs.{needs}
 use denote.Ref.{now}
-use Rattle.row_sums.specs.Sums.{part}
+use Rattle.row_sums.specs.Sums.{workPart}
 use Rattle.printer.proofs.Clinics.{clinic-absent, asks-sheet, printable, clinic-printed}
 use Rattle.printer.proofs.print_clinic.Statement.{statement}
 use Rattle.printer.proofs.print_clinic.Tie as tie
@@ -44,7 +44,7 @@ part-print-sheet-end : tie.Need-part-print-sheet-end
 part-print-sheet-end c = search needs
 
 print-sheet-requires : tie.Need-print-sheet-requires
-unfolding part
+unfolding workPart
 print-sheet-requires c κs =
     let sized = c .before .before .before in
     let collected = sized .before .before .before in
@@ -61,7 +61,7 @@ same-length-2 : tie.Need-same-length-2
 same-length-2 c = search needs
 
 returns-2 : tie.Need-returns-2
-unfolding part
+unfolding workPart
 returns-2 c =
     let sized = c .before .before .before .before .before .before in
     let collected = sized .before .before .before in

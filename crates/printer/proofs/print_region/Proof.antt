@@ -1,6 +1,6 @@
 use borrow.Author.Needs.{needs}
 use denote.Ref.{now}
-use Rattle.row_sums.specs.Sums.{part}
+use Rattle.row_sums.specs.Sums.{workPart}
 use Rattle.printer.proofs.Regions.{refusal-room, nothing-printed, list-printable, asks-sheets, text-printed}
 use Rattle.printer.proofs.print_region.Statement.{statement}
 use Rattle.printer.proofs.print_region.Tie as tie
@@ -38,7 +38,7 @@ part-print-list-end : tie.Need-part-print-list-end
 part-print-list-end c = search needs
 
 print-list-requires : tie.Need-print-list-requires
-unfolding part
+unfolding workPart
 print-list-requires c κs =
     let tested = c .before .before .before in
     let listed = tested .before .before .before in
@@ -46,7 +46,7 @@ print-list-requires c κs =
     list-printable _ _ (now (start .args .out)) (now (start .args .work)) (start .pre) (listed .list-region .ensures) (tested .if1 .left)
 
 print-sheets-requires : tie.Need-print-sheets-requires
-unfolding part
+unfolding workPart
 print-sheets-requires c κs =
     let printed = c .before .before .before .before in
     let tested = printed .before .before .before .before in
@@ -61,7 +61,7 @@ same-length-4 : tie.Need-same-length-4
 same-length-4 c = search needs
 
 returns-2 : tie.Need-returns-2
-unfolding part
+unfolding workPart
 returns-2 c =
     let printed = c .before .before .before .before .before .before .before .before .before in
     let tested = printed .before .before .before .before in

@@ -1,7 +1,7 @@
 use borrow.Author.Needs.{needs}
 use native.Mathlib.Omega.{arith}
 use Prim.Native.Nat.{_-_, _≤_}
-use Rattle.row_sums.specs.Sums.{part}
+use Rattle.row_sums.specs.Sums.{workPart}
 use Rattle.row_sums.specs.Steps.{Found}
 use Rattle.row_sums.proofs.Joining.{none-found, row-found, next-row}
 use Rattle.row_sums.proofs.Finding.{all-found}
@@ -30,7 +30,7 @@ row-at-requires : tie.Need-row-at-requires Inv-loop μ-loop
 row-at-requires c κs = search needs
 
 insert-sums-requires : tie.Need-insert-sums-requires Inv-loop μ-loop
-unfolding part
+unfolding workPart
 insert-sums-requires c κs =
     let l = c .before .before .before .before .before in
     let s = l .before .before in
@@ -44,7 +44,7 @@ loop-less : tie.Need-loop-less Inv-loop μ-loop
 loop-less c = search needs
 
 loop-again : tie.Need-loop-again Inv-loop μ-loop
-unfolding part
+unfolding workPart
 loop-again c =
     let l = c .before .before .before .before .before .before .before .before in
     let a = l .before .before .args in

@@ -2,7 +2,7 @@ use borrow.Author.Needs.{needs}
 use native.Mathlib.Omega.{arith}
 use mathlib.Core.Path.{_≡_}
 use Prim.Native.Nat.{_-_, _≤_}
-use Rattle.row_sums.specs.Sums.{part}
+use Rattle.row_sums.specs.Sums.{workPart}
 use Rattle.row_sums.specs.Steps.{Copied}
 use Rattle.row_sums.proofs.Copying.{none-copied, one-copied}
 use Rattle.row_sums.proofs.copy_back.Statement.{statement}
@@ -48,7 +48,7 @@ loop-less : tie.Need-loop-less Inv-loop μ-loop
 loop-less c = search needs
 
 loop-again : tie.Need-loop-again Inv-loop μ-loop
-unfolding part
+unfolding workPart
 loop-again c =
     let l = c .before .before .before .before .before .before .before .before in
     let a = l .before .before .args in

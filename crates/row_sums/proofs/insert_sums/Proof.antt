@@ -4,7 +4,7 @@ use mathlib.Core.Path.{_≡_, sym, _∙_}
 use Prim.Native.Nat.{ℕ, _+_, _-_, _<_, _≤_}
 use mir.Syntax.{w64}
 use mir.Val.{Fits}
-use Rattle.row_sums.specs.Sums.{part}
+use Rattle.row_sums.specs.Sums.{workPart}
 use Rattle.row_sums.specs.Steps.{Joined}
 use Rattle.row_sums.proofs.Joining.{none-joined, one-joined, all-joined, read-in}
 use Rattle.row_sums.proofs.Skipping.{rest-skipped, cost-fits}
@@ -43,31 +43,31 @@ cost-at-requires : tie.Need-cost-at-requires Inv-loop μ-loop
 cost-at-requires c κs = search needs
 
 add-cost : tie.Need-add-cost Inv-loop μ-loop
-unfolding part
+unfolding workPart
 add-cost c =
     omega (arith, cost-fits (c .before .before .before .before .before .before .before .args .b) (c .before .before .before .before .before .loop .j) _ (c .before .before .before .before .before .before .before .args .x) _ _ (c .before .before .before .before .loop-test .taken) (c .before .before .before .before .before .before .before .pre .fits) (c .before .before .before .before .before .loop .inv .1 .kept .second) (c .before .cost-at .ensures))
 
-sub-is-dear : tie.Need-sub-is-dear Inv-loop μ-loop
-sub-is-dear c = search needs
+sub-exceeds-last : tie.Need-sub-exceeds-last Inv-loop μ-loop
+sub-exceeds-last c = search needs
 
-part-is-dear-start : tie.Need-part-is-dear-start Inv-loop μ-loop
-part-is-dear-start c = search needs
+part-exceeds-last-start : tie.Need-part-exceeds-last-start Inv-loop μ-loop
+part-exceeds-last-start c = search needs
 
-part-is-dear-end : tie.Need-part-is-dear-end Inv-loop μ-loop
-part-is-dear-end c = search needs
+part-exceeds-last-end : tie.Need-part-exceeds-last-end Inv-loop μ-loop
+part-exceeds-last-end c = search needs
 
-is-dear-requires : tie.Need-is-dear-requires Inv-loop μ-loop
-is-dear-requires c κs = search needs
+exceeds-last-requires : tie.Need-exceeds-last-requires Inv-loop μ-loop
+exceeds-last-requires c κs = search needs
 
 same-length : tie.Need-same-length Inv-loop μ-loop
 same-length c = search needs
 
 returns : tie.Need-returns Inv-loop μ-loop
-unfolding part
+unfolding workPart
 returns c =
     let l = c .before .before .before .before .before .before .before .before .before .loop in
     let a = c .before .before .before .before .before .before .before .before .before .before .before .args in
-    rest-skipped (a .m) (a .n) (a .x) _ (l .j) (a .b) (l .count) _ _ (c .before .before .before .before .before .before .before .before .before .before .before .pre .some) (c .before .before .before .before .before .before .before .before .loop-test .taken) (l .inv .1) (c .before .before .before .before .before .cost-at .ensures) (sym (c .before .is-dear .ensures) ∙ c .if1 .taken)
+    rest-skipped (a .m) (a .n) (a .x) _ (l .j) (a .b) (l .count) _ _ (c .before .before .before .before .before .before .before .before .before .before .before .pre .some) (c .before .before .before .before .before .before .before .before .loop-test .taken) (l .inv .1) (c .before .before .before .before .before .cost-at .ensures) (sym (c .before .exceeds-last .ensures) ∙ c .if1 .taken)
 
 sub-row-at : tie.Need-sub-row-at Inv-loop μ-loop
 sub-row-at c = search needs
@@ -82,7 +82,7 @@ row-at-requires : tie.Need-row-at-requires Inv-loop μ-loop
 row-at-requires c κs = search needs
 
 add-rows-requires : tie.Need-add-rows-requires Inv-loop μ-loop
-unfolding part
+unfolding workPart
 add-rows-requires c κs =
     c .before .before .before .before .before .before .before .before .before .before .before .before .before .before .pre .fits _ (read-in (c .before .before .before .before .before .before .before .before .before .before .before .before .before .before .args .b) (c .before .before .before .before .before .before .before .before .before .before .before .before .loop .j) _ _ _ (c .before .before .before .before .before .before .before .before .before .before .before .loop-test .taken) (c .before .before .before .before .before .before .before .before .before .before .before .before .loop .inv .1 .kept .second) (c .row-at .ensures))
 
@@ -105,7 +105,7 @@ loop-less : tie.Need-loop-less Inv-loop μ-loop
 loop-less c = one-less _ _ (c .before .before .before .before .before .before .before .before .before .before .before .before .before .before .before .before .loop-test .taken)
 
 loop-again : tie.Need-loop-again Inv-loop μ-loop
-unfolding part
+unfolding workPart
 loop-again c =
     let l = c .before .before .before .before .before .before .before .before .before .before .before .before .before .before .before .before .before .loop in
     let a = c .before .before .before .before .before .before .before .before .before .before .before .before .before .before .before .before .before .before .before .args in
@@ -133,10 +133,10 @@ insert-sums-spec =
     part-cost-at-end
     cost-at-requires
     add-cost
-    sub-is-dear
-    part-is-dear-start
-    part-is-dear-end
-    is-dear-requires
+    sub-exceeds-last
+    part-exceeds-last-start
+    part-exceeds-last-end
+    exceeds-last-requires
     same-length
     returns
     sub-row-at

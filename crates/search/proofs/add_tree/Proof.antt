@@ -1,6 +1,6 @@
 use borrow.Author.Needs.{needs}
 use mathlib.Core.Path.{refl}
-use Rattle.row_sums.specs.Sums.{part}
+use Rattle.row_sums.specs.Sums.{workPart}
 use Rattle.search.proofs.Listing.{asks-walk, asks-combine, tree-added}
 use Rattle.search.proofs.add_tree.Statement.{statement}
 use Rattle.search.proofs.add_tree.Tie as tie
@@ -21,18 +21,18 @@ part-walk-end : tie.Need-part-walk-end
 part-walk-end c = search needs
 
 walk-requires : tie.Need-walk-requires
-unfolding part
+unfolding workPart
 walk-requires c κs = asks-walk (c .before .before .before .before .before .before .pre) (record { left = refl; beds = c .before .before .before .before .new .ensures .0; len = c .before .before .before .before .new .ensures .1; cost = refl; bound = c .before .before .before .least-sum .ensures })
 
 combine-requires : tie.Need-combine-requires
-unfolding part
+unfolding workPart
 combine-requires c κs = asks-combine (c .before .before .before .before .before .before .before .before .before .before .pre) (record { left = refl; beds = c .before .before .before .before .before .before .before .before .new .ensures .0; len = c .before .before .before .before .before .before .before .before .new .ensures .1; cost = refl; bound = c .before .before .before .before .before .before .before .least-sum .ensures }) (c .before .before .before .walk .ensures)
 
 same-length : tie.Need-same-length
 same-length c = search needs
 
 returns : tie.Need-returns
-unfolding part
+unfolding workPart
 returns c = tree-added (c .before .before .before .before .before .before .before .before .before .before .before .before .before .pre) (record { left = refl; beds = c .before .before .before .before .before .before .before .before .before .before .before .new .ensures .0; len = c .before .before .before .before .before .before .before .before .before .before .before .new .ensures .1; cost = refl; bound = c .before .before .before .before .before .before .before .before .before .before .least-sum .ensures }) (c .before .before .before .before .before .before .walk .ensures) (c .before .before .combine .ensures)
 
 pub add-tree-spec : {M : Type 1} → statement M

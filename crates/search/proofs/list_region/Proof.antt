@@ -1,6 +1,6 @@
 use borrow.Author.Needs.{needs}
 use Rattle.held_region.specs.Sound.{accepted-parents}
-use Rattle.search.proofs.Forests.{planted}
+use Rattle.search.proofs.Forests.{forest}
 use Rattle.search.proofs.list_region.Statement.{statement}
 use Rattle.search.proofs.list_region.Tie as tie
 
@@ -15,7 +15,7 @@ list-trees-requires c κs =
     let roots = c .before .before .before .before .before .before in
     record {
       region = _;
-      planted = planted _ _ (roots .before .prepare .ensures) (roots .root-numbers .ensures _);
+      forest = forest _ _ (roots .before .prepare .ensures) (roots .root-numbers .ensures _);
       long = roots .before .before .before .pre .long;
     }
 
@@ -29,7 +29,7 @@ returns c =
     record {
       count = gives .count;
       long = gives .long;
-      list = gives .list _ (planted _ _ (roots .before .prepare .ensures) (roots .root-numbers .ensures _));
+      list = gives .list _ (forest _ _ (roots .before .prepare .ensures) (roots .root-numbers .ensures _));
     }
 
 pub list-region-spec : {M : Type 1} → statement M

@@ -1,5 +1,5 @@
 use borrow.Author.Needs.{needs}
-use Rattle.row_sums.specs.Sums.{part}
+use Rattle.row_sums.specs.Sums.{workPart}
 use Rattle.search.proofs.Listing.{started}
 use Rattle.search.proofs.start_list.Statement.{statement}
 use Rattle.search.proofs.start_list.Tie as tie
@@ -23,7 +23,7 @@ same-length : tie.Need-same-length
 same-length c = search needs
 
 returns : tie.Need-returns
-unfolding part
+unfolding workPart
 returns c = started _ _ _ _ (c .before .before .before .before .before .before .before .pre) (c .before .before .before .before .pack .ensures) (c .before .before .set-row .ensures)
 
 pub start-list-spec : {M : Type 1} → statement M

@@ -1,6 +1,6 @@
 use borrow.Author.Needs.{needs}
 use Prim.Native.Nat.{_-_}
-use Rattle.row_sums.specs.Sums.{part}
+use Rattle.row_sums.specs.Sums.{workPart}
 use Rattle.sheets.proofs.Walking.{Walked, walked-start, walked-room, walked-asks, walked-next, walked-done}
 use Rattle.sheets.proofs.keep_rows.Statement.{statement}
 use Rattle.sheets.proofs.keep_rows.Tie as tie
@@ -27,7 +27,7 @@ row-at-requires : tie.Need-row-at-requires Inv-loop μ-loop
 row-at-requires c κs = search needs
 
 own-row-requires : tie.Need-own-row-requires Inv-loop μ-loop
-unfolding part
+unfolding workPart
 own-row-requires c κs =
     let turn = c .before .before .before in
     walked-asks _ _ _ _ _ _ _ _ _ _ (turn .before .loop .inv) (turn .loop-test .taken) _ (c .row-at .ensures) (turn .before .before .before .pre)
@@ -42,7 +42,7 @@ part-keep-new-end : tie.Need-part-keep-new-end Inv-loop μ-loop
 part-keep-new-end c = search needs
 
 keep-new-requires : tie.Need-keep-new-requires Inv-loop μ-loop
-unfolding part
+unfolding workPart
 keep-new-requires c κs =
     let turn = c .before .before .before .before .before in
     let pre = turn .before .before .before .pre in
@@ -55,7 +55,7 @@ loop-less : tie.Need-loop-less Inv-loop μ-loop
 loop-less c = search needs
 
 loop-again : tie.Need-loop-again Inv-loop μ-loop
-unfolding part
+unfolding workPart
 loop-again c =
     let made = c .before .before .before .before in
     let turn = made .before .before .before .before in

@@ -1,6 +1,6 @@
 use borrow.Author.Needs.{needs}
 use denote.Ref.{now}
-use Rattle.row_sums.specs.Sums.{part}
+use Rattle.row_sums.specs.Sums.{workPart}
 use Rattle.region_answers.proofs.Sheets.{writable-sheet, sheet-written}
 use Rattle.region_answers.proofs.clinic_sheet.write_sheet.Statement.{statement}
 use Rattle.region_answers.proofs.clinic_sheet.write_sheet.Tie as tie
@@ -24,7 +24,7 @@ part-write-rows-end : tie.Need-part-write-rows-end
 part-write-rows-end c = search needs
 
 write-rows-requires : tie.Need-write-rows-requires
-unfolding part
+unfolding workPart
 write-rows-requires c κs =
     let sized = c .before .before .before .before in
     let collected = sized .before .before .before in
@@ -44,7 +44,7 @@ same-length-3 : tie.Need-same-length-3
 same-length-3 c = search needs
 
 returns : tie.Need-returns
-unfolding part
+unfolding workPart
 returns c =
     let sized = c .before .before .before .before .before .before .before .before .before .before .before .before .before in
     let collected = sized .before .before .before in

@@ -1,15 +1,14 @@
 use borrow.Author.Needs.{needs}
 use native.Mathlib.Omega.{arith}
-use mathlib.Core.Path.{_≡_, refl, sym, ap, _∙_}
+use mathlib.Core.Path.{sym, ap, _∙_}
 use mathlib.Core.Logic.{⊎-elim}
 use Prim.Native.Nat.{ℕ, _<_, _-_}
 use denote.Ref.{now}
-use lib.ListN.{set, length, drop}
-use borrow.Author.Tests.{not-false}
+use lib.ListN.{length, drop}
 use Rattle.pricing.specs.Pricing.{costIn}
 use Rattle.patient_set.specs.Sets.{members}
 use Rattle.search.specs.Walks.{branchAt}
-use Rattle.search.proofs.Steps.{few, least-most, asks-few, asks-room, asks-beds, decides, below-head, same-beds, below-bed}
+use Rattle.search.proofs.Steps.{few, least-most, asks-few, asks-room, asks-beds, decides, below-head, below-bed}
 use Rattle.search.proofs.Walking.{Sofar, walk-end, sofar-start, sofar-done, bed-small, asks-next, asks-cut, sofar-skip, asks-below, sofar-walk, sofar-cut, lowest-first}
 use borrow.Fn.Kinds.{In}
 use borrow.Fn.PlainCycle.{Measures, is, falls, and}
@@ -21,6 +20,7 @@ use Rattle.patient_set.proofs.PatientSet.lowest.Reads as lowest-reads
 use Rattle.buckets.proofs.words.bed_count.Reads as bed-count-reads
 use Rattle.pricing.proofs.beds.bed_cost.Reads as bed-cost-reads
 use Rattle.pricing.proofs.beds.bed_costs.Reads as bed-costs-reads
+use Rattle.pricing.proofs.Plan.place.Reads as place-reads
 use Rattle.packed_rows.proofs.pack.Reads as pack-reads
 use Rattle.row_list.proofs.insert.Reads as insert-reads
 use Rattle.search.proofs.walk.is_cut.Reads as is-cut-reads
@@ -58,16 +58,18 @@ calls t = (
   bed-cost-reads.Learnt,
   is-cut-reads.Asked,
   is-cut-reads.Learnt,
+  place-reads.Asked,
+  place-reads.Learnt,
   walk-below t,
   walk.Post,
 )
 
 abbrev walk-Inv-loop : walk-lts.InvT-loop
-walk-Inv-loop list₀ patients terms entries beds v n m head s count others bound sums placed next₀ found₀ bed₀ list next found bed =
-    Sofar entries patients terms v n m list₀ (branchAt head beds) s count list found bed × ((b : ℕ) → set next s b ≡ set beds s b)
+walk-Inv-loop list₀ patients terms entries beds v n m head s count others bound sums plan found₀ bed₀ list found bed =
+    Sofar entries patients terms v n m list₀ (branchAt head beds) s count list found bed
 
 abbrev walk-μ-loop : walk-lts.MeasureT-loop
-walk-μ-loop list₀ patients terms entries beds v n m head s count others bound sums placed next₀ found₀ bed₀ list next found bed =
+walk-μ-loop list₀ patients terms entries beds v n m head s count others bound sums plan found₀ bed₀ list found bed =
     count - bed
 
 walk-is-empty-requires : (t : ℕ) → walk-lts.Need-is-empty-requires (calls t) (walk-at t) walk.Post walk-Inv-loop walk-μ-loop
@@ -100,13 +102,13 @@ walk-rest-of-requires t c κs =
     record { few = few (c .before .before .before .before .before .before .pre .1 .heads) lowest; least = least-most (c .before .before .before .before .before .before .pre .1 .heads) lowest }
 
 walk-bed-costs-requires : (t : ℕ) → walk-lts.Need-bed-costs-requires (calls t) (walk-at t) walk.Post walk-Inv-loop walk-μ-loop
-walk-bed-costs-requires t c κs = asks-beds (c .before .before .before .before .before .before .before .before .before .pre .1 .heads) (lowest-first _ _ (sym (c .before .before .before .before .before .before .is-empty .ensures) ∙ c .before .before .before .before .before .if1 .left) (c .before .before .before .before .lowest .ensures)) (c .before .before .before .before .before .before .before .before .before .pre .1 .light) (c .before .before .before .bed-count .ensures)
+walk-bed-costs-requires t c κs = asks-beds (c .before .before .before .before .before .before .before .before .before .pre .1 .heads) (lowest-first _ _ (sym (c .before .before .before .before .before .before .is-empty .ensures) ∙ c .before .before .before .before .before .if1 .left) (c .before .before .before .before .lowest .ensures)) (c .before .before .before .before .before .before .before .before .before .pre .1 .sumsFit) (c .before .before .before .bed-count .ensures)
 
 walk-loop-holds : (t : ℕ) → walk-lts.Need-loop-holds (calls t) (walk-at t) walk.Post walk-Inv-loop walk-μ-loop
-walk-loop-holds t c = (sofar-start (c .before .before .before .before .before .before .before .before .before .before .before .pre .1) (drop 1 (members (c .before .before .before .before .before .before .before .before .before .before .before .args .head .left .0))) (lowest-first _ _ (sym (c .before .before .before .before .before .before .before .before .is-empty .ensures) ∙ c .before .before .before .before .before .before .before .if1 .left) (c .before .before .before .before .before .before .lowest .ensures)) (c .before .before .before .before .before .bed-count .ensures), λ b. refl)
+walk-loop-holds t c = sofar-start (c .before .before .before .before .before .before .before .before .before .before .before .pre .1) (drop 1 (members (c .before .before .before .before .before .before .before .before .before .before .before .args .head .left .0))) (lowest-first _ _ (sym (c .before .before .before .before .before .before .before .before .is-empty .ensures) ∙ c .before .before .before .before .before .before .before .if1 .left) (c .before .before .before .before .before .before .lowest .ensures)) (c .before .before .before .before .before .bed-count .ensures)
 
 walk-bed-cost-requires : (t : ℕ) → walk-lts.Need-bed-cost-requires (calls t) (walk-at t) walk.Post walk-Inv-loop walk-μ-loop
-walk-bed-cost-requires t c κs = bed-small (c .before .before .before .before .before .before .before .before .before .before .before .before .before .before .pre .1) (c .before .before .loop .inv .0) (c .before .loop-test .taken)
+walk-bed-cost-requires t c κs = bed-small (c .before .before .before .before .before .before .before .before .before .before .before .before .before .before .pre .1) (c .before .before .loop .inv) (c .before .loop-test .taken)
 
 walk-enum-known-cost : (t : ℕ) → walk-lts.Need-enum-known-cost (calls t) (walk-at t) walk.Post walk-Inv-loop walk-μ-loop
 walk-enum-known-cost t c = search needs
@@ -114,38 +116,38 @@ walk-enum-known-cost t c = search needs
 walk-add-sum : (t : ℕ) → walk-lts.Need-add-sum (calls t) (walk-at t) walk.Post walk-Inv-loop walk-μ-loop
 walk-add-sum t c =
     let most = c .before .before .before .before .before .before .before .before .before .bed-costs .ensures .small _ (c .before .before .before .before .before .before .loop-test .taken) _ (sym (c .before .before .before .before .bed-cost .ensures) ∙ ap costIn (c .before .before .cost .given .1)) in
-    let light = c .before .before .before .before .before .before .before .before .before .before .before .before .before .before .before .before .before .before .before .pre .1 .light in
-    omega (arith, most, light .cost, light .placed)
+    let sumsFit = c .before .before .before .before .before .before .before .before .before .before .before .before .before .before .before .before .before .before .before .pre .1 .sumsFit in
+    omega (arith, most, sumsFit .cost, sumsFit .placed)
 
 walk-add-least : (t : ℕ) → walk-lts.Need-add-least (calls t) (walk-at t) walk.Post walk-Inv-loop walk-μ-loop
 walk-add-least t c =
     let most = c .before .before .before .before .before .before .before .before .before .bed-costs .ensures .small _ (c .before .before .before .before .before .before .loop-test .taken) _ (sym (c .before .before .before .before .bed-cost .ensures) ∙ ap costIn (c .before .before .cost .given .1)) in
-    let light = c .before .before .before .before .before .before .before .before .before .before .before .before .before .before .before .before .before .before .before .pre .1 .light in
-    omega (arith, most, light .cost, light .placed, light .bound, c .before .before .before .before .before .before .before .before .before .before .before .before .rest-of .ensures .bound)
+    let sumsFit = c .before .before .before .before .before .before .before .before .before .before .before .before .before .before .before .before .before .before .before .pre .1 .sumsFit in
+    omega (arith, most, sumsFit .cost, sumsFit .placed, sumsFit .bound, c .before .before .before .before .before .before .before .before .before .before .before .before .rest-of .ensures .bound)
 
 walk-cast-is-cut : (t : ℕ) → walk-lts.Need-cast-is-cut (calls t) (walk-at t) walk.Post walk-Inv-loop walk-μ-loop
-walk-cast-is-cut t c = omega (arith, bed-small (c .before .before .before .before .before .before .before .before .before .before .before .before .before .before .before .before .before .before .before .before .pre .1) (c .before .before .before .before .before .before .before .before .loop .inv .0) (c .before .before .before .before .before .before .before .loop-test .taken))
+walk-cast-is-cut t c = omega (arith, bed-small (c .before .before .before .before .before .before .before .before .before .before .before .before .before .before .before .before .before .before .before .before .pre .1) (c .before .before .before .before .before .before .before .before .loop .inv) (c .before .before .before .before .before .before .before .loop-test .taken))
 
 walk-is-cut-requires : (t : ℕ) → walk-lts.Need-is-cut-requires (calls t) (walk-at t) walk.Post walk-Inv-loop walk-μ-loop
-walk-is-cut-requires t c κs = asks-cut (c .before .before .before .before .before .before .before .before .before .before .before .before .before .before .before .before .before .before .before .before .pre .1) (c .before .before .before .before .before .before .before .before .loop .inv .0) (c .before .before .before .before .before .before .before .loop-test .taken)
+walk-is-cut-requires t c κs = asks-cut (c .before .before .before .before .before .before .before .before .before .before .before .before .before .before .before .before .before .before .before .before .pre .1) (c .before .before .before .before .before .before .before .before .loop .inv) (c .before .before .before .before .before .before .before .loop-test .taken)
 
-walk-cast-next : (t : ℕ) → walk-lts.Need-cast-next (calls t) (walk-at t) walk.Post walk-Inv-loop walk-μ-loop
-walk-cast-next t c = omega (arith, bed-small (c .before .before .before .before .before .before .before .before .before .before .before .before .before .before .before .before .before .before .before .before .before .before .pre .1) (c .before .before .before .before .before .before .before .before .before .before .loop .inv .0) (c .before .before .before .before .before .before .before .before .before .loop-test .taken))
+walk-cast-place : (t : ℕ) → walk-lts.Need-cast-place (calls t) (walk-at t) walk.Post walk-Inv-loop walk-μ-loop
+walk-cast-place t c = omega (arith, bed-small (c .before .before .before .before .before .before .before .before .before .before .before .before .before .before .before .before .before .before .before .before .before .before .pre .1) (c .before .before .before .before .before .before .before .before .before .before .loop .inv) (c .before .before .before .before .before .before .before .before .before .loop-test .taken))
 
-walk-array-write-next : (t : ℕ) → walk-lts.Need-array-write-next (calls t) (walk-at t) walk.Post walk-Inv-loop walk-μ-loop
-walk-array-write-next t c = asks-few (asks-next (c .before .before .before .before .before .before .before .before .before .before .before .before .before .before .before .before .before .before .before .before .before .before .pre .1) (c .before .before .before .before .before .before .before .before .before .before .loop .inv .0) (c .before .before .before .before .before .before .before .before .before .loop-test .taken))
-
-walk-add-t44 : (t : ℕ) → walk-lts.Need-add-t44 (calls t) (walk-at t) walk.Post walk-Inv-loop walk-μ-loop
-walk-add-t44 t c = omega (arith, asks-room (asks-next (c .before .before .before .before .before .before .before .before .before .before .before .before .before .before .before .before .before .before .before .before .before .before .pre .1) (c .before .before .before .before .before .before .before .before .before .before .loop .inv .0) (c .before .before .before .before .before .before .before .before .before .loop-test .taken)))
+walk-place-requires : (t : ℕ) → walk-lts.Need-place-requires (calls t) (walk-at t) walk.Post walk-Inv-loop walk-μ-loop
+walk-place-requires t c κs =
+    let next = asks-next (c .before .before .before .before .before .before .before .before .before .before .before .before .before .before .before .before .before .before .before .before .before .before .pre .1) (c .before .before .before .before .before .before .before .before .before .before .loop .inv) (c .before .before .before .before .before .before .before .before .before .loop-test .taken) in
+    (asks-few next, asks-room next)
 
 walk-walk-requires : (t : ℕ) → walk-lts.Need-walk-requires (calls t) (walk-at t) walk.Post walk-Inv-loop walk-μ-loop
 walk-walk-requires t c κs =
-    let pre = c .before .before .before .before .before .before .before .before .before .before .before .before .before .before .before .before .before .before .before .before .before .before .before .before .pre in
-    let inv = c .before .before .before .before .before .before .before .before .before .before .before .before .loop .inv .0 in
-    let more = c .before .before .before .before .before .before .before .before .before .before .before .loop-test .taken in
-    let costs = c .before .before .before .before .before .before .before .before .before .before .before .before .before .before .bed-costs .ensures in
-    let priced = sym (c .before .before .before .before .before .before .before .before .before .bed-cost .ensures) ∙ ap costIn (c .before .before .before .before .before .before .before .cost .given .1) in
-    let is = below-head (branchAt (c .before .before .before .before .before .before .before .before .before .before .before .before .before .before .before .before .before .before .before .before .before .before .before .before .args .head) (now (c .before .before .before .before .before .before .before .before .before .before .before .before .before .before .before .before .before .before .before .before .before .before .before .before .args .beds))) (c .before .before .before .before .before .before .before .before .before .before .before .before .loop .bed) (c .before .before .before .before .before .before .before .before .before .before .before .before .loop .next) (inv .others) (inv .lowest) (c .before .before .before .before .before .before .before .before .before .before .before .before .before .before .before .before .before .rest-of .ensures) (c .before .before .before .before .before .before .before .before .before .before .before .before .loop .inv .1 _) (costs .small _ more _ priced) in
+    let pre = c .before .before .before .before .before .before .before .before .before .before .before .before .before .before .before .before .before .before .before .before .before .before .before .before .before .before .pre in
+    let inv = c .before .before .before .before .before .before .before .before .before .before .before .before .before .before .loop .inv in
+    let more = c .before .before .before .before .before .before .before .before .before .before .before .before .before .loop-test .taken in
+    let costs = c .before .before .before .before .before .before .before .before .before .before .before .before .before .before .before .before .bed-costs .ensures in
+    let priced = sym (c .before .before .before .before .before .before .before .before .before .before .before .bed-cost .ensures) ∙ ap costIn (c .before .before .before .before .before .before .before .before .before .cost .given .1) in
+    let place = c .before .before .before .place in
+    let is = below-head {head = branchAt (c .before .before .before .before .before .before .before .before .before .before .before .before .before .before .before .before .before .before .before .before .before .before .before .before .before .before .args .head) (now (c .before .before .before .before .before .before .before .before .before .before .before .before .before .before .before .before .before .before .before .before .before .before .before .before .before .before .args .beds))} {bed = c .before .before .before .before .before .before .before .before .before .before .before .before .before .before .loop .bed} (place .result) (inv .others) (inv .lowest) (c .before .before .before .before .before .before .before .before .before .before .before .before .before .before .before .before .before .before .before .rest-of .ensures) (place .ensures .0) (place .ensures .1) (costs .small _ more _ priced) in
     (omega (arith, pre .0, ap length (is .left)), asks-below (pre .1) inv more is (decides (asks-next (pre .1) inv more) costs priced))
 
 walk-enum-told : (t : ℕ) → walk-lts.Need-enum-told (calls t) (walk-at t) walk.Post walk-Inv-loop walk-μ-loop
@@ -160,34 +162,27 @@ walk-loop-less t c = search needs
 walk-loop-again : (t : ℕ) → walk-lts.Need-loop-again (calls t) (walk-at t) walk.Post walk-Inv-loop walk-μ-loop
 walk-loop-again t c =
     let pre = c .before .before .before .before .before .before .before .before .before .before .before .before .before .before .before .before .pre .1 in
-    let inv = c .before .before .before .before .loop .inv .0 in
+    let inv = c .before .before .before .before .loop .inv in
     let more = c .before .before .before .loop-test .taken in
     let costs = c .before .before .before .before .before .before .bed-costs .ensures in
     let price = c .before .bed-cost .ensures in
     let rest = c .before .before .before .before .before .before .before .before .before .rest-of .ensures in
-    let same = c .before .before .before .before .loop .inv .1 in
-    let l = c .before .before .before .before .loop in
-    let head = branchAt (c .before .before .before .before .before .before .before .before .before .before .before .before .before .before .before .before .args .head) (now (c .before .before .before .before .before .before .before .before .before .before .before .before .before .before .before .before .args .beds)) in
     ⊎-elim
     (λ w.
-    let priced = sym price ∙ ap costIn (w .1 .given .1) in (
-      rw (w .12, w .14) (sofar-walk pre inv more (below-head head (l .bed) (l .next) (inv .others) (inv .lowest) rest (same _) (costs .small _ more _ priced)) (decides (asks-next pre inv more) costs priced) (w .9 .ensures)),
-      rw (w .13) (same-beds (l .next) (now (c .before .before .before .before .before .before .before .before .before .before .before .before .before .before .before .before .args .beds)) (c .before .before .before .before .before .before .before .before .before .before .before .lowest .result) (l .bed) same),
-    ))
+    let priced = sym price ∙ ap costIn (w .1 .given .1) in
+    rw (w .14, w .15) (sofar-walk pre inv more (below-head (w .7 .result) (inv .others) (inv .lowest) rest (w .7 .ensures .0) (w .7 .ensures .1) (costs .small _ more _ priced)) (decides (asks-next pre inv more) costs priced) (w .11 .ensures)))
     (⊎-elim
     (λ w.
-    let priced = sym price ∙ ap costIn (w .1 .given .1) in (
-      rw (w .7, w .9) (sofar-cut pre inv more (below-bed (inv .others) (inv .lowest) rest (costs .small _ more _ priced)) (decides (asks-next pre inv more) costs priced) (sym (w .5 .ensures) ∙ not-false _ (w .6 .left))),
-      rw (w .8) same,
-    ))
-    (λ w. (rw (w .2, w .4) (sofar-skip pre inv more (decides (asks-next pre inv more) costs (sym price ∙ ap costIn (w .1 .given .1)))), rw (w .3) same)))
+    let priced = sym price ∙ ap costIn (w .1 .given .1) in
+    rw (w .7, w .8) (sofar-cut pre inv more (below-bed (inv .others) (inv .lowest) rest (costs .small _ more _ priced)) (decides (asks-next pre inv more) costs priced) (w .5 .ensures) (w .6 .left)))
+    (λ w. rw (w .2, w .3) (sofar-skip pre inv more (decides (asks-next pre inv more) costs (sym price ∙ ap costIn (w .1 .given .1))))))
     (c .match .came)
 
 walk-same-length-2 : (t : ℕ) → walk-lts.Need-same-length-2 (calls t) (walk-at t) walk.Post walk-Inv-loop walk-μ-loop
 walk-same-length-2 t c = search needs
 
 walk-returns-2 : (t : ℕ) → walk-lts.Need-returns-2 (calls t) (walk-at t) walk.Post walk-Inv-loop walk-μ-loop
-walk-returns-2 t c = sofar-done (c .before .before .before .before .before .before .before .before .before .before .before .before .before .pre .1) (c .before .loop .inv .0) (c .loop-test .left)
+walk-returns-2 t c = sofar-done (c .before .before .before .before .before .before .before .before .before .before .before .before .before .pre .1) (c .before .loop .inv) (c .loop-test .left)
 
 pub +walk-spec : {M : Type 1} → statement M
 +walk-spec = close μ-walk λ t. walk-lts.spec (calls t)
@@ -212,9 +207,8 @@ pub +walk-spec : {M : Type 1} → statement M
     (walk-add-least t)
     (walk-cast-is-cut t)
     (walk-is-cut-requires t)
-    (walk-cast-next t)
-    (walk-array-write-next t)
-    (walk-add-t44 t)
+    (walk-cast-place t)
+    (walk-place-requires t)
     (walk-walk-requires t)
     (walk-enum-told t)
     (walk-add-bed t)

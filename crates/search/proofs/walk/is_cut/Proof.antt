@@ -2,10 +2,9 @@ use borrow.Author.Needs.{needs}
 use native.Mathlib.Omega.{arith}
 use mathlib.Core.Path.{ap, _∙_, subst}
 use Prim.Native.Nat.{ℕ, _<_}
-use denote.Ref.{now}
 use lib.ListN.{set, length-set}
 use Rattle.packed_rows.specs.Packing.{packedRow}
-use Rattle.search.proofs.Cutting.{not-full, cheaper, dearer}
+use Rattle.search.proofs.Cutting.{not-full, cheaper, costlier}
 use Rattle.search.proofs.Padded.{past-cut}
 use Rattle.search.proofs.walk.is_cut.Statement.{statement}
 use Rattle.search.proofs.walk.is_cut.Tie as tie
@@ -29,7 +28,7 @@ returns-2 c =
 returns-3 : tie.Need-returns-3
 returns-3 c =
     let a = c .before .before .before .before .before .args in
-    dearer (a .v) (a .n) (a .m) _ (a .cost) _ (c .before .before .before .before .before .pre .room) (omega arith) (subst (λ (k : ℕ). k < a .cost) (c .before .before .cost-at .ensures) (c .if3 .taken))
+    costlier (a .v) (a .n) (a .m) _ (a .cost) _ (c .before .before .before .before .before .pre .room) (omega arith) (subst (λ (k : ℕ). k < a .cost) (c .before .before .cost-at .ensures) (c .if3 .taken))
 
 place-requires : tie.Need-place-requires
 place-requires c κs = search needs
@@ -42,12 +41,11 @@ is-past-requires c κs = search needs
 
 returns-4 : tie.Need-returns-4
 returns-4 c =
-    let a = c .before .before .before .before .before .before .before .before .before .before .before .args in
-    let p = c .before .before .before .before .before .before .before .before .before .before .before .pre in
-    let beds = now (a .beds) in
+    let a = c .before .before .before .before .before .before .before .before .before .before .args in
+    let p = c .before .before .before .before .before .before .before .before .before .before .pre in
+    let beds = a .plan .beds in
     let packed = c .before .pack .ensures ∙ ap (packedRow (a .v) (a .cost)) (c .before .before .before .before .place .ensures .0) in
-    c .is-past .ensures
-    ∙ past-cut (a .v) (a .n) (a .m) _ (p .patients) (p .padded) (p .room) (omega arith) (a .cost) (set beds (a .s) (a .bed)) (length-set beds (a .s) (a .bed) ∙ p .long) (p .low) _ packed
+    past-cut (a .v) (a .n) (a .m) _ (p .patients) (p .padded) (p .room) (omega arith) (a .cost) (set beds (a .s) (a .bed)) (length-set beds (a .s) (a .bed) ∙ p .long) (p .low) _ packed (c .is-past .ensures)
 
 pub is-cut-spec : {M : Type 1} → statement M
 is-cut-spec =
