@@ -13,7 +13,7 @@ use Rattle.lists.specs.Members.{getD-in}
 use Rattle.lists.specs.Every.{every-weaken}
 use Rattle.lists.specs.Keep.{keep-short, every-keep}
 use Rattle.lists.specs.Below.{length-by-places, at-place}
-use Rattle.theorems.specs.Accepted.{Accepted, at-most, TableRight, member-at, table-right, tables-few}
+use Rattle.theorems.specs.Accepted.{Accepted, at-most, TableRight, member-at, table-right, tables-few, mostTotal}
 use Rattle.partial_rows.specs.Bounds.{smaller, leastOf, leastEntry}
 use Rattle.held_region.specs.declared.Table.{Table}
 use Rattle.held_region.specs.declared.Region.{Region}
@@ -70,7 +70,7 @@ module _ (h : Region) (store : List ℕ) (a : Accepted (said h store)) where
   held-lines = tables-said h store
 
   -- The sum of some tables' least numbers, and one more, fits.
-  pub least-fits : (f g : Said.Table → Bool) (i n : ℕ) → n ≡ sum (map leastEntry (keep f (keep g (drop i (r .tables))))) → n ≤ 64_000_000
+  pub least-fits : (f g : Said.Table → Bool) (i n : ℕ) → n ≡ sum (map leastEntry (keep f (keep g (drop i (r .tables))))) → n ≤ mostTotal
   unfolding entriesWithin
   least-fits f g i n is =
       let tables = drop i (r .tables) in

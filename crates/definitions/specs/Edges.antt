@@ -8,7 +8,7 @@ use Rattle.definitions.specs.Syntax.{Patient, Table, Region}
 use Rattle.definitions.specs.Layout.{layout}
 use Rattle.definitions.specs.Spelling.{spell, wellFormed}
 use Rattle.definitions.specs.Plans.{Plan, Row, listOf}
-use Rattle.definitions.specs.Questions.{shortEnough, membersRight, entryCountsRight, regionOf, checkOf}
+use Rattle.definitions.specs.Questions.{shortEnough, membersRight, entryCountsRight, workSize, regionOf, checkOf}
 use Rattle.definitions.specs.Sheets.{sheetOf}
 use Rattle.definitions.specs.Isolation.{yieldNumber, YieldsList, tablesAmong, timesIn, joins, SameClinic, SameBeginning}
 use Rattle.definitions.specs.Outcomes.{ListOutcome, listOutcome, sheetOutcome, PriceOutcome, priceOutcome}
@@ -233,7 +233,7 @@ pub record Turns : Type 0 where
   pub listTwelveFirst : listOutcome allForbidden [] [] [] .number ≡ 12
   pub priceTenFirst : priceOutcome (overOneAndTwo 0) [] .number ≡ 10
   pub callTenFirst : priceCall (overOneAndTwo 0) [] [] .number ≡ 10
-  pub clinicNotCut : sheetOutcome paperFile 256 (lent 6) (lent 3) (lent 16_384) .number ≡ 11
+  pub clinicNotCut : sheetOutcome paperFile 256 (lent 6) (lent 3) (lent workSize) .number ≡ 11
   pub areas :
       listNumber paperFile 6 3 16_384 ∷ listNumber paperFile 5 3 16_384 ∷ listNumber paperFile 6 2 16_384 ∷ listNumber paperFile 6 3 16_383 ∷ []
       ≡ 0 ∷ 12 ∷ 12 ∷ 12 ∷ []
@@ -277,11 +277,11 @@ pub record Rows : Type 0 where
       listOf (regionOf (joined 5))
       ≡ row 3 (1 ∷ 0 ∷ 0 ∷ []) ∷ row 5 (0 ∷ 1 ∷ 2 ∷ []) ∷ row 5 (1 ∷ 0 ∷ 2 ∷ []) ∷ row 6 (1 ∷ 0 ∷ 1 ∷ []) ∷ row 7 (0 ∷ 0 ∷ 2 ∷ []) ∷ []
   pub joinedSheet :
-      sheetOutcome (joined 5) 0 (lent 15) (lent 5) (lent 16_384)
-      ≡ record { number = 0; rows = 4; beds = 1 ∷ 0 ∷ 0 ∷ 2 ∷ 1 ∷ 2 ∷ 1 ∷ 1 ∷ lent 7; costs = 2 ∷ 2 ∷ 4 ∷ 5 ∷ 9 ∷ []; work = cleared 16_384 }
+      sheetOutcome (joined 5) 0 (lent 15) (lent 5) (lent workSize)
+      ≡ record { number = 0; rows = 4; beds = 1 ∷ 0 ∷ 0 ∷ 2 ∷ 1 ∷ 2 ∷ 1 ∷ 1 ∷ lent 7; costs = 2 ∷ 2 ∷ 4 ∷ 5 ∷ 9 ∷ []; work = cleared workSize }
   pub otherSheet :
-      sheetOutcome (joined 5) 1 (lent 15) (lent 5) (lent 16_384)
-      ≡ record { number = 0; rows = 2; beds = 0 ∷ 1 ∷ lent 13; costs = 0 ∷ 3 ∷ lent 3; work = cleared 16_384 }
+      sheetOutcome (joined 5) 1 (lent 15) (lent 5) (lent workSize)
+      ≡ record { number = 0; rows = 2; beds = 0 ∷ 1 ∷ lent 13; costs = 0 ∷ 3 ∷ lent 3; work = cleared workSize }
   pub costsRepeat :
       sheetOf (regionOf (fileOf 3 (patient 0 2 none ∷ patient 1 1 none ∷ []) (table (0 ∷ []) (some 5 ∷ some 5 ∷ []) ∷ []))) 0
       ≡ row 5 (0 ∷ []) ∷ row 5 (1 ∷ []) ∷ []

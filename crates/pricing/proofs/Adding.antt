@@ -6,6 +6,7 @@ use lib.ListN.{set, length-set}
 use lib.Seq.{getD-set-same, getD-set-other}
 use borrow.Author.Tests.{eqb-true, eqb-false}
 use Rattle.definitions.specs.Basics.{ℕ, _+_, _<_, Bool, true, false, Option, none, some, List, length, getD, eqb}
+use Rattle.theorems.specs.Accepted.{mostTotal}
 use Rattle.theorems.specs.Sums.{plus}
 use Rattle.held_region.specs.Meaning.{mark}
 use Rattle.pricing.specs.Pricing.{noSum, sumIn, entryIn}
@@ -24,7 +25,7 @@ plus-none (some n) = refl
 pub add-mark : (sum entry : ℕ) → entry ≡ mark → sumIn noSum ≡ plus (sumIn sum) (entryIn entry)
 add-mark sum entry e = plus-none (sumIn sum) ∙ ap (λ w. plus (sumIn sum) (entryIn w)) (sym e)
 
-pub small-number : (sum : ℕ) → Small sum → (sum ≡ noSum → ⊥) → sum ≤ 64_000_000
+pub small-number : (sum : ℕ) → Small sum → (sum ≡ noSum → ⊥) → sum ≤ mostTotal
 small-number sum small other = small sum (sum-number sum other)
 
 pub add-number : (sum entry : ℕ) → Small sum → (sum ≡ noSum → ⊥) → (entry ≡ mark → ⊥) → entry < 4_294_967_296 → sumIn (sum + entry) ≡ plus (sumIn sum) (entryIn entry)

@@ -7,6 +7,7 @@ use native.Mathlib.Omega.{arith}
 use Rattle.definitions.specs.Basics.{ℕ, suc, _+_, _*_, _<_, true, Option, some, List, [], _∷_, length, getD}
 use Rattle.definitions.specs.Syntax.{Table, Region}
 use Rattle.definitions.specs.Plans.{Plan, bedOf, constraints, entryFor, costOver}
+use Rattle.theorems.specs.Accepted.{mostTotal}
 use Rattle.lists.specs.Members.{_∈_, here, there}
 use Rattle.lists.specs.Keep.{keep-out}
 use Rattle.theorems.specs.Sums.{plus, plus-assoc}
@@ -139,7 +140,7 @@ module _ {store patients terms : List ℕ} {s : ℕ} {beds : Plan} (asks : Asks 
 
     pub goes-done : 64 ≤ k → Gives store patients terms s beds (Of sum)
     goes-done end =
-        let most : sum ≤ 64_000_000 = omega (arith, goes .few, left-most own) in
+        let most : sum ≤ mostTotal = omega (arith, goes .few, left-most own) in
         record { most = λ n e. let same : n ≡ sum = cc in omega arith; cost = λ r prepared fits known. left-done (goes .left r prepared fits known) end }
 
     module _ (more : k < 64) where

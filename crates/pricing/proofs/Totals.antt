@@ -13,7 +13,7 @@ use Rattle.definitions.specs.Plans.{Plan, costOver, constraints, total}
 use Rattle.lists.specs.Every.{any-out}
 use Rattle.lists.specs.Keep.{keep-none}
 use Rattle.ranking.specs.Orders.{View, before, equal, after, ℕ-view}
-use Rattle.theorems.specs.Accepted.{Accepted, constraint-known}
+use Rattle.theorems.specs.Accepted.{Accepted, constraint-known, mostTotal}
 use Rattle.theorems.specs.Sums.{plus}
 use Rattle.partial_rows.specs.Sets.{only, Part, first, second, neither, Splits}
 use Rattle.partial_rows.specs.Rows.{holds, tablesOf}
@@ -71,7 +71,7 @@ module _ (r : Region) (beds : Plan) where
 
 -- A loop over the patients: the sum so far and what is left make the total, for every region that the words are prepared for.
 pub record Adds (store patients terms : List ℕ) (v : ℕ) (beds : Plan) (sum s : ℕ) : Type 0 where
-  pub few : sum ≤ s * 64_000_000
+  pub few : sum ≤ s * mostTotal
   pub left : (r : Region) → Prepared r store patients terms → Fitting r beds → v ≡ length (r .patients) → plus (costFrom r beds s) (some sum) ≡ total r beds
 
 plus-end : (o : Option ℕ) → plus o (some 0) ≡ o
@@ -110,7 +110,7 @@ module _ {store patients terms : List ℕ} {v : ℕ} {beds : Plan} where
           ∙ adds .left r prepared fits all ∙ cost-take r beds (prepared .accepted) v (omega (arith, all))
 
       module _ (n : ℕ) (e : cost ≡ Of n) where
-        pub adds-small : n ≤ 64_000_000
+        pub adds-small : n ≤ mostTotal
         adds-small = gives .most n (ap costIn e)
 
         pub adds-next : Adds store patients terms v beds (sum + n) (s + 1)

@@ -4,13 +4,14 @@ use lib.ListN.{set}
 use Rattle.definitions.specs.Basics.{ℕ, _+_, _<_, _≡_, some, List, length, getD, replicate}
 use Rattle.definitions.specs.Syntax.{Region, patientAt}
 use Rattle.definitions.specs.Plans.{bedOf, costOver}
+use Rattle.theorems.specs.Accepted.{mostTotal}
 use Rattle.theorems.specs.Sums.{plus}
 use Rattle.buckets.specs.Terms.{Fitting, bucketOf, bedsAt, Prepared}
 use Rattle.pricing.specs.Pricing.{sumIn, entryIn}
 
 -- A sum that is a number is no larger than 64 entries are.
 abbrev pub Small : ℕ → Type 0
-Small word = (n : ℕ) → sumIn word ≡ some n → n ≤ 64_000_000
+Small word = (n : ℕ) → sumIn word ≡ some n → n ≤ mostTotal
 
 -- One more entry for each bed, from a place on.
 pub record AsksEntries (store : List ℕ) (from count : ℕ) (sums : List ℕ) : Type 0 where

@@ -4,6 +4,7 @@ use Rattle.definitions.specs.Basics.{ℕ, _<_, _≡_, Bool, cond, Option, none,
 use Rattle.definitions.specs.Syntax.{Region, patientAt}
 use Rattle.definitions.specs.Questions.{planFits}
 use Rattle.definitions.specs.Plans.{costOver, total}
+use Rattle.theorems.specs.Accepted.{mostTotal}
 use Rattle.held_region.specs.Meaning.{mark}
 use Rattle.buckets.specs.Terms.{Fitting, bucketOf, startAt, memberAt, strideAt, bedsAt, Prepared}
 use Rattle.pricing.specs.declared.Cost.{Cost}
@@ -39,7 +40,7 @@ pub record Asks (store patients terms : List ℕ) (s : ℕ) (beds : List ℕ) : 
   pub few : s < 32
 
 pub record Gives (store patients terms : List ℕ) (s : ℕ) (beds : List ℕ) (c : Cost) : Type 0 where
-  pub most : (n : ℕ) → costIn c ≡ some n → n ≤ 64_000_000
+  pub most : (n : ℕ) → costIn c ≡ some n → n ≤ mostTotal
   pub cost : (r : Region) → Prepared r store patients terms → Fitting r beds → s < length (r .patients) → costIn c ≡ costOver (bucketOf r s) r beds
 
 -- The total of a plan.

@@ -11,7 +11,7 @@ use Rattle.definitions.specs.Questions.{workSize, roomForRows, areasLongEnough}
 use Rattle.definitions.specs.Outcomes.{written, outcomeOf}
 use Rattle.lists.specs.Tests.{both}
 use Rattle.lists.specs.Members.{_∈_, getD-in}
-use Rattle.theorems.specs.Accepted.{Accepted}
+use Rattle.theorems.specs.Accepted.{Accepted, mostTotal}
 use Rattle.held_region.specs.declared.Region.{Region}
 use Rattle.held_region.specs.Meaning.{said}
 use Rattle.row_list.specs.Rows.{rowIn, rowsIn}
@@ -51,8 +51,8 @@ module _ (v n : ℕ) (area : List ℕ) {rows : List Row} (is : rowsIn v n area �
   pub rows-counted : n ≡ length rows
   rows-counted = sym (unpadded-long v n area) ∙ ap length is
 
-  -- Costs of at most 64,000,000 fit the 32 bits that they get.
-  pub narrow : ((z : Row) → z ∈ rows → z .cost ≤ 64_000_000) → (i : ℕ) → i < n → rowIn v area i .cost < 4_294_967_296
+  -- Costs of at most `mostTotal` fit the 32 bits that they get.
+  pub narrow : ((z : Row) → z ∈ rows → z .cost ≤ mostTotal) → (i : ℕ) → i < n → rowIn v area i .cost < 4_294_967_296
   narrow small i l =
       let d : Row = record { cost = 0; beds = [] } in
       let row : rowIn v area i ≡ getD rows i d = unpadded-at v n area i d l ∙ ap (λ z. getD z i d) is in

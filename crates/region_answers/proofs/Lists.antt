@@ -9,7 +9,7 @@ use Rattle.definitions.specs.Plans.{Row, listOf}
 use Rattle.definitions.specs.Questions.{areasLongEnough}
 use Rattle.definitions.specs.Outcomes.{written, outcomeOf}
 use Rattle.lists.specs.Members.{_∈_}
-use Rattle.theorems.specs.Accepted.{Accepted, total-small}
+use Rattle.theorems.specs.Accepted.{Accepted, total-small, mostTotal}
 use Rattle.theorems.specs.List.{list-first}
 use Rattle.partial_rows.specs.Padding.{unpadded}
 use Rattle.held_region.specs.declared.Region.{Region}
@@ -42,8 +42,8 @@ module _ (h : Region) (store : List ℕ) (accepted : Accepted (said h store)) {n
   pub cleared : {after : List ℕ} → after ≡ replicate (length area) 0 → after ≡ replicate (length work) 0
   cleared e = e ∙ ap (λ k. replicate k 0) (gives .long)
 
--- Each total is at most 64,000,000.
-totals-small : (r : Said.Region) → Accepted r → (z : Row) → z ∈ listOf r → z .cost ≤ 64_000_000
+-- Each total is at most `mostTotal`.
+totals-small : (r : Said.Region) → Accepted r → (z : Row) → z ∈ listOf r → z .cost ≤ mostTotal
 totals-small r accepted z k = total-small r accepted (z .beds) (z .cost) (list-first r .sound k .priced)
 
 module _ (h : Region) (store : List ℕ) (accepted : Accepted (said h store)) {long : Bool} (beds costs work : List ℕ)

@@ -8,17 +8,18 @@ use Rattle.definitions.specs.Basics.{ℕ, zero, suc, _+_, _*_, _<_, List, [], _
 use Rattle.definitions.specs.Spelling.{decimal, bracketed, line}
 use Rattle.definitions.specs.Plans.{Row}
 use Rattle.definitions.specs.Output.{printedRow, printedRows}
+use Rattle.theorems.specs.Accepted.{mostTotal}
 use Rattle.lists.specs.Members.{_∈_, here, there}
 use Rattle.theorems.specs.Numbers.{decimal-length}
 use Rattle.text_writer.specs.Parts.{gap, apart, bracketed-apart}
 use Rattle.row_printer.specs.Printing.{counted}
 use Rattle.row_printer.specs.Lines.{refusal-parts, row-parts, list-parts, sheet-parts}
 
--- A row of at most k beds, each below 16, and a cost of at most 64,000,000.
+-- A row of at most k beds, each below 16, and a cost of at most `mostTotal`.
 pub record Small (k : ℕ) (row : Row) : Type 0 where
   pub few : length (row .beds) ≤ k
   pub low : (b : ℕ) → b ∈ row .beds → b < 16
-  pub cheap : row .cost ≤ 64_000_000
+  pub cheap : row .cost ≤ mostTotal
 
 -- The longest line of a row: `(row `, 8 digits, a space, brackets with 2 digits and a space for each bed, `)` and the line's end.
 abbrev pub rowMost : ℕ → ℕ

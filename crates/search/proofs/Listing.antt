@@ -17,7 +17,7 @@ use Rattle.ranking.specs.Growing.{Grown, Ready, ready-nil}
 use Rattle.ranking.specs.Combining.{Combined, Injective}
 use Rattle.ranking.specs.Mapped.{sorted-back}
 use Rattle.theorems.specs.List.{rowOrder}
-use Rattle.theorems.specs.Accepted.{Accepted, beds-some, beds-few, part-small}
+use Rattle.theorems.specs.Accepted.{Accepted, beds-some, beds-few, part-small, mostTotal}
 use Rattle.patient_set.specs.Sets.{members}
 use Rattle.patient_set.specs.Laws.{size-most}
 use Rattle.partial_rows.specs.Sets.{Patients, Splits, not-both}
@@ -142,7 +142,7 @@ module _ {r : Region} {D E : Patients} {store patients terms : List ℕ} {v m n 
 -- ---- rows are small
 
 module _ (r : Region) (accepted : Accepted r) (D : Patients) (placed : Plan) where
-  rows-cost : (z : Row) → RowOf r D placed z → z .cost ≤ 64_000_000
+  rows-cost : (z : Row) → RowOf r D placed z → z .cost ≤ mostTotal
   unfolding tablesOf
   rows-cost z row = part-small r accepted (holds D) (addBeds placed (z .beds)) (z .cost) (row .priced)
 

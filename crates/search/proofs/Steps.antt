@@ -8,6 +8,7 @@ use borrow.Author.Tests.{eq-eqb}
 use Rattle.definitions.specs.Basics.{ℕ, _+_, _<_, true, not, _&&_, _||_, Option, List, _∷_, map, length, getD, take, sum, eqb, isEmpty, contains, ltb, everyTwo, replicate}
 use Rattle.definitions.specs.Syntax.{Region, patientAt}
 use Rattle.definitions.specs.Plans.{bedOf}
+use Rattle.theorems.specs.Accepted.{mostTotal}
 use Rattle.patient_set.specs.Sets.{inSet, members, first}
 use Rattle.patient_set.specs.Laws.{rising, lowest-and-rest}
 use Rattle.partial_rows.specs.Sets.{only, Splits}
@@ -123,11 +124,11 @@ bound-holds {r} {head} heads =
 
 -- The head below a bed, put together from the longer plan.
 pub below-head : {patients : List ℕ} {head : Branching} {s bed c : ℕ} {rest : Rest} (longer : Code.Plan) (others : List ℕ) → remaining head ≡ s ∷ others
-    → GivesRest patients (remaining head) (head .bound) s rest → longer .beds ≡ set (head .plan .beds) s bed → longer .len ≡ head .plan .len + 1 → c ≤ 64_000_000
+    → GivesRest patients (remaining head) (head .bound) s rest → longer .beds ≡ set (head .plan .beds) s bed → longer .len ≡ head .plan .len + 1 → c ≤ mostTotal
     → Below patients head s bed c (record { left = rest .left; plan = record { beds = longer .beds; len = longer .len }; cost = head .cost + c; bound = rest .bound })
 below-head longer others lowest rest beds len most = record { left = rest .left others lowest; beds = beds; len = len; cost = refl; most = most; bound = rest .bound }
 
 -- The same of the plan that the bed would make.
-pub below-bed : {patients : List ℕ} {head : Branching} {s bed c : ℕ} {rest : Rest} (others : List ℕ) → remaining head ≡ s ∷ others → GivesRest patients (remaining head) (head .bound) s rest → c ≤ 64_000_000
+pub below-bed : {patients : List ℕ} {head : Branching} {s bed c : ℕ} {rest : Rest} (others : List ℕ) → remaining head ≡ s ∷ others → GivesRest patients (remaining head) (head .bound) s rest → c ≤ mostTotal
     → Below patients head s bed c (record { left = rest .left; plan = record { beds = set (head .plan .beds) s bed; len = head .plan .len + 1 }; cost = head .cost + c; bound = rest .bound })
 below-bed {head} {s} {bed} others lowest rest most = below-head (record { beds = set (head .plan .beds) s bed; len = head .plan .len + 1 }) others lowest rest refl refl most

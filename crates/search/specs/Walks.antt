@@ -4,6 +4,7 @@ use Prim.Native.Nat.{_≤_}
 use Rattle.definitions.specs.Basics.{ℕ, _+_, _-_, _*_, _<_, _≡_, Bool, not, _&&_, Option, List, _∷_, map, length, take, sum, eqb, contains}
 use Rattle.definitions.specs.Syntax.{Region, patientAt}
 use Rattle.definitions.specs.Plans.{Row, bedOf, costOver, compareRows}
+use Rattle.theorems.specs.Accepted.{mostTotal}
 use Rattle.lists.specs.Members.{_∈_}
 use Rattle.ranking.specs.Growing.{Grown, Ready}
 use Rattle.theorems.specs.List.{rowOrder}
@@ -43,7 +44,7 @@ headRow v head = record { cost = head .cost; beds = take v (head .plan .beds) }
 pub record SumsFit (head : Branching) : Type 0 where
   pub beds : length (head .plan .beds) ≡ 32
   pub placed : head .plan .len + length (remaining head) ≤ 32
-  pub cost : head .cost ≤ head .plan .len * 64_000_000
+  pub cost : head .cost ≤ head .plan .len * mostTotal
   pub bound : head .bound ≤ 137_438_953_472
 
 -- A head of a branch in a region: its bound is the sum of the least numbers of the buckets of those who are left.
@@ -77,7 +78,7 @@ pub record Below (patients : List ℕ) (head : Branching) (s bed c : ℕ) (below
   pub beds : below .plan .beds ≡ set (head .plan .beds) s bed
   pub len : below .plan .len ≡ head .plan .len + 1
   pub cost : below .cost ≡ head .cost + c
-  pub most : c ≤ 64_000_000
+  pub most : c ≤ mostTotal
   pub bound : below .bound ≡ head .bound - leastAt patients s
 
 -- What the bed decides costs so much, or is forbidden, in every region that the head is one of.

@@ -1,4 +1,4 @@
--- What check's 0 says, and what an accepted region has: small counts, known members, and totals of at most 64,000,000.
+-- What check's 0 says, and what an accepted region has: small counts, known members, and totals of at most `mostTotal`.
 use mathlib.Core.Path.{_≡_, refl, sym, ap, _∙_}
 use mathlib.Core.Logic.{_⊎_, inl, inr}
 use mathlib.Core.Bool.{true≢false}
@@ -235,7 +235,7 @@ module _ (r : Region) (a : Accepted r) where
       swap (inl x) = inr x
       swap (inr y) = inl y
 
-  -- Some of the tables cost at most 64,000,000, ..
+  -- Some of the tables cost at most `mostTotal`, ..
   pub tables-small : (test : Table → Bool) (plan : Plan) (n : ℕ) → costOver (keep test (r .tables)) r plan ≡ some n → n ≤ mostTotal
   tables-small test plan n e =
       let most = cost-most r plan (keep test (r .tables)) (λ t k. entry-small r a (keep-out test (r .tables) k .0) plan) n e in

@@ -42,7 +42,7 @@ unfolding shortEnough within limits
 cut-short file n h =
     let most = at-most fileLength (length file) h in
     let cut = length-take n file in
-    join (le-leb 0 (length (take n file)) (omega arith)) (le-leb (length (take n file)) 65_535 (omega arith))
+    join (le-leb 0 (length (take n file)) (omega arith)) (le-leb (length (take n file)) (limits fileLength .highest) (omega arith))
 
 pub cut-refused : (file : List ℕ) (n : ℕ) → shortEnough file ≡ true → laidOut file ≡ true → n < length file → Refused 2 (take n file)
 cut-refused file n short laid h = refused-alike (take n file) 1 (not-laid-out (take n file) (cut-short file n short) (cut-not-laid-out file n laid h))
