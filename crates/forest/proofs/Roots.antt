@@ -12,9 +12,8 @@ use Rattle.partial_rows.specs.Trees.{rootOf}
 use Rattle.held_region.specs.declared.Region.{Region}
 use Rattle.held_region.specs.Meaning.{parentOf, patientIn, said}
 use Rattle.held_region.specs.Sound.{ParentsFirst, parents-first}
-use Rattle.held_region.specs.Asked.{patient-said}
-use Rattle.theorems.specs.Accepted.{parent-below}
 use Rattle.held_region.specs.Ancestors.{ancestors-root, ancestors-next}
+use Rattle.held_region.specs.Related.{own-parent, parent-smaller}
 use Rattle.forest.specs.Trees.{rootFrom}
 
 -- A root's root is itself; any other patient has its parent's.
@@ -35,22 +34,16 @@ module _ (h : Region) (first : ParentsFirst h) (s : ℕ) (l : s < h .v) where
   abbrev parent : Option ℕ
   parent = parentOf (patientIn h s .parent)
 
-  own-parent : (store : List ℕ) → patientAt (said h store) s .parent ≡ parent
-  own-parent store = ap (λ p. p .parent) (patient-said h store s l)
-
-  parent-smaller : (p : ℕ) → parent ≡ some p → p < s
-  parent-smaller p e = parent-below (said h (first .store)) (first .smaller) s p (own-parent (first .store) ∙ e) .1
-
   pub parent-known : (p : ℕ) → parent ≡ some p → p < 32
-  parent-known p e = omega (arith, parent-smaller p e, first .places .patients)
+  parent-known p e = omega (arith, parent-smaller h first s l p e, first .places .patients)
 
   -- One patient more.
   pub root-numbers-more : (roots : List ℕ) (root : ℕ) → s < length roots → root ≡ rootFrom roots s parent → RootNumbersTo h s roots → RootNumbersTo h (s + 1) (set roots s root)
   root-numbers-more roots root room is rootNumbers store j m = go (decLt j s)
     where
       own : (o : Option ℕ) → parent ≡ o → rootFrom roots s o ≡ rootOf (said h store) s
-      own none e = sym (root-itself (said h store) (parents-first h first store) s (own-parent store ∙ e))
-      own (some p) e = rootNumbers store p (parent-smaller p e) ∙ sym (root-next (said h store) (parents-first h first store) s p (own-parent store ∙ e))
+      own none e = sym (root-itself (said h store) (parents-first h first store) s (own-parent h first s l store ∙ e))
+      own (some p) e = rootNumbers store p (parent-smaller h first s l p e) ∙ sym (root-next (said h store) (parents-first h first store) s p (own-parent h first s l store ∙ e))
 
       go : Dec (j < s) → getD (set roots s root) j 0 ≡ rootOf (said h store) j
       go (yes n) = getD-set-other roots s j root 0 (λ e. omega arith) ∙ rootNumbers store j n

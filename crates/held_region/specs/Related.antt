@@ -77,7 +77,7 @@ module _ (h : Region) (first : ParentsFirst h) where
     abbrev parent : Option ℕ
     parent = parentOf (patientIn h s .parent)
 
-    own-parent : (store : List ℕ) → patientAt (said h store) s .parent ≡ parent
+    pub own-parent : (store : List ℕ) → patientAt (said h store) s .parent ≡ parent
     own-parent store = ap (λ p. p .parent) (patient-said h store s l)
 
     pub parent-smaller : (p : ℕ) → parent ≡ some p → p < s
