@@ -233,6 +233,8 @@ pub record Turns : Type 0 where
   pub listTwelveFirst : listOutcome allForbidden [] [] [] .number ≡ 12
   pub priceTenFirst : priceOutcome (overOneAndTwo 0) [] .number ≡ 10
   pub callTenFirst : priceCall (overOneAndTwo 0) [] [] .number ≡ 10
+  pub callElevenFirst : sheetCall paperFile 1 [] [] [] .number ≡ 11
+  pub callTwelveFirst : listCall allForbidden (lent 1) (lent 8) [] .number ≡ 12
   pub clinicNotCut : sheetOutcome paperFile 256 (lent 6) (lent 3) (lent workSize) .number ≡ 11
   pub areas :
       listNumber paperFile 6 3 16_384 ∷ listNumber paperFile 5 3 16_384 ∷ listNumber paperFile 6 2 16_384 ∷ listNumber paperFile 6 3 16_383 ∷ []
@@ -260,6 +262,8 @@ turns = record {
   listTwelveFirst = refl;
   priceTenFirst = refl;
   callTenFirst = refl;
+  callElevenFirst = refl;
+  callTwelveFirst = refl;
   clinicNotCut = refl;
   areas = refl;
   callAreas = refl;
