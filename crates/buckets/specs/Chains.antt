@@ -13,8 +13,8 @@ use Rattle.lists.specs.Members.{_∈_, getD-in}
 use Rattle.theorems.specs.Accepted.{Accepted, TableRight, member-at, table-right, patients-few, entries-few, beds-some, entry-small}
 use Rattle.held_region.specs.Stores.{tableAt, startOf, start-next, start-most, HasEntries}
 use Rattle.buckets.specs.Terms.{Fitting, highest, startAt, nextAt, memberAt, strideAt, placeAt, Term, Chain}
-use Rattle.buckets.specs.Places.{strideOf, placeOf, place-strides, place-bound, place-last}
-use Rattle.buckets.specs.Highest.{in-bucket}
+use Rattle.buckets.specs.Places.{strideOf, stride-past, placeOf, place-strides, place-bound, place-last}
+use Rattle.buckets.specs.Highest.{below-last, in-bucket}
 
 sum-same : (f g : ℕ → ℕ) (a n : ℕ) → ((j : ℕ) → j < a + n → f j ≡ g j) → sum (map f (numbersFrom a n)) ≡ sum (map g (numbersFrom a n))
 sum-same f g a zero same = refl
@@ -76,10 +76,16 @@ module _ (r : Region) (a : Accepted r) (i : ℕ) (h : i < length (r .tables)) (t
           finds = λ plan fits. ap (λ n. getD store n 0) (places plan) ∙ stands i _ h (bounded plan fits);
           small = entry-small r a there;
           beside = λ s bed plan top inside. omega (arith, places (set plan s bed), places plan, place-last count plan (t .members) bed (right .some) (right .rising) (top-last s top) inside);
+          last = λ s top j q is l m. strides q m ∙ stride-past count (t .members) q (behind s top j q is l m (decLt (suc j) (length (t .members))));
         }
       where
         top-last : (s : ℕ) → highest s t ≡ true → s ≡ getD (t .members) (length (t .members) - 1) 0
         top-last s top = eqb-true _ _ (sym (in-bucket s t (right .some) (right .rising)) ∙ top)
+
+        -- A place behind that of the highest member is past all members.
+        behind : (s : ℕ) → highest s t ≡ true → (j q : ℕ) → memberAt terms i j ≡ s → j < q → q < 4 → Dec (suc j < length (t .members)) → length (t .members) ≤ q
+        behind s top j q is l m (yes lower) = absurd (omega (arith, below-last (t .members) j (right .rising) lower, top-last s top, members j (omega arith), is))
+        behind s top j q is l m (no n) = omega arith
 
         member-small : (j : ℕ) → Dec (j < length (t .members)) → getD (t .members) j 0 < 32
         member-small j (yes l) = omega (arith, member-at right j l, patients-few r a)
@@ -98,6 +104,7 @@ module _ (r : Region) (store before after : List ℕ) where
         finds = λ plan fits. ap (λ n. getD store n 0) (places plan) ∙ term .finds plan fits;
         small = term .small;
         beside = λ s bed plan top inside. omega (arith, term .beside s bed plan top inside, places (set plan s bed), places plan);
+        last = λ s top j i is l m. same (k * 10 + 6 + i) (omega arith) ∙ term .last s top j i (sym (same (k * 10 + 2 + j) (omega arith)) ∙ is) l m;
       }
     where
       places : (plan : Plan) → placeAt after k plan ≡ placeAt before k plan

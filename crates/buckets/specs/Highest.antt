@@ -1,15 +1,28 @@
 -- A table is in the bucket of its last member.
-use mathlib.Core.Path.{sym, ap, _∙_}
+use mathlib.Core.Path.{sym, ap, _∙_, subst}
 use mathlib.Core.Bool.{and-false}
 use native.Mathlib.Omega.{arith}
 use borrow.Author.Tests.{ltb-true, lt-ltb, le-ltb, eqb-true}
-use Rattle.definitions.specs.Basics.{ℕ, suc, _-_, _<_, _≡_, refl, Bool, true, false, not, _&&_, _||_, List, [], _∷_, length, getD, eqb, ltb, every, everyTwo, any}
+use Rattle.definitions.specs.Basics.{ℕ, zero, suc, _-_, _<_, _≡_, refl, Bool, true, false, not, _&&_, _||_, List, [], _∷_, length, getD, eqb, ltb, every, everyTwo, any}
 use Rattle.definitions.specs.Syntax.{Table}
 use Rattle.lists.specs.Tests.{both}
+use Rattle.lists.specs.Every.{every-at}
 use Rattle.partial_rows.specs.Sets.{only}
 use Rattle.buckets.specs.Terms.{highest}
 
--- Members rise, so the last is the highest.
+-- Members rise, so the last is higher than all before it.
+pub below-last : (l : List ℕ) (j : ℕ) → everyTwo ltb l ≡ true → suc j < length l → getD l j 0 < getD l (length l - 1) 0
+below-last [] j up h = absurd (omega arith)
+below-last (x ∷ []) j up h = absurd (omega arith)
+below-last (x ∷ y ∷ l) zero up h =
+    let last : suc (length l) ≡ suc (suc (length l)) - 1 = omega arith in
+    let above = every-at (ltb x) (y ∷ l) (length l) 0 (omega arith) (both (every (ltb x) (y ∷ l)) up .0) in
+    subst (λ n. x < getD (x ∷ y ∷ l) n 0) last (ltb-true x (getD (y ∷ l) (length l) 0) above)
+below-last (x ∷ y ∷ l) (suc j) up h =
+    let last : suc (suc (length l) - 1) ≡ suc (suc (length l)) - 1 = omega arith in
+    subst (λ n. getD (y ∷ l) j 0 < getD (x ∷ y ∷ l) n 0) last (below-last (y ∷ l) j (both (every (ltb x) (y ∷ l)) up .1) (omega arith))
+
+-- So it is the highest.
 module _ (s : ℕ) where
   last-member : (x : ℕ) (l : List ℕ) → everyTwo ltb (x ∷ l) ≡ true
       → (any (only s) (x ∷ l) && not (any (ltb s) (x ∷ l))) ≡ eqb s (getD (x ∷ l) (length l) 0)

@@ -49,7 +49,7 @@ unfoldable pub placeAt : List ℕ → ℕ → Plan → ℕ
 placeAt terms k plan = startAt terms k + sum (map (λ j. bedOf plan (memberAt terms k j) * strideAt terms k j) (below 4))
 
 -- A term finds a table's entries: for every plan, what the store has at its place is the table's entry for the plan.
--- The entries for the beds of the highest member lie side by side.
+-- The entries for the beds of the highest member lie side by side, and behind it there is no member.
 pub record Term (r : Region) (store terms : List ℕ) (k : ℕ) (t : Table) : Type 0 where
   pub known : (j : ℕ) → j < 4 → memberAt terms k j < 32
   pub near : (j : ℕ) → j < 4 → strideAt terms k j ≤ 4096
@@ -58,6 +58,7 @@ pub record Term (r : Region) (store terms : List ℕ) (k : ℕ) (t : Table) : Ty
   pub finds : (plan : Plan) → Fitting r plan → getD store (placeAt terms k plan) 0 ≡ codeOf (entryFor r plan t)
   pub small : (plan : Plan) (e : ℕ) → entryFor r plan t ≡ some e → e ≤ 1_000_000
   pub beside : (s bed : ℕ) (plan : Plan) → highest s t ≡ true → s < length plan → placeAt terms k (set plan s bed) + bedOf plan s ≡ placeAt terms k plan + bed
+  pub last : (s : ℕ) → highest s t ≡ true → (j i : ℕ) → memberAt terms k j ≡ s → j < i → i < 4 → strideAt terms k i ≡ 0
 
 -- The terms of some tables in their order: a chain that begins at p, each further on than the one before, with 64 at its end.
 unfoldable pub Chain : Region → List ℕ → List ℕ → ℕ → ℕ → List Table → Type 0

@@ -56,7 +56,7 @@ pub fn bed_costs(
 {
     let mut k = first_term(patients, s);
     while k < 64 {
-        let from = entry_place(terms, k, beds);
+        let from = entry_place(terms, k, s, beds);
         add_entries(sums, entries, from, count);
         k = next_term(terms, k);
     }
