@@ -71,7 +71,7 @@ module _ {region : Region} {D F : Patients} (s : ℕ) (split : Splits D (only s)
 
   -- A bed below the count, where no table that it decides forbids it, is a step.
   pub placed-next : (b : ℕ) → addBeds placed (set (noBeds region) s b) ≡ set placed s b
-  placed-next b = add-one-bed placed (length (region .patients)) s b (position .room) known (position .free s mine)
+  placed-next b = add-one-bed placed (length (region .patients)) s b (position .room) known (position .unplaced s mine)
 
   pub bed-step : (b c : ℕ) → b < patientAt region s .bedCount → costOver (decidedTables region (only s) F) region (set placed s b) ≡ some c
       → Step region (only s) F placed (record { cost = c; beds = set (noBeds region) s b })
@@ -79,7 +79,7 @@ module _ {region : Region} {D F : Patients} (s : ℕ) (split : Splits D (only s)
 
   -- The bed that a row of the branch has for s is its rest's.
   rest-bed : {z : Row} (b : Branch region D placed u z) → bedOf (z .beds) s ≡ bedOf (b .rest .beds) s
-  rest-bed b = rw (b .is) (omega (arith, add-at (u .beds) (b .rest .beds) s, position .freeInHead s mine))
+  rest-bed b = rw (b .is) (omega (arith, add-at (u .beds) (b .rest .beds) s, position .unplacedInHead s mine))
 
   -- It is below the count.
   pub branch-bed-below : {z : Row} → Branch region D placed u z → bedOf (z .beds) s < patientAt region s .bedCount
@@ -112,7 +112,7 @@ module _ {region : Region} {D F : Patients} (s : ℕ) (split : Splits D (only s)
       head : addRows u v ≡ withBed u s b c
       head = λ i. record {
         cost = u .cost + c;
-        beds = add-one-bed (u .beds) (length (region .patients)) s b (omega (arith, position .long)) known (position .freeInHead s mine) i;
+        beds = add-one-bed (u .beds) (length (region .patients)) s b (omega (arith, position .long)) known (position .unplacedInHead s mine) i;
       }
 
   -- There are none where one of those tables forbids it.
@@ -132,8 +132,8 @@ module _ {region : Region} {D F : Patients} (s : ℕ) (split : Splits D (only s)
     known = λ r k. position .known r (left r k);
     room = omega (arith, position .room, length-set placed s b);
     long = length-set (u .beds) s b ∙ position .long;
-    free = λ r k. getD-set-other placed s r b 0 (differs r k) ∙ position .free r (left r k);
-    freeInHead = λ r k. getD-set-other (u .beds) s r b 0 (differs r k) ∙ position .freeInHead r (left r k);
+    unplaced = λ r k. getD-set-other placed s r b 0 (differs r k) ∙ position .unplaced r (left r k);
+    unplacedInHead = λ r k. getD-set-other (u .beds) s r b 0 (differs r k) ∙ position .unplacedInHead r (left r k);
   }
     where
       left : (r : ℕ) → F r ≡ true → D r ≡ true

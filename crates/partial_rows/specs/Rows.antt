@@ -74,8 +74,8 @@ pub record Position (region : Region) (D : Patients) (placed : Plan) (u : Row) :
   pub known : (s : ℕ) → D s ≡ true → s < length (region .patients)
   pub room : length (region .patients) ≤ length placed
   pub long : length (u .beds) ≡ length (region .patients)
-  pub free : (s : ℕ) → D s ≡ true → bedOf placed s ≡ 0
-  pub freeInHead : (s : ℕ) → D s ≡ true → bedOf (u .beds) s ≡ 0
+  pub unplaced : (s : ℕ) → D s ≡ true → bedOf placed s ≡ 0
+  pub unplacedInHead : (s : ℕ) → D s ≡ true → bedOf (u .beds) s ≡ 0
 
 -- The head with one more bed, at a cost.
 abbrev pub withBed : Row → ℕ → ℕ → ℕ → Row

@@ -21,8 +21,8 @@ module _ (region : Region) (D : Patients) (placed : Plan) where
   -- A walk begins where the set holds patients without beds.
   pub position-start : ((s : ℕ) → D s ≡ true → s < length (region .patients)) → length (region .patients) ≤ length placed
       → ((s : ℕ) → D s ≡ true → bedOf placed s ≡ 0) → Position region D placed (emptyRow region)
-  position-start known room free =
-      record { known = known; room = room; long = length-replicate _ 0; free = free; freeInHead = λ s h. no-bed region s }
+  position-start known room unplaced =
+      record { known = known; room = room; long = length-replicate _ 0; unplaced = unplaced; unplacedInHead = λ s h. no-bed region s }
 
   -- From the row of nobody and the empty list, it finds the first rows of the set.
   pub walk-finds : {m : ℕ} {l : List Row} → Grown rowOrder m [] (Branch region D placed (emptyRow region)) l → First rowOrder m (RowOf region D placed) l

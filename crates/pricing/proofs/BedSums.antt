@@ -12,7 +12,7 @@ use Rattle.buckets.specs.Terms.{Fitting, firstAt, nextAt, placeAt, Prepared}
 use Rattle.pricing.specs.Pricing.{sumIn, entryIn, Reads}
 use Rattle.pricing.specs.Costs.{fitting-set}
 use Rattle.pricing.specs.BedCosts.{Small, AsksEntries, GivesEntries, Asks, Gives}
-use Rattle.pricing.proofs.Chains.{Left, left-start, left-most, left-reads-free, left-later, left-next-most, left-beside, left-inside, left-small, left-next, left-done}
+use Rattle.pricing.proofs.Chains.{Left, left-start, left-most, left-reads-unplaced, left-later, left-next-most, left-beside, left-inside, left-small, left-next, left-done}
 
 -- Where the loop stands: for each bed, the sum so far and the tables that are left, whose terms begin at k.
 pub record Sums (store patients terms : List ℕ) (s count : ℕ) (beds sums : List ℕ) (k : ℕ) : Type 0 where
@@ -65,7 +65,7 @@ module _ {store patients terms : List ℕ} {s count : ℕ} {beds zeros : List �
 
     module _ (more : k < 64) where
       pub sums-reads : Reads terms k s beds
-      sums-reads = left-reads-free (own (bedOf beds s) some-bed) more beds (asks .free)
+      sums-reads = left-reads-unplaced (own (bedOf beds s) some-bed) more beds (asks .unplaced)
 
       pub sums-later : (k < nextAt terms k) × (nextAt terms k ≤ 64)
       sums-later = let l = own (bedOf beds s) some-bed in (left-later l more, left-next-most l more)
@@ -73,7 +73,7 @@ module _ {store patients terms : List ℕ} {s count : ℕ} {beds zeros : List �
       module _ {from : ℕ} (is : from ≡ placeAt terms k beds) where
         -- The patient has bed 0, so the place for a bed is that many further on.
         place : (bed : ℕ) → from + bed ≡ placeAt terms k (set beds s bed)
-        place bed = omega (arith, left-beside (own (bedOf beds s) some-bed) more beds bed (omega (arith, asks .few, asks .long)), asks .free, is)
+        place bed = omega (arith, left-beside (own (bedOf beds s) some-bed) more beds bed (omega (arith, asks .few, asks .long)), asks .unplaced, is)
 
         pub sums-entries : AsksEntries store from count sums
         sums-entries = record {

@@ -103,8 +103,8 @@ module _ {r : Region} {store terms : List ℕ} {s : ℕ} {beds : Plan} {sum : Op
           ended = λ j is i l m. absurd (omega (arith, t .known j (omega arith), is));
         }
 
-    pub left-reads-free : (plan : Plan) → bedOf plan s ≡ 0 → Reads terms k s plan
-    left-reads-free plan free =
+    pub left-reads-unplaced : (plan : Plan) → bedOf plan s ≡ 0 → Reads terms k s plan
+    left-reads-unplaced plan unplaced =
         let g = term-here h more in
         let t = g .term in
         record {
@@ -118,7 +118,7 @@ module _ {r : Region} {store terms : List ℕ} {s : ℕ} {beds : Plan} {sum : Op
         go : (j i : ℕ) → memberAt terms k j ≡ s → i < 4 → (j ≡ i) ⊎ (j < i) → bedOf plan (memberAt terms k i) * strideAt terms k i ≡ 0
         go j i is m (inl e) =
             let here : memberAt terms k i ≡ s = ap (memberAt terms k) (sym e) ∙ is in
-            ap (λ b. b * strideAt terms k i) (ap (bedOf plan) here ∙ free) ∙ zero-mul (strideAt terms k i)
+            ap (λ b. b * strideAt terms k i) (ap (bedOf plan) here ∙ unplaced) ∙ zero-mul (strideAt terms k i)
         go j i is m (inr l) =
             let g = term-here h more in
             ap (λ n. bedOf plan (memberAt terms k i) * n) (g .term .last s (g .own) j i is l m) ∙ mul-zero (bedOf plan (memberAt terms k i))

@@ -45,7 +45,7 @@ pub record Placing (terms : List ℕ) (k : ℕ) (beds : List ℕ) (place j : ℕ
   pub most : place ≤ 4096 + j * 1_048_576
   pub left : place + leftFrom (bedAt terms k beds) 4 j ≡ placeAt terms k beds
 
-module _ {terms : List ℕ} {k free : ℕ} {beds : List ℕ} (reads : Reads terms k free beds) where
+module _ {terms : List ℕ} {k unplaced : ℕ} {beds : List ℕ} (reads : Reads terms k unplaced beds) where
   pub placing-start : {place : ℕ} → place ≡ startAt terms k → Placing terms k beds place 0
   unfolding placeAt
   placing-start is = record { most = omega (arith, is, reads .starts); left = ap₂ (λ n m. n + m) is (left-all (bedAt terms k beds) 4) }
@@ -66,10 +66,10 @@ module _ {terms : List ℕ} {k free : ℕ} {beds : List ℕ} (reads : Reads term
           ∙ left-next (bedAt terms k beds) 4 place j more ∙ so .left;
     }
 
-  -- The member who is free ends it.
-  pub placing-ended : {place j s : ℕ} → s ≡ memberAt terms k j → s ≡ free → Placing terms k beds place j → place ≡ placeAt terms k beds
-  placing-ended {place} {j} {s} isMember isFree so =
-      let none-left = left-zero (bedAt terms k beds) 4 4 j (omega arith) (reads .ended j (sym isMember ∙ isFree)) in
+  -- The member who is unplaced ends it.
+  pub placing-ended : {place j s : ℕ} → s ≡ memberAt terms k j → s ≡ unplaced → Placing terms k beds place j → place ≡ placeAt terms k beds
+  placing-ended {place} {j} {s} isMember isUnplaced so =
+      let none-left = left-zero (bedAt terms k beds) 4 4 j (omega arith) (reads .ended j (sym isMember ∙ isUnplaced)) in
       let left = so .left in
       omega (arith, left, none-left)
 

@@ -33,7 +33,7 @@ pub record Asks (store patients terms : List ℕ) (s count : ℕ) (beds sums : L
   pub few : s < 32
   pub counts : count ≡ bedsAt patients s
   pub long : length beds ≡ 32
-  pub free : bedOf beds s ≡ 0
+  pub unplaced : bedOf beds s ≡ 0
   pub zeros : sums ≡ replicate 16 0
 
 pub record Gives (store patients terms : List ℕ) (s count : ℕ) (beds sums : List ℕ) : Type 0 where

@@ -24,13 +24,13 @@ sumIn word = cond (eqb word noSum) none (some word)
 abbrev pub entryIn : ℕ → Option ℕ
 entryIn code = cond (eqb code mark) none (some code)
 
--- The words of a term can be used to find a place for a plan: from the member who is free on, if there is one, nothing is added.
-pub record Reads (terms : List ℕ) (k free : ℕ) (beds : List ℕ) : Type 0 where
+-- The words of a term can be used to find a place for a plan: from the member who is unplaced on, if there is one, nothing is added.
+pub record Reads (terms : List ℕ) (k unplaced : ℕ) (beds : List ℕ) : Type 0 where
   pub few : k < 64
   pub known : (j : ℕ) → j < 4 → memberAt terms k j < 32
   pub near : (j : ℕ) → j < 4 → strideAt terms k j ≤ 4096
   pub starts : startAt terms k ≤ 4096
-  pub ended : (j : ℕ) → memberAt terms k j ≡ free → (i : ℕ) → j ≤ i → i < 4 → bedOf beds (memberAt terms k i) * strideAt terms k i ≡ 0
+  pub ended : (j : ℕ) → memberAt terms k j ≡ unplaced → (i : ℕ) → j ≤ i → i < 4 → bedOf beds (memberAt terms k i) * strideAt terms k i ≡ 0
 
 -- The cost of one bucket.
 pub record Asks (store patients terms : List ℕ) (s : ℕ) (beds : List ℕ) : Type 0 where

@@ -58,16 +58,16 @@ fn wide(bed: u8) -> usize
 // Who is no patient: every member of a term counts.
 const NOBODY: usize = 32;
 
-// The place in the store of a term's entry for a plan. A patient who is free has bed 0 and is the last member, so that nothing is added from there on.
-fn entry_place(terms: &[u32; 640], k: usize, free: usize, beds: &[u8; 32]) -> usize
-    requires { ⌜ Reads (now terms) k free (now beds) ⌝ }
+// The place in the store of a term's entry for a plan. Who is unplaced counts as bed 0 and is the last member: nothing is added from there on.
+fn entry_place(terms: &[u32; 640], k: usize, unplaced: usize, beds: &[u8; 32]) -> usize
+    requires { ⌜ Reads (now terms) k unplaced (now beds) ⌝ }
     ensures { λ at. ⌜ at ≡ placeAt (now (terms .entry)) k (now (beds .entry)) ⌝ }
 {
     let mut place = entry_start(terms, k);
     let mut j = 0;
     while j < 4 {
         let s = member(terms, k, j);
-        if s == free {
+        if s == unplaced {
             return place;
         }
         place += wide(beds[s]) * stride(terms, k, j);

@@ -112,8 +112,8 @@ module _ {r : Region} {D E : Patients} {store patients terms : List ℕ} {v m n 
     fresh-left : leftIn head ≡ contains (members set)
     fresh-left = ap (λ w. contains (members w)) (fresh .left)
 
-    fresh-free : (s : ℕ) → bedOf (head .plan .beds) s ≡ 0
-    fresh-free s = ap (λ b. bedOf b s) (fresh .beds) ∙ zero-bed 32 s
+    fresh-unplaced : (s : ℕ) → bedOf (head .plan .beds) s ≡ 0
+    fresh-unplaced s = ap (λ b. bedOf b s) (fresh .beds) ∙ zero-bed 32 s
 
     pub heads-start : Heads r store patients terms v head
     heads-start =
@@ -124,7 +124,7 @@ module _ {r : Region} {D E : Patients} {store patients terms : List ℕ} {v m n 
           fits = rw (fresh .beds) zeros-fit;
           position = subst⁻¹ (Position r (leftIn head) (head .plan .beds)) fresh-row
               (position-start r (leftIn head) (head .plan .beds) (subst⁻¹ (λ F. (s : ℕ) → F s ≡ true → s < length (r .patients)) fresh-left (nextTree .known))
-              (omega (arith, nextTree .counted, ap length (fresh .beds))) (λ s e. fresh-free s));
+              (omega (arith, nextTree .counted, ap length (fresh .beds))) (λ s e. fresh-unplaced s));
           upward = subst⁻¹ (Upward r) fresh-left (nextTree .upward);
           bound = fresh .bound .is ∙ least-same (members set) (nextTree .known) ∙ ap (λ w. sum (map (leastIn r) (members w))) (sym (fresh .left));
         }
@@ -137,7 +137,7 @@ module _ {r : Region} {D E : Patients} {store patients terms : List ℕ} {v m n 
         subst (λ l. Grown rowOrder m l (BranchOf r v head) (rowsIn v found now)) (ap (map (unpadded v)) (rows-none area)) (gives .grown r heads-start empty) in
         let branch : BranchOf r v head ≡ Branch r (contains (members set)) (head .plan .beds) (emptyRow r) = λ i. Branch r (fresh-left i) (head .plan .beds) (fresh-row i) in
         let first = walk-finds r (contains (members set)) (head .plan .beds) (subst (λ Q. Grown rowOrder m [] Q (rowsIn v found now)) branch grown) in
-        first-iff (λ z. row-context (λ t k h s i. fresh-free s ∙ sym (no-bed r s))) (λ z. row-context (λ t k h s i. no-bed r s ∙ sym (fresh-free s))) first
+        first-iff (λ z. row-context (λ t k h s i. fresh-unplaced s ∙ sym (no-bed r s))) (λ z. row-context (λ t k h s i. no-bed r s ∙ sym (fresh-unplaced s))) first
 
 -- ---- rows are small
 

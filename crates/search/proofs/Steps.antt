@@ -57,7 +57,7 @@ module _ {r : Region} {store patients terms : List ℕ} {v : ℕ} {head : Branch
   -- What the costs of the patient's beds ask for.
   pub asks-beds : SumsFit head → {count : ℕ} → count ≡ bedsAt patients s → Price.Asks store patients terms s count (head .plan .beds) (replicate 16 0)
   asks-beds sumsFit counts =
-      record { region = r; prepared = heads .prepared; fits = heads .fits; known = known; few = few; counts = counts; long = sumsFit .beds; free = heads .position .free s here; zeros = refl }
+      record { region = r; prepared = heads .prepared; fits = heads .fits; known = known; few = few; counts = counts; long = sumsFit .beds; unplaced = heads .position .unplaced s here; zeros = refl }
 
 -- Four bits hold each bed that fits.
 pub low-beds : {r : Region} {store patients terms : List ℕ} {v : ℕ} {head : Branching} → Heads r store patients terms v head → (beds : List ℕ) → Fitting r beds → (q : ℕ) → q < v → bedOf beds q < 16

@@ -6,10 +6,10 @@ use Rattle.pricing.proofs.entry_place.Statement.{statement}
 use Rattle.pricing.proofs.entry_place.Tie as tie
 
 abbrev Inv-loop : tie.InvT-loop
-Inv-loop terms k free beds place₀ j₀ place j = Placing terms k beds place j
+Inv-loop terms k unplaced beds place₀ j₀ place j = Placing terms k beds place j
 
 abbrev μ-loop : tie.MeasureT-loop
-μ-loop terms k free beds place₀ j₀ place j = 4 - j
+μ-loop terms k unplaced beds place₀ j₀ place j = 4 - j
 
 entry-start-requires : tie.Need-entry-start-requires Inv-loop μ-loop
 entry-start-requires c κs = search needs
