@@ -20,9 +20,12 @@ pub enum Field {
     Entry,
 }
 
+// The most digits of a number, by a name: a loop over digits whose end is known when it is compiled is faster.
+pub const DIGITS: usize = 7;
+
 const LIMITS: [Limit; 10] = [
     Limit(0, 65_535),
-    Limit(1, 7),
+    Limit(1, DIGITS),
     Limit(1, 32),
     Limit(0, 64),
     Limit(1, 64),

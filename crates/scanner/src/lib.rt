@@ -8,8 +8,7 @@ ghost use Rattle.scanner.specs.Classes.{isLetter, classOf, firstClass};
 ghost use Rattle.scanner.specs.Words.{formStart};
 ghost use Rattle.scanner.specs.Answers.{ReadAt, passed, numberRead, entryRead, stepRead};
 ghost use Rattle.scanner.specs.Separators.{separator};
-use limits::Field;
-use limits::highest;
+use limits::DIGITS;
 
 // The reader's class of a byte; a digit comes with its value, a letter with its byte.
 pub enum Class {
@@ -148,13 +147,12 @@ pub enum Number {
 pub fn number_at(s: &[u8], at: usize) -> Number
     ensures { λ r. ⌜ ReadAt number (now (s .entry)) at (numberRead r) ⌝ }
 {
-    let most = highest(Field::DigitCount);
     let mut value: u32 = 0;
     let mut i = at;
     loop {
         match class_at(s, i) {
             Class::Digit(d) => {
-                if i - at == most {
+                if i - at == DIGITS {
                     return Number::Nothing;
                 }
                 if value == 0 {

@@ -4,19 +4,17 @@ use Prim.Native.Nat.{_-_}
 use native.Mathlib.Omega.{arith}
 use lib.ListN.{length}
 use borrow.Author.Needs.{needs}
+use Rattle.definitions.specs.Limits.{limits}
 use Rattle.scanner.proofs.Classes.{not-digit}
 use Rattle.scanner.proofs.Numbers.{Reading, reading-start, reading-ends, reading-missing, reading-within, reading-long, reading-zero, reading-fits, reading-more}
 use Rattle.scanner.proofs.number_at.Statement.{statement}
 use Rattle.scanner.proofs.number_at.Tie as tie
 
 abbrev Inv-loop : tie.InvT-loop
-Inv-loop s at most value₀ i₀ value i = Reading s at value i
+Inv-loop s at value₀ i₀ value i = Reading s at value i
 
 abbrev μ-loop : tie.MeasureT-loop
-μ-loop s at most value₀ i₀ value i = length s - i
-
-highest-requires : tie.Need-highest-requires Inv-loop μ-loop
-highest-requires c κs = search needs
+μ-loop s at value₀ i₀ value i = length s - i
 
 loop-holds : tie.Need-loop-holds Inv-loop μ-loop
 loop-holds c = reading-start _ _
@@ -31,9 +29,10 @@ sub-if1 : tie.Need-sub-if1 Inv-loop μ-loop
 sub-if1 c = search needs
 
 returns : tie.Need-returns Inv-loop μ-loop
+unfolding limits
 returns c =
     let m = c .before .before in
-    reading-long (m .before .before .before .loop .inv) (sym (m .before .before .class-at .ensures) ∙ m .d .given .1) (c .if1 .taken ∙ m .before .before .before .before .highest .ensures)
+    reading-long (m .before .before .before .loop .inv) (sym (m .before .before .class-at .ensures) ∙ m .d .given .1) (c .if1 .taken)
 
 returns-2 : tie.Need-returns-2 Inv-loop μ-loop
 returns-2 c =
@@ -41,14 +40,16 @@ returns-2 c =
     reading-zero (m .before .before .before .loop .inv) (sym (m .before .before .class-at .ensures) ∙ m .d .given .1) (c .before .if2 .taken) (c .if3 .taken)
 
 mul-value : tie.Need-mul-value Inv-loop μ-loop
+unfolding limits
 mul-value c =
     let m = c .before .before .before in
-    omega (arith, reading-fits (m .before .before .before .loop .inv) (sym (m .before .before .class-at .ensures) ∙ m .d .given .1) (λ e. c .before .if1 .left (e ∙ sym (m .before .before .before .before .highest .ensures))))
+    omega (arith, reading-fits (m .before .before .before .loop .inv) (sym (m .before .before .class-at .ensures) ∙ m .d .given .1) (c .before .if1 .left))
 
 add-value : tie.Need-add-value Inv-loop μ-loop
+unfolding limits
 add-value c =
     let m = c .before .before .before in
-    omega (arith, reading-fits (m .before .before .before .loop .inv) (sym (m .before .before .class-at .ensures) ∙ m .d .given .1) (λ e. c .before .if1 .left (e ∙ sym (m .before .before .before .before .highest .ensures))))
+    omega (arith, reading-fits (m .before .before .before .loop .inv) (sym (m .before .before .class-at .ensures) ∙ m .d .given .1) (c .before .if1 .left))
 
 add-i : tie.Need-add-i Inv-loop μ-loop
 add-i c =
@@ -61,9 +62,10 @@ loop-less c =
     omega (arith, reading-within (m .before .before .before .loop .inv) (sym (m .before .before .class-at .ensures) ∙ m .d .given .1))
 
 loop-again : tie.Need-loop-again Inv-loop μ-loop
+unfolding limits
 loop-again c =
     let m = c .before .before .before in
-    reading-more (m .before .before .before .loop .inv) (sym (m .before .before .class-at .ensures) ∙ m .d .given .1) (λ e. c .before .if1 .left (e ∙ sym (m .before .before .before .before .highest .ensures))) (⊎-elim (λ w z. w .1 .left) (λ w z. absurd (w .left z)) (c .if2 .came))
+    reading-more (m .before .before .before .loop .inv) (sym (m .before .before .class-at .ensures) ∙ m .d .given .1) (c .before .if1 .left) (⊎-elim (λ w z. w .1 .left) (λ w z. absurd (w .left z)) (c .if2 .came))
 
 returns-3 : tie.Need-returns-3 Inv-loop μ-loop
 returns-3 c = reading-missing (c .before .before .before .loop .inv) (not-digit (c .before .before .class-at .ensures) (c .before .match .keys2)) (c .if4 .taken)
@@ -77,7 +79,6 @@ number-at-spec =
     (tie.spec
     Inv-loop
     μ-loop
-    highest-requires
     loop-holds
     class-at-requires
     enum-known-d
