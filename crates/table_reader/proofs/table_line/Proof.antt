@@ -16,7 +16,6 @@ form-start-at-requires c κs = search needs
 enum-known-start : tie.Need-enum-known-start
 enum-known-start c = search needs
 
--- /tmp/w/reading/target/rlib/held_region.rlib/interface/lang/src/lib.rt:7:46
 enum-told : tie.Need-enum-told
 enum-told c = search needs
 
@@ -29,7 +28,6 @@ space-at-requires c κs = search needs
 enum-known-a : tie.Need-enum-known-a
 enum-known-a c = search needs
 
--- /tmp/w/reading/target/rlib/held_region.rlib/interface/lang/src/lib.rt:7:46
 enum-told-2 : tie.Need-enum-told-2
 enum-told-2 c = search needs
 
@@ -54,7 +52,6 @@ space-at-requires-2 c κs = search needs
 enum-known-b : tie.Need-enum-known-b
 enum-known-b c = search needs
 
--- /tmp/w/reading/target/rlib/held_region.rlib/interface/lang/src/lib.rt:7:46
 enum-told-3 : tie.Need-enum-told-3
 enum-told-3 c = search needs
 
@@ -73,7 +70,6 @@ entries-at-requires c κs = search needs
 enum-known-entries : tie.Need-enum-known-entries
 enum-known-entries c = search needs
 
--- /tmp/w/reading/target/rlib/held_region.rlib/interface/lang/src/lib.rt:7:46
 enum-told-4 : tie.Need-enum-told-4
 enum-told-4 c = search needs
 
@@ -94,7 +90,6 @@ form-end-at-requires c κs = search needs
 enum-known-end : tie.Need-enum-known-end
 enum-known-end c = search needs
 
--- /tmp/w/reading/target/rlib/held_region.rlib/interface/lang/src/lib.rt:7:46
 enum-told-5 : tie.Need-enum-told-5
 enum-told-5 c = search needs
 
