@@ -39,29 +39,6 @@ pub enum Listed {
     Rows(usize),
 }
 
-pub fn listed_number(answer: Listed) -> u64
-    ensures { λ r. ⌜ r ≡ listedNumber answer ⌝ }
-{
-    match answer {
-        Listed::Refused(refusal) => refusal_number(refusal),
-        Listed::Short => 12,
-        Listed::Nothing => 13,
-        Listed::Rows(_) => 0,
-    }
-}
-
-// How many rows list wrote.
-pub fn listed_rows(answer: Listed) -> usize
-    ensures { λ r. ⌜ r ≡ listedRows answer ⌝ }
-{
-    match answer {
-        Listed::Refused(_) => 0,
-        Listed::Short => 0,
-        Listed::Nothing => 0,
-        Listed::Rows(n) => n,
-    }
-}
-
 // Sheet's answer, with the row count. Absent: question 11 is answered no.
 pub enum Sheeted {
     Refused(Refusal),
@@ -71,28 +48,41 @@ pub enum Sheeted {
     Rows(usize),
 }
 
-pub fn sheeted_number(answer: Sheeted) -> u64
-    ensures { λ r. ⌜ r ≡ sheetedNumber answer ⌝ }
+// The same as list and sheet give it back: the number, and how many rows were written.
+pub struct RowValues {
+    pub number: u64,
+    pub rows: usize,
+}
+
+fn row_values(number: u64, rows: usize) -> RowValues
+    ensures { λ r. ⌜ (r .number ≡ number) × (r .rows ≡ rows) ⌝ }
 {
-    match answer {
-        Sheeted::Refused(refusal) => refusal_number(refusal),
-        Sheeted::Absent => 11,
-        Sheeted::Short => 12,
-        Sheeted::Nothing => 13,
-        Sheeted::Rows(_) => 0,
+    RowValues {
+        number: number,
+        rows: rows,
     }
 }
 
-// How many rows sheet wrote.
-pub fn sheeted_rows(answer: Sheeted) -> usize
-    ensures { λ r. ⌜ r ≡ sheetedRows answer ⌝ }
+pub fn list_values(answer: Listed) -> RowValues
+    ensures { λ r. ⌜ (r .number ≡ listedNumber answer) × (r .rows ≡ listedRows answer) ⌝ }
 {
     match answer {
-        Sheeted::Refused(_) => 0,
-        Sheeted::Absent => 0,
-        Sheeted::Short => 0,
-        Sheeted::Nothing => 0,
-        Sheeted::Rows(n) => n,
+        Listed::Refused(refusal) => row_values(refusal_number(refusal), 0),
+        Listed::Short => row_values(12, 0),
+        Listed::Nothing => row_values(13, 0),
+        Listed::Rows(n) => row_values(0, n),
+    }
+}
+
+pub fn sheet_values(answer: Sheeted) -> RowValues
+    ensures { λ r. ⌜ (r .number ≡ sheetedNumber answer) × (r .rows ≡ sheetedRows answer) ⌝ }
+{
+    match answer {
+        Sheeted::Refused(refusal) => row_values(refusal_number(refusal), 0),
+        Sheeted::Absent => row_values(11, 0),
+        Sheeted::Short => row_values(12, 0),
+        Sheeted::Nothing => row_values(13, 0),
+        Sheeted::Rows(n) => row_values(0, n),
     }
 }
 

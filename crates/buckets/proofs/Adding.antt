@@ -5,7 +5,7 @@ use lib.ListN.{length, getD, set}
 use Prim.Native.Nat.{ℕ, _+_, _*_, _^_, _<_}
 use mathlib.Core.List.{List}
 use Rattle.held_region.specs.declared.Table.{Table}
-use Rattle.buckets.specs.Terms.{leastAt, firstAt}
+use Rattle.bucket_words.specs.Words.{leastAt, firstAt}
 use Rattle.buckets.specs.Least.{leastNumber}
 use Rattle.buckets.specs.Written.{MembersWritten, lastOf, TermKnown, TermAdded}
 use Rattle.buckets.proofs.Writing.{two-length, two-other, two-first, two-second}

@@ -21,7 +21,8 @@ use Rattle.held_region.specs.Meaning.{tableIn, startIn, said}
 use Rattle.held_region.specs.Asked.{patients-said, patient-said, starts-said, stands}
 use Rattle.held_region.specs.Sound.{accepted-sound}
 use Rattle.held_region.specs.Entries.{CountsSmall, counts-match, counts-small}
-use Rattle.buckets.specs.Terms.{Term, Chain, Prepared, highest, bucketOf, leastIn, bedsAt, leastAt, firstAt}
+use Rattle.bucket_words.specs.Words.{bedsAt, leastAt, firstAt}
+use Rattle.buckets.specs.Terms.{Term, Chain, Prepared, highest, bucketOf, leastIn}
 use Rattle.buckets.specs.Least.{leastNumber}
 use Rattle.buckets.specs.Places.{strideOf, stride-same}
 use Rattle.buckets.specs.Highest.{in-bucket}

@@ -12,7 +12,7 @@ use Rattle.held_region.specs.Meaning.{membersOf}
 use Rattle.held_region.specs.Members.{membersFrom, members-next, members-done}
 use Rattle.lists.specs.Below.{length-by-places, at-place}
 use Rattle.lists.specs.Loops.{placesFrom}
-use Rattle.buckets.specs.Terms.{memberAt, strideAt, bedsAt}
+use Rattle.bucket_words.specs.Words.{memberAt, strideAt, bedsAt}
 use Rattle.buckets.specs.Places.{strideOf, stride-past}
 use Rattle.buckets.specs.Written.{MembersWritable, OthersKept, MembersSoFar, MembersWritten}
 use Rattle.buckets.proofs.Writing.{two-length, two-other, two-first, two-second}

@@ -8,7 +8,7 @@ use Prim.Native.Nat.{ℕ, zero, suc, _+_, _*_, _<_}
 use mathlib.Core.List.{List}
 use Rattle.held_region.specs.declared.Patient.{Patient}
 use Rattle.held_region.specs.Meaning.{noPatient}
-use Rattle.buckets.specs.Terms.{bedsAt, leastAt, firstAt}
+use Rattle.bucket_words.specs.Words.{bedsAt, leastAt, firstAt}
 use Rattle.buckets.specs.Written.{PatientsWritten}
 
 pub zeros : (n i : ℕ) → getD {A = ℕ} (replicate n 0) i 0 ≡ 0

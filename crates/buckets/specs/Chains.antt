@@ -12,7 +12,8 @@ use Rattle.definitions.specs.Plans.{Plan, bedOf, entryFor}
 use Rattle.lists.specs.Members.{_∈_, getD-in}
 use Rattle.theorems.specs.Accepted.{Accepted, TableRight, member-at, table-right, patients-few, entries-few, beds-some, entry-small}
 use Rattle.held_region.specs.Stores.{tableAt, startOf, start-next, start-most, HasEntries}
-use Rattle.buckets.specs.Terms.{Fitting, highest, startAt, nextAt, memberAt, strideAt, placeAt, Term, Chain}
+use Rattle.bucket_words.specs.Words.{startAt, nextAt, memberAt, strideAt}
+use Rattle.buckets.specs.Terms.{Fitting, highest, placeAt, Term, Chain}
 use Rattle.buckets.specs.Places.{strideOf, stride-past, placeOf, place-strides, place-bound, place-last}
 use Rattle.buckets.specs.Highest.{below-last, in-bucket}
 

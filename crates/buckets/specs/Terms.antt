@@ -1,4 +1,4 @@
--- Buckets of tables: what the words say, and when they say it of a region.
+-- Buckets of tables, and when the words say them of a region.
 use Prim.Native.Nat.{_≤_}
 use native.Mathlib.Omega.{arith}
 use lib.ListN.{set}
@@ -10,6 +10,7 @@ use Rattle.partial_rows.specs.Sets.{only}
 use Rattle.partial_rows.specs.Rows.{holds, decidedTables}
 use Rattle.partial_rows.specs.Bounds.{leastEntry}
 use Rattle.held_region.specs.Meaning.{codeOf}
+use Rattle.bucket_words.specs.Words.{bedsAt, leastAt, firstAt, startAt, nextAt, memberAt, strideAt}
 
 -- A plan with each bed below its patient's count.
 abbrev pub Fitting : Region → Plan → Type 0
@@ -29,20 +30,6 @@ bucketOf r s = decidedTables r (only s) (ltb s)
 
 unfoldable pub leastIn : Region → ℕ → ℕ
 leastIn r s = sum (map leastEntry (bucketOf r s))
-
--- ---- the words of a term
-
-abbrev pub startAt : List ℕ → ℕ → ℕ
-startAt terms k = getD terms (k * 10) 0
-
-abbrev pub nextAt : List ℕ → ℕ → ℕ
-nextAt terms k = getD terms (k * 10 + 1) 0
-
-abbrev pub memberAt : List ℕ → ℕ → ℕ → ℕ
-memberAt terms k j = getD terms (k * 10 + 2 + j) 0
-
-abbrev pub strideAt : List ℕ → ℕ → ℕ → ℕ
-strideAt terms k j = getD terms (k * 10 + 6 + j) 0
 
 -- The place in the store of a term's entry for a plan: from the start on, a stride for each bed of each member.
 unfoldable pub placeAt : List ℕ → ℕ → Plan → ℕ
@@ -64,17 +51,6 @@ pub record Term (r : Region) (store terms : List ℕ) (k : ℕ) (t : Table) : Ty
 unfoldable pub Chain : Region → List ℕ → List ℕ → ℕ → ℕ → List Table → Type 0
 Chain r store terms low p [] = p ≡ 64
 Chain r store terms low p (t ∷ ts) = (low ≤ p) × (p < 64) × Term r store terms p t × Chain r store terms (suc p) (nextAt terms p) ts
-
--- ---- the words of a patient
-
-abbrev pub bedsAt : List ℕ → ℕ → ℕ
-bedsAt patients s = getD patients (s * 3) 0
-
-abbrev pub leastAt : List ℕ → ℕ → ℕ
-leastAt patients s = getD patients (s * 3 + 1) 0
-
-abbrev pub firstAt : List ℕ → ℕ → ℕ
-firstAt patients s = getD patients (s * 3 + 2) 0
 
 -- The words say each patient's count of beds, the sum of its bucket's least numbers, and its bucket.
 pub record Prepared (r : Region) (store patients terms : List ℕ) : Type 0 where

@@ -5,7 +5,7 @@ use Rattle.held_region.specs.declared.Patient.{Patient}
 use Rattle.held_region.specs.declared.Table.{Table}
 use Rattle.held_region.specs.Meaning.{noPatient, membersOf}
 use Rattle.held_region.specs.Members.{membersFrom}
-use Rattle.buckets.specs.Terms.{startAt, nextAt, memberAt, strideAt, bedsAt, leastAt, firstAt}
+use Rattle.bucket_words.specs.Words.{startAt, nextAt, memberAt, strideAt, bedsAt, leastAt, firstAt}
 use Rattle.buckets.specs.Places.{strideOf}
 use Rattle.buckets.specs.Least.{leastNumber}
 

@@ -1,6 +1,4 @@
 // The tables by their highest members, in a form in which a walk finds an entry at once.
-pub mod words;
-
 use entry_questions::entry_total;
 use held_region::FORBIDDEN;
 use held_region::Patient;

@@ -21,6 +21,7 @@ use Rattle.theorems.specs.Answers.{asked-twice}
 use Rattle.lists.specs.Tests.{both}
 use Rattle.theorems.specs.Accepted.{accepted, plans-wanted}
 use Rattle.byte_areas.specs.Costs.{held-costs, stored-costs}
+use Rattle.answers.specs.declared.RowValues.{RowValues}
 use Rattle.region_answers.specs.Found.{foundWith, AsksTwelve}
 use Rattle.planner_c.specs.Room.{costRoom}
 
@@ -56,7 +57,7 @@ room-most costs result = go (decLt result 8) (decLt (costs / 8) 64)
     go (no h) (no l) = rw (le-ltb result 8 (omega arith), le-ltb (costs / 8) 64 (omega arith)) (omega arith, omega arith)
 
 -- The part of 64 places that is lent is as long as the room.
-pub lent-long : (n room : ℕ) → n ≡ room → room ≤ 64 → length {A = ℕ} (take n (replicate 64 0)) ≡ room
+lent-long : (n room : ℕ) → n ≡ room → room ≤ 64 → length {A = ℕ} (take n (replicate 64 0)) ≡ room
 lent-long n room e h = omega (arith, e, length-take n (replicate {A = ℕ} 64 0), length-replicate {A = ℕ} 64 0)
 
 -- What the entry finds with the areas that the call lends it is what the call is to find.
@@ -107,13 +108,13 @@ module _ (file beds costs result part work : List ℕ) (room : length part ≡ c
       count = ap (λ (o : ListOutcome). o .rows) outcome
 
       -- There is room to store the costs.
-      pub rows-room : (o .rows ≤ 64) × (o .rows * 8 ≤ length costs)
+      rows-room : (o .rows ≤ 64) × (o .rows * 8 ≤ length costs)
       rows-room =
           let most = room-most (length costs) (length result) in
           (omega (arith, count, found-few, most .0), omega (arith, count, found-few, most .1))
 
       -- The call, from what the entry gives and what is stored of it.
-      pub called : (rest : List ℕ) {costsAfter resultAfterwards : List ℕ} → costsAfter ≡ written 0 8 (bytesOf 8) (take (o .rows) (o .costs ++ rest)) costs
+      called : (rest : List ℕ) {costsAfter resultAfterwards : List ℕ} → costsAfter ≡ written 0 8 (bytesOf 8) (take (o .rows) (o .costs ++ rest)) costs
           → resultAfterwards ≡ resultAfter (o .rows ∷ []) result
           → record { number = o .number; beds = o .beds; costs = costsAfter; result = resultAfterwards } ≡ callOf (found callLong) beds costs result
       unfolding outcomeOf callOf
@@ -128,6 +129,31 @@ module _ (file beds costs result part work : List ℕ) (room : length part ≡ c
           let result-stored : resultAfterwards ≡ resultAfter (length (lent .rows) ∷ []) result = counted ∙ ap (λ k. resultAfter (k ∷ []) result) count in
           (λ i. record { number = outcome i .number; beds = outcome i .beds; costs = costs-stored i; result = result-stored i })
           ∙ ap (λ f. callOf f beds costs result) found-same
+
+-- The same with the areas that the call has of its own: the first of 64 places, as many as there is room for, and a work area of zeros.
+module _ (file beds costs result : List ℕ) (n : ℕ) (room : n ≡ costRoom (length costs) (length result)) (found : Bool → Found) (twelve : AsksTwelve file found) where
+  abbrev part : List ℕ
+  part = take (n - 0) (replicate 64 0)
+
+  abbrev own : List ℕ
+  own = replicate workSize 0
+
+  part-long : length part ≡ costRoom (length costs) (length result)
+  part-long = lent-long (n - 0) (costRoom (length costs) (length result)) (omega (arith, room)) (room-most (length costs) (length result) .0)
+
+  own-long : length own ≡ workSize
+  own-long = length-replicate {A = ℕ} workSize 0
+
+  module _ {o : ListOutcome} (outcome : o ≡ outcomeOf (found (areasLongEnough (regionOf file) beds part own)) beds part own) {values : RowValues} (said : (values .number ≡ o .number) × (values .rows ≡ o .rows)) where
+    pub values-room : (values .rows ≤ 64) × (values .rows * 8 ≤ length costs)
+    values-room = rw (said .1) (rows-room file beds costs result part own part-long own-long found twelve outcome)
+
+    pub values-called : (rest : List ℕ) {number : ℕ} {costsAfter resultAfterwards : List ℕ}
+        → (number ≡ values .number) × (costsAfter ≡ written 0 8 (bytesOf 8) (take (values .rows) (o .costs ++ rest)) costs) × (resultAfterwards ≡ resultAfter (values .rows ∷ []) result)
+        → record { number = number; beds = o .beds; costs = costsAfter; result = resultAfterwards } ≡ callOf (found (roomForRows (regionOf file) 8 beds costs && roomForNumbers 1 result)) beds costs result
+    values-called rest left =
+        rw (left .0 ∙ said .0)
+        (called file beds costs result part own part-long own-long found twelve outcome rest (rw (said .1) at (left .1)) (rw (said .1) at (left .2)))
 
 -- Question 12 is asked of the result area and then of the others, or of both at once: the number is the same.
 twelve-once : (first last : Asked) (width : ℕ) (rows : List Row) (room long : Bool)

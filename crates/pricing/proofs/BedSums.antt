@@ -8,7 +8,8 @@ use Rattle.definitions.specs.Syntax.{Region, patientAt}
 use Rattle.definitions.specs.Plans.{bedOf}
 use Rattle.theorems.specs.Sums.{plus, halves}
 use Rattle.theorems.specs.Accepted.{beds-few}
-use Rattle.buckets.specs.Terms.{Fitting, firstAt, nextAt, placeAt, Prepared}
+use Rattle.bucket_words.specs.Words.{firstAt, nextAt}
+use Rattle.buckets.specs.Terms.{Fitting, placeAt, Prepared}
 use Rattle.pricing.specs.Pricing.{sumIn, entryIn, Reads}
 use Rattle.pricing.specs.Costs.{fitting-set}
 use Rattle.pricing.specs.BedCosts.{Small, AsksEntries, GivesEntries, Asks, Gives}

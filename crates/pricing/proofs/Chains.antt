@@ -16,7 +16,8 @@ use Rattle.theorems.specs.Sums.{plus, plus-assoc}
 use Rattle.partial_rows.specs.Rows.{decidedTables}
 use Rattle.partial_rows.specs.Costs.{cost-cons}
 use Rattle.held_region.specs.Meaning.{mark}
-use Rattle.buckets.specs.Terms.{Fitting, highest, bucketOf, firstAt, nextAt, memberAt, strideAt, placeAt, Term, Chain, Prepared}
+use Rattle.bucket_words.specs.Words.{firstAt, nextAt, memberAt, strideAt}
+use Rattle.buckets.specs.Terms.{Fitting, highest, bucketOf, placeAt, Term, Chain, Prepared}
 use Rattle.pricing.specs.Pricing.{entryIn, Reads, Asks, Gives}
 use Rattle.pricing.specs.Costs.{zero-plus, plus-zero, entry-number, entry-known}
 use Rattle.pricing.specs.declared.Cost.the-variants.{Forbidden, Of}

@@ -11,7 +11,7 @@ use Rattle.definitions.specs.Syntax.{patientAt}
 use Rattle.definitions.specs.Plans.{bedOf}
 use Rattle.definitions.specs.Questions.{planFits}
 use Rattle.lists.specs.Below.{same-tests}
-use Rattle.buckets.specs.Terms.{bedsAt}
+use Rattle.bucket_words.specs.Words.{bedsAt}
 use Rattle.pricing.specs.Pricing.{PlanAsked}
 
 -- The first s beds of a plan are those of a list.

@@ -5,7 +5,8 @@ use native.Mathlib.Omega.{arith}
 use native.Mathlib.Nat.{add-assoc, add-zero, mul-le-mul}
 use Rattle.definitions.specs.Basics.{ℕ, zero, suc, _+_, _*_, _<_, List, map, sum, below}
 use Rattle.definitions.specs.Plans.{bedOf}
-use Rattle.buckets.specs.Terms.{startAt, memberAt, strideAt, placeAt}
+use Rattle.bucket_words.specs.Words.{startAt, memberAt, strideAt}
+use Rattle.buckets.specs.Terms.{placeAt}
 use Rattle.lists.specs.Loops.{placesFrom, places-all, places-next, places-done}
 use Prim.Native.Nat.{_≤_}
 use Rattle.pricing.specs.Pricing.{Reads}

@@ -6,7 +6,8 @@ use Rattle.definitions.specs.Syntax.{Region, patientAt}
 use Rattle.definitions.specs.Plans.{bedOf, costOver}
 use Rattle.theorems.specs.Accepted.{mostTotal}
 use Rattle.theorems.specs.Sums.{plus}
-use Rattle.buckets.specs.Terms.{Fitting, bucketOf, bedsAt, Prepared}
+use Rattle.bucket_words.specs.Words.{bedsAt}
+use Rattle.buckets.specs.Terms.{Fitting, bucketOf, Prepared}
 use Rattle.pricing.specs.Pricing.{sumIn, entryIn}
 
 -- A sum that is a number is no larger than 64 entries are.

@@ -6,7 +6,8 @@ use Rattle.definitions.specs.Questions.{planFits}
 use Rattle.definitions.specs.Plans.{bedOf, costOver, total}
 use Rattle.theorems.specs.Accepted.{mostTotal}
 use Rattle.held_region.specs.Meaning.{mark}
-use Rattle.buckets.specs.Terms.{Fitting, bucketOf, startAt, memberAt, strideAt, bedsAt, Prepared}
+use Rattle.bucket_words.specs.Words.{startAt, memberAt, strideAt, bedsAt}
+use Rattle.buckets.specs.Terms.{Fitting, bucketOf, Prepared}
 use Rattle.pricing.specs.declared.Cost.{Cost}
 use Rattle.pricing.specs.declared.Cost.the-variants.{Forbidden, Of}
 

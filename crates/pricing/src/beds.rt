@@ -7,8 +7,8 @@ ghost use Rattle.pricing.specs.Pricing.{costIn, sumIn, entryIn};
 ghost use Rattle.pricing.specs.BedCosts.{Small, AsksEntries, GivesEntries, Asks, Gives};
 use crate::Cost;
 use crate::entry_place;
-use buckets::words::first_term;
-use buckets::words::next_term;
+use bucket_words::first_term;
+use bucket_words::next_term;
 use held_region::FORBIDDEN;
 
 // The word for a sum that is no number, since one of its entries is forbidden.

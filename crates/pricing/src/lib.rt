@@ -7,12 +7,12 @@ ghost use lib.ListN.{set, length, take};
 ghost use Rattle.definitions.specs.Basics.{replicate};
 ghost use Rattle.buckets.specs.Terms.{placeAt};
 ghost use Rattle.pricing.specs.Pricing.{Reads, Asks, Gives, AsksAll, GivesAll, PlanAsked};
-use buckets::words::bed_count;
-use buckets::words::entry_start;
-use buckets::words::first_term;
-use buckets::words::member;
-use buckets::words::next_term;
-use buckets::words::stride;
+use bucket_words::bed_count;
+use bucket_words::entry_start;
+use bucket_words::first_term;
+use bucket_words::member;
+use bucket_words::next_term;
+use bucket_words::stride;
 use held_region::FORBIDDEN;
 
 // A plan, step by step: the beds of the patients placed so far, bed 0 for all others, and how many are placed.

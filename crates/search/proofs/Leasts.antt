@@ -6,7 +6,7 @@ use native.Mathlib.Omega.{arith}
 use Rattle.definitions.specs.Basics.{ℕ, _+_, _*_, _<_, not, _&&_, false, List, [], _∷_, map, length, sum, eqb, isEmpty}
 use Rattle.patient_set.specs.Sets.{inSet, members, first}
 use Rattle.patient_set.specs.Laws.{size-most, lowest-patient, lowest-and-rest}
-use Rattle.buckets.specs.Terms.{leastAt}
+use Rattle.bucket_words.specs.Words.{leastAt}
 use Rattle.search.specs.Trees.{LeastSummed}
 
 -- The sum so far, and the patients that are left.

@@ -28,7 +28,8 @@ use Rattle.partial_rows.specs.Beds.{no-bed, inside, outside}
 use Rattle.partial_rows.specs.Contexts.{row-context}
 use Rattle.partial_rows.specs.Parts.{parts-injective, parts-combined}
 use Rattle.partial_rows.specs.Walk.{position-start, walk-finds}
-use Rattle.buckets.specs.Terms.{Fitting, leastAt, leastIn}
+use Rattle.bucket_words.specs.Words.{leastAt}
+use Rattle.buckets.specs.Terms.{Fitting, leastIn}
 use Rattle.packed_rows.specs.declared.Row as Code
 use Rattle.packed_rows.specs.Packed.{rowOf, Fit}
 use Rattle.packed_rows.specs.Packing.{packedRow}

@@ -14,7 +14,8 @@ use Rattle.patient_set.specs.Laws.{rising, lowest-and-rest}
 use Rattle.partial_rows.specs.Sets.{only, Splits}
 use Rattle.partial_rows.specs.Rows.{Position, decidedTables, withBed, LowerBound}
 use Rattle.partial_rows.specs.Branches.{position-bed}
-use Rattle.buckets.specs.Terms.{Fitting, bucketOf, leastIn, leastAt, bedsAt, fitting-low}
+use Rattle.bucket_words.specs.Words.{leastAt, bedsAt}
+use Rattle.buckets.specs.Terms.{Fitting, bucketOf, leastIn, fitting-low}
 use Rattle.pricing.specs.BedCosts as Price
 use Rattle.pricing.specs.Pricing.{sumIn}
 use Rattle.pricing.specs.Costs.{fitting-set}

@@ -12,7 +12,8 @@ use Rattle.partial_rows.specs.Rows.{noBeds, RowOf}
 use Rattle.partial_rows.specs.Parts.{Apart}
 use Rattle.held_region.specs.declared.Region as Code
 use Rattle.held_region.specs.Meaning.{said}
-use Rattle.buckets.specs.Terms.{leastAt, Prepared}
+use Rattle.bucket_words.specs.Words.{leastAt}
+use Rattle.buckets.specs.Terms.{Prepared}
 use Rattle.forest.specs.Trees.{RootNumbers}
 use Rattle.row_sums.specs.Sums.{workPart, listAt}
 use Rattle.search.specs.Lowest.{Upward}

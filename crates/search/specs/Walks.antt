@@ -11,7 +11,8 @@ use Rattle.theorems.specs.List.{rowOrder}
 use Rattle.patient_set.specs.declared.PatientSet.{PatientSet}
 use Rattle.patient_set.specs.Sets.{members}
 use Rattle.partial_rows.specs.Rows.{Branch, Position}
-use Rattle.buckets.specs.Terms.{Fitting, bucketOf, leastIn, leastAt, Prepared}
+use Rattle.bucket_words.specs.Words.{leastAt}
+use Rattle.buckets.specs.Terms.{Fitting, bucketOf, leastIn, Prepared}
 use Rattle.pricing.specs.declared.Plan as Code
 use Rattle.partial_rows.specs.Padding.{unpadded, Padded}
 use Rattle.packed_rows.specs.Packed.{isBefore}

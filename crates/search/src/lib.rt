@@ -1,8 +1,8 @@
 // The cheapest plans of a region, found tree by tree.
 pub mod walk;
 
+use bucket_words::least_cost;
 use buckets::prepare;
-use buckets::words::least_cost;
 use forest::root_numbers;
 use forest::tree;
 use held_region::Region;

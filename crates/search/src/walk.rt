@@ -1,6 +1,6 @@
 // Depth-first branch and bound over the patients of a set, the lowest first, beds rising.
-use buckets::words::bed_count;
-use buckets::words::least_cost;
+use bucket_words::bed_count;
+use bucket_words::least_cost;
 use packed_rows::pack;
 use patient_set::PatientSet;
 use pricing::Cost;

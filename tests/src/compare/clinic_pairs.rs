@@ -21,7 +21,7 @@ struct Sheet {
 }
 
 pub fn run(tested: Tested<SheetCall>, seed: u64, count: usize) -> Result<Vec<Tally>, Difference> {
-    Ok(vec![apart(tested, seed, count)?, apart_large(tested, seed, count / 2)?, joined(tested, seed, count)?])
+    Ok(vec![apart(tested, seed, count)?, joined(tested, seed, count)?])
 }
 
 /// Pairs that demand 3 speaks of: no table joins the clinic.

@@ -65,7 +65,7 @@ pub fn run_all(seed: u64, count: usize, printer: Option<&Path>) -> Result<(), Di
     thread::scope(|scope| {
         let beside = scope.spawn(move || run_beside(seed, count, printer));
         let mut tallies = run_calls(LIBRARY, seed, count, Tally::print)?;
-        for tally in [large::lists(LIBRARY.list, seed, count / 10)?, large::sheets(LIBRARY.sheet, seed, count / 10)?] {
+        for tally in run_large(seed, count)? {
             tally.print();
             tallies.push(tally);
         }
@@ -74,6 +74,13 @@ pub fn run_all(seed: u64, count: usize, printer: Option<&Path>) -> Result<(), Di
         Tally::together("all numbers", &tallies)?.print();
         Ok(())
     })
+}
+
+/// The library on regions with too many plans to walk, beside the baseline.
+fn run_large(seed: u64, count: usize) -> Result<[Tally; 3], Difference> {
+    let lists = large::lists(LIBRARY.list, seed, count / 10)?;
+    let sheets = large::sheets(LIBRARY.sheet, seed, count / 10)?;
+    Ok([lists, sheets, clinic_pairs::apart_large(LIBRARY.sheet, seed, count / 2)?])
 }
 
 fn run_beside(seed: u64, count: usize, printer: Option<&Path>) -> Result<Vec<Tally>, Difference> {

@@ -1,14 +1,12 @@
 use borrow.Author.Needs.{needs}
 use mathlib.Core.Path.{_∙_}
-use Prim.Native.Nat.{ℕ, _-_}
 use native.Mathlib.Omega.{arith}
-use lib.ListN.{length, take, replicate, length-replicate}
+use lib.ListN.{length}
 use denote.Ref.{now}
 use Rattle.definitions.specs.Outcomes.{listFound, listOutcome}
-use Rattle.definitions.specs.Questions.{workSize, entryAsks, askedByList}
+use Rattle.definitions.specs.Questions.{entryAsks, askedByList}
 use Rattle.region_answers.specs.Lists.{list-twelve}
-use Rattle.planner_c.specs.Room.{costRoom}
-use Rattle.planner_c.proofs.RowCalls.{room-most, lent-long, rows-room, called, list-call}
+use Rattle.planner_c.proofs.RowCalls.{room-most, values-room, values-called, list-call}
 use Rattle.planner_c.proofs.rigbasen_list.Statement.{statement}
 use Rattle.planner_c.proofs.rigbasen_list.Tie as tie
 
@@ -22,7 +20,9 @@ part-held-start : tie.Need-part-held-start
 part-held-start c = search needs
 
 part-held-end : tie.Need-part-held-end
-part-held-end c = omega (arith, c .before .cost-room .ensures, room-most (length (now (c .before .before .before .before .before .before .args .costs))) (length (now (c .before .before .before .before .before .before .args .result))) .0)
+part-held-end c =
+    let a = c .before .before .before .before .before .before .args in
+    omega (arith, c .before .cost-room .ensures, room-most (length (now (a .costs))) (length (now (a .result))) .0)
 
 slice-aggregate-list : tie.Need-slice-aggregate-list
 slice-aggregate-list c = search needs
@@ -30,23 +30,17 @@ slice-aggregate-list c = search needs
 list-requires : tie.Need-list-requires
 list-requires c κs = search needs
 
-listed-rows-requires : tie.Need-listed-rows-requires
-listed-rows-requires c κs = search needs
+list-values-requires : tie.Need-list-values-requires
+list-values-requires c κs = search needs
 
-store-costs-requires : tie.Need-store-costs-requires
+leave-rows-requires : tie.Need-leave-rows-requires
 unfolding listOutcome
-store-costs-requires c κs =
-    let a = c .before .before .before .before .before .before .before .before .before .before .before .before .before .before .before .before .args in
-    let room = c .before .before .before .before .before .before .before .before .before .before .before .cost-room in
-    rw (c .before .before .listed-rows .ensures)
-    (rows-room (now (a .file)) (now (a .beds)) (now (a .costs)) (now (a .result)) (take (room .result - 0) (replicate 64 0)) (replicate workSize 0)
-    (lent-long (room .result - 0) (costRoom (length (now (a .costs))) (length (now (a .result)))) (omega (arith, room .ensures)) (room-most (length (now (a .costs))) (length (now (a .result))) .0)) (length-replicate {A = ℕ} workSize 0) (λ long. listFound (now (a .file)) (entryAsks (askedByList (now (a .file)) long))) (list-twelve (now (a .file))) (c .before .before .before .before .before .before .before .list .ensures))
-
-store-count-requires : tie.Need-store-count-requires
-store-count-requires c κs = search needs
-
-listed-number-requires : tie.Need-listed-number-requires
-listed-number-requires c κs = search needs
+leave-rows-requires c κs =
+    let a = c .before .before .before .before .before .before .before .before .before .before .before .before .before .before .before .before .before .args in
+    let room = c .before .before .before .before .before .before .before .before .before .before .before .before .cost-room in
+    values-room (now (a .file)) (now (a .beds)) (now (a .costs)) (now (a .result)) (room .result) (room .ensures)
+    (λ long. listFound (now (a .file)) (entryAsks (askedByList (now (a .file)) long))) (list-twelve (now (a .file)))
+    (c .before .before .before .before .before .before .before .before .list .ensures) (c .list-values .ensures)
 
 same-length : tie.Need-same-length
 same-length c = search needs
@@ -60,14 +54,12 @@ same-length-3 c = search needs
 returns : tie.Need-returns
 unfolding listOutcome
 returns c =
-    let a = c .before .before .before .before .before .before .before .before .before .before .before .before .before .before .before .before .before .before .before .before .before .before .before .before .args in
-    let room = c .before .before .before .before .before .before .before .before .before .before .before .before .before .before .before .before .before .before .before .cost-room in
-    let rows = c .before .before .before .before .before .before .before .before .before .before .listed-rows .ensures in
-    rw (c .listed-number .ensures)
-    (called (now (a .file)) (now (a .beds)) (now (a .costs)) (now (a .result)) (take (room .result - 0) (replicate 64 0)) (replicate workSize 0)
-    (lent-long (room .result - 0) (costRoom (length (now (a .costs))) (length (now (a .result)))) (omega (arith, room .ensures)) (room-most (length (now (a .costs))) (length (now (a .result))) .0)) (length-replicate {A = ℕ} workSize 0) (λ long. listFound (now (a .file)) (entryAsks (askedByList (now (a .file)) long))) (list-twelve (now (a .file))) (c .before .before .before .before .before .before .before .before .before .before .before .before .before .before .before .list .ensures)
-    _ (rw rows at (c .before .before .before .before .before .before .before .store-costs .ensures)) (rw rows at (c .before .before .before .store-count .ensures))
-    ∙ list-call (now (a .file)) (now (a .beds)) (now (a .costs)) (now (a .result)))
+    let a = c .before .before .before .before .before .before .before .before .before .before .before .before .before .before .before .before .before .before .before .before .before .before .args in
+    let room = c .before .before .before .before .before .before .before .before .before .before .before .before .before .before .before .before .before .cost-room in
+    values-called (now (a .file)) (now (a .beds)) (now (a .costs)) (now (a .result)) (room .result) (room .ensures)
+    (λ long. listFound (now (a .file)) (entryAsks (askedByList (now (a .file)) long))) (list-twelve (now (a .file)))
+    (c .before .before .before .before .before .before .before .before .before .before .before .before .before .list .ensures) (c .before .before .before .before .before .list-values .ensures) _ (c .before .before .before .before .leave-rows .ensures)
+    ∙ list-call (now (a .file)) (now (a .beds)) (now (a .costs)) (now (a .result))
 
 pub rigbasen-list-spec : {M : Type 1} → statement M
 rigbasen-list-spec =
@@ -79,10 +71,8 @@ rigbasen-list-spec =
     part-held-end
     slice-aggregate-list
     list-requires
-    listed-rows-requires
-    store-costs-requires
-    store-count-requires
-    listed-number-requires
+    list-values-requires
+    leave-rows-requires
     same-length
     same-length-2
     same-length-3

@@ -5,6 +5,7 @@ use crate::outcomes::Outcomes;
 use crate::plans::{self, Row};
 use crate::printed::{self, list_text, refusal_text, sheet_text};
 use crate::region::Region;
+use std::env;
 use std::path::Path;
 
 /// The right text.
@@ -95,17 +96,26 @@ pub fn zero_byte_added(file: &[u8]) -> Text {
     with_behind(file, "\0")
 }
 
+/// What an installed program prints. One that is missing would be found wrong for that alone.
+fn printed_by(program: &str, file: &[u8]) -> Text {
+    let path = env::var_os("PATH").unwrap_or_default();
+    if !env::split_paths(&path).any(|directory| directory.join(program).is_file()) {
+        panic!("{program} is not installed, and it is tried as a wrong printing program");
+    }
+    output_of(Path::new(program), file)
+}
+
 /// A program that prints the file itself.
 pub fn file_itself(file: &[u8]) -> Text {
-    output_of(Path::new("cat"), file)
+    printed_by("cat", file)
 }
 
 /// A program that prints nothing.
 pub fn nothing(file: &[u8]) -> Text {
-    output_of(Path::new("true"), file)
+    printed_by("true", file)
 }
 
 /// A program that ends in a failure, whatever text stands before.
 pub fn right_with_failure(file: &[u8]) -> Text {
-    output_of(Path::new("false"), file).map(|_| right(file).into_bytes())
+    printed_by("false", file).map(|_| right(file).into_bytes())
 }

@@ -17,7 +17,7 @@ use Rattle.search.proofs.walk.walk.Kinds as walk-kinds
 use Rattle.search.proofs.walk.+walk.Lts-walk as walk-lts
 use Rattle.patient_set.proofs.PatientSet.is_empty.Reads as is-empty-reads
 use Rattle.patient_set.proofs.PatientSet.lowest.Reads as lowest-reads
-use Rattle.buckets.proofs.words.bed_count.Reads as bed-count-reads
+use Rattle.bucket_words.proofs.bed_count.Reads as bed-count-reads
 use Rattle.pricing.proofs.beds.bed_cost.Reads as bed-cost-reads
 use Rattle.pricing.proofs.beds.bed_costs.Reads as bed-costs-reads
 use Rattle.pricing.proofs.Plan.place.Reads as place-reads

@@ -1,7 +1,7 @@
-// The words of the buckets by what they say: no other crate reads them by their places.
+// The words of the buckets by what they say: only who writes them knows their places.
 ghost use mathlib.Core.Path.{_≡_};
 ghost use Prim.Native.Nat.{_<_};
-ghost use Rattle.buckets.specs.Terms.{bedsAt, leastAt, firstAt, startAt, nextAt, memberAt, strideAt};
+ghost use Rattle.bucket_words.specs.Words.{bedsAt, leastAt, firstAt, startAt, nextAt, memberAt, strideAt};
 
 fn as_number(word: u32) -> usize
     ensures { λ n. ⌜ (n ≡ word) × (n < 4_294_967_296) ⌝ }
