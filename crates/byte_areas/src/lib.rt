@@ -1,12 +1,27 @@
-// The numbers that the calls from C leave in lent byte areas: eight bytes each, lowest first.
+// The numbers that the calls from C leave in lent byte areas, eight bytes each, lowest first, and the room for them.
 ghost use mathlib.Core.Path.{_≡_};
 ghost use Prim.Native.Nat.{_+_, _*_, _≤_, _<_};
 ghost use Rattle.definitions.specs.Basics.{[], _∷_, cond, length, getD, take, sets};
 ghost use Rattle.definitions.specs.Outcomes.{written};
 ghost use Rattle.definitions.specs.Boundary.{bytesOf, resultAfter};
+ghost use Rattle.byte_areas.specs.Room.{costRoom};
+use limits::Field;
+use limits::highest;
+
+// How many costs the entry may leave, and the entry asks question 12 of them: those that fit the lent area, none where the result area is too short.
+pub fn cost_room(costs: usize, result: usize) -> usize
+    ensures { λ n. ⌜ n ≡ costRoom costs result ⌝ }
+{
+    if result < 8 {
+        return 0;
+    }
+    let most = highest(Field::PlansWanted);
+    let fitting = costs / 8;
+    if fitting < most { fitting } else { most }
+}
 
 // One number, from place `at` on.
-pub fn store_number(area: &mut [u8], at: usize, n: u64)
+fn store_number(area: &mut [u8], at: usize, n: u64)
     requires { ⌜ at + 8 ≤ length (now area) ⌝ }
     ensures { λ _. ⌜ now (area .exit) ≡ sets (now (area .entry)) at (bytesOf 8 n) ⌝ }
 {
@@ -20,7 +35,7 @@ pub fn store_number(area: &mut [u8], at: usize, n: u64)
 }
 
 // The result of list and sheet: the row count. A shorter area is untouched.
-pub fn store_count(result: &mut [u8], n: u64)
+fn store_count(result: &mut [u8], n: u64)
     ensures { λ _. ⌜ now (result .exit) ≡ resultAfter (n ∷ []) (now (result .entry)) ⌝ }
 {
     if result.len() < 8 {
@@ -49,7 +64,7 @@ fn cost_at(held: &[u32], i: usize) -> u64
 }
 
 // The first n of the costs that the proved entry left.
-pub fn store_costs(costs: &mut [u8], held: &[u32; 64], n: usize)
+fn store_costs(costs: &mut [u8], held: &[u32; 64], n: usize)
     requires { ⌜ (n ≤ 64) × (n * 8 ≤ length (now costs)) ⌝ }
     ensures { λ _. ⌜ now (costs .exit) ≡ written 0 8 (bytesOf 8) (take n (now (held .entry))) (now (costs .entry)) ⌝ }
 {
@@ -58,4 +73,13 @@ pub fn store_costs(costs: &mut [u8], held: &[u32; 64], n: usize)
         store_number(costs, i * 8, cost_at(held, i));
         i += 1;
     }
+}
+
+// What list and sheet leave: the costs, and the row count.
+pub fn store_rows(costs: &mut [u8], result: &mut [u8], held: &[u32; 64], n: usize)
+    requires { ⌜ (n ≤ 64) × (n * 8 ≤ length (now costs)) ⌝ }
+    ensures { λ _. ⌜ (now (costs .exit) ≡ written 0 8 (bytesOf 8) (take n (now (held .entry))) (now (costs .entry))) × (now (result .exit) ≡ resultAfter (n ∷ []) (now (result .entry))) ⌝ }
+{
+    store_costs(costs, held, n);
+    store_count(result, n as u64);
 }

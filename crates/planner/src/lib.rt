@@ -6,10 +6,10 @@ ghost use Rattle.answers.specs.Answers.{checkedNumber, listedOutcome, sheetedOu
 use answers::Listed;
 use answers::Priced;
 use answers::Sheeted;
+use clinic_sheet::sheet_loaded;
 use held_region::FORBIDDEN;
 use held_region::Judged;
 use reader::load;
-use region_answers::clinic_sheet::sheet_loaded;
 use region_answers::list_loaded;
 use region_answers::price_region;
 

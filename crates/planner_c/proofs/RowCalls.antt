@@ -1,15 +1,13 @@
 -- List and sheet as calls from C, from what the entry gives and what is written of it.
 use mathlib.Core.Path.{_≡_, refl, sym, ap, ap₂, _∙_}
-use mathlib.Core.Bool.{and-assoc, and-false, and-true}
-use Prim.Native.Nat.{_≤_, _<_, _-_}
+use mathlib.Core.Bool.{and-assoc, and-true}
+use Prim.Native.Nat.{_≤_, _-_}
 use native.Mathlib.Nat.{mul-one}
-use native.Mathlib.Decide.{decLt, decLe}
 use native.Mathlib.Omega.{arith}
-use borrow.Author.Tests.{lt-leb, le-leb, leb-true, lt-ltb, le-ltb}
+use borrow.Author.Tests.{le-leb, leb-true}
 use lib.ListN.{length-map, length-take, length-replicate}
 use lib.Seq.{take-append-le}
-use Rattle.definitions.specs.Basics.{ℕ, zero, suc, _+_, _*_, _/_, Bool, true, false, _&&_, cond, List, [], _∷_, _++_, map, length, take, replicate, leb, ltb}
-use Rattle.definitions.specs.Limits.{limits}
+use Rattle.definitions.specs.Basics.{ℕ, zero, suc, _+_, _*_, Bool, true, false, _&&_, List, [], _∷_, _++_, map, length, take, replicate, leb}
 use Rattle.definitions.specs.Syntax.{Region, patientsOf}
 use Rattle.definitions.specs.Plans.{Row, listOf}
 use Rattle.definitions.specs.Sheets.{sheetOf}
@@ -20,41 +18,10 @@ use Rattle.definitions.specs.Boundary.{bytesOf, roomForNumbers, resultAfter, ca
 use Rattle.theorems.specs.Answers.{asked-twice}
 use Rattle.lists.specs.Tests.{both}
 use Rattle.theorems.specs.Accepted.{accepted, plans-wanted}
+use Rattle.byte_areas.specs.Room.{costRoom, room-same, room-most}
 use Rattle.byte_areas.specs.Costs.{held-costs, stored-costs}
 use Rattle.answers.specs.declared.RowValues.{RowValues}
 use Rattle.region_answers.specs.Found.{foundWith, AsksTwelve}
-use Rattle.planner_c.specs.Room.{costRoom}
-
--- The costs that the entry may leave are those that fit, if m is 1 to 64.
-room-same : (m costs result : ℕ) → 0 < m → m ≤ 64 → leb (m * 1) (costRoom costs result) ≡ (leb (m * 8) costs && leb (1 * 8) result)
-unfolding costRoom limits
-room-same m costs result some few = go (decLt result 8) (decLt (costs / 8) 64)
-  where
-    one : m * 1 ≡ m
-    one = mul-one m
-
-    go : Dec (result < 8) → Dec (costs / 8 < 64) → leb (m * 1) (cond (ltb result 8) 0 (cond (ltb (costs / 8) 64) (costs / 8) 64)) ≡ (leb (m * 8) costs && leb (1 * 8) result)
-    go (yes h) d =
-        rw (lt-ltb result 8 h) (lt-leb (m * 1) 0 (omega arith) ∙ sym (ap (λ b. leb (m * 8) costs && b) (lt-leb 8 result h) ∙ and-false (leb (m * 8) costs)))
-    go (no h) (yes l) = rw (le-ltb result 8 (omega arith), lt-ltb (costs / 8) 64 l) (fits (decLe (m * 8) costs))
-      where
-        fits : Dec (m * 8 ≤ costs) → leb (m * 1) (costs / 8) ≡ (leb (m * 8) costs && leb (1 * 8) result)
-        fits (yes k) = le-leb (m * 1) (costs / 8) (omega arith) ∙ sym (ap₂ (λ a b. a && b) (le-leb (m * 8) costs k) (le-leb 8 result (omega arith)))
-        fits (no k) = lt-leb (m * 1) (costs / 8) (omega arith) ∙ sym (ap (λ b. b && leb (1 * 8) result) (lt-leb (m * 8) costs (omega arith)))
-    go (no h) (no l) =
-        rw (le-ltb result 8 (omega arith), le-ltb (costs / 8) 64 (omega arith))
-        (le-leb (m * 1) 64 (omega arith) ∙ sym (ap₂ (λ a b. a && b) (le-leb (m * 8) costs (omega arith)) (le-leb 8 result (omega arith))))
-
--- Room for more than 64 costs, or more than fit, is never lent.
-pub room-most : (costs result : ℕ) → (costRoom costs result ≤ 64) × (costRoom costs result * 8 ≤ costs)
-unfolding costRoom limits
-room-most costs result = go (decLt result 8) (decLt (costs / 8) 64)
-  where
-    go : Dec (result < 8) → Dec (costs / 8 < 64)
-        → (cond (ltb result 8) 0 (cond (ltb (costs / 8) 64) (costs / 8) 64) ≤ 64) × (cond (ltb result 8) 0 (cond (ltb (costs / 8) 64) (costs / 8) 64) * 8 ≤ costs)
-    go (yes h) d = rw (lt-ltb result 8 h) (omega arith, omega arith)
-    go (no h) (yes l) = rw (le-ltb result 8 (omega arith), lt-ltb (costs / 8) 64 l) (omega arith, omega arith)
-    go (no h) (no l) = rw (le-ltb result 8 (omega arith), le-ltb (costs / 8) 64 (omega arith)) (omega arith, omega arith)
 
 -- The part of 64 places that is lent is as long as the room.
 lent-long : (n room : ℕ) → n ≡ room → room ≤ 64 → length {A = ℕ} (take n (replicate 64 0)) ≡ room
@@ -107,13 +74,11 @@ module _ (file beds costs result part work : List ℕ) (room : length part ≡ c
       unfolding outcomeOf
       count = ap (λ (o : ListOutcome). o .rows) outcome
 
-      -- There is room to store the costs.
       rows-room : (o .rows ≤ 64) × (o .rows * 8 ≤ length costs)
       rows-room =
           let most = room-most (length costs) (length result) in
           (omega (arith, count, found-few, most .0), omega (arith, count, found-few, most .1))
 
-      -- The call, from what the entry gives and what is stored of it.
       called : (rest : List ℕ) {costsAfter resultAfterwards : List ℕ} → costsAfter ≡ written 0 8 (bytesOf 8) (take (o .rows) (o .costs ++ rest)) costs
           → resultAfterwards ≡ resultAfter (o .rows ∷ []) result
           → record { number = o .number; beds = o .beds; costs = costsAfter; result = resultAfterwards } ≡ callOf (found callLong) beds costs result
@@ -145,15 +110,18 @@ module _ (file beds costs result : List ℕ) (n : ℕ) (room : n ≡ costRoom (l
   own-long = length-replicate {A = ℕ} workSize 0
 
   module _ {o : ListOutcome} (outcome : o ≡ outcomeOf (found (areasLongEnough (regionOf file) beds part own)) beds part own) {values : RowValues} (said : (values .number ≡ o .number) × (values .rows ≡ o .rows)) where
+    -- There is room to store as many costs as the answer has rows.
     pub values-room : (values .rows ≤ 64) × (values .rows * 8 ≤ length costs)
     values-room = rw (said .1) (rows-room file beds costs result part own part-long own-long found twelve outcome)
 
-    pub values-called : (rest : List ℕ) {number : ℕ} {costsAfter resultAfterwards : List ℕ}
-        → (number ≡ values .number) × (costsAfter ≡ written 0 8 (bytesOf 8) (take (values .rows) (o .costs ++ rest)) costs) × (resultAfterwards ≡ resultAfter (values .rows ∷ []) result)
-        → record { number = number; beds = o .beds; costs = costsAfter; result = resultAfterwards } ≡ callOf (found (roomForRows (regionOf file) 8 beds costs && roomForNumbers 1 result)) beds costs result
+    -- The call, from what the entry gives and what is stored of it.
+    pub values-called : (rest : List ℕ) {costsAfter resultAfterwards : List ℕ}
+        → (costsAfter ≡ written 0 8 (bytesOf 8) (take (values .rows) (o .costs ++ rest)) costs) × (resultAfterwards ≡ resultAfter (values .rows ∷ []) result)
+        → record { number = values .number; beds = o .beds; costs = costsAfter; result = resultAfterwards }
+        ≡ callOf (found (roomForRows (regionOf file) 8 beds costs && roomForNumbers 1 result)) beds costs result
     values-called rest left =
-        rw (left .0 ∙ said .0)
-        (called file beds costs result part own part-long own-long found twelve outcome rest (rw (said .1) at (left .1)) (rw (said .1) at (left .2)))
+        rw (said .0)
+        (called file beds costs result part own part-long own-long found twelve outcome rest (rw (said .1) at (left .0)) (rw (said .1) at (left .1)))
 
 -- Question 12 is asked of the result area and then of the others, or of both at once: the number is the same.
 twelve-once : (first last : Asked) (width : ℕ) (rows : List Row) (room long : Bool)

@@ -3,5 +3,4 @@ pub mod Counts
 pub mod Asked
 pub mod Found
 pub mod Lists
-pub mod Sheets
 pub mod Prices

@@ -1,6 +1,4 @@
-// What list, sheet and price answer of the region of an accepted file.
-pub mod clinic_sheet;
-
+// What list and price answer of the region of an accepted file.
 ghost use Rattle.theorems.specs.Accepted.{Accepted};
 ghost use Rattle.held_region.specs.Meaning.{said};
 ghost use Rattle.region_answers.specs.Prices.{RegionPriced};

@@ -4,7 +4,7 @@ use Rattle.definitions.specs.Syntax.{patientsOf}
 use Rattle.definitions.specs.Basics.{length}
 use Rattle.definitions.specs.Questions.{areasLongEnough}
 use Rattle.definitions.specs.Outcomes.{foundBy, outcomeOf}
-use Rattle.region_answers.specs.Sheets.{lateAsked, sheet-outcome}
+use Rattle.clinic_sheet.specs.Sheets.{lateAsked, sheet-outcome}
 use borrow.Author.Needs.{needs}
 use mathlib.Core.Path.{ap, sym, _∙_}
 use denote.Ref.{now}

@@ -5,8 +5,9 @@ use lib.ListN.{length}
 use denote.Ref.{now}
 use Rattle.definitions.specs.Outcomes.{listFound, listOutcome}
 use Rattle.definitions.specs.Questions.{entryAsks, askedByList}
+use Rattle.byte_areas.specs.Room.{room-most}
 use Rattle.region_answers.specs.Lists.{list-twelve}
-use Rattle.planner_c.proofs.RowCalls.{room-most, values-room, values-called, list-call}
+use Rattle.planner_c.proofs.RowCalls.{values-room, values-called, list-call}
 use Rattle.planner_c.proofs.rigbasen_list.Statement.{statement}
 use Rattle.planner_c.proofs.rigbasen_list.Tie as tie
 
@@ -33,14 +34,14 @@ list-requires c κs = search needs
 list-values-requires : tie.Need-list-values-requires
 list-values-requires c κs = search needs
 
-leave-rows-requires : tie.Need-leave-rows-requires
+store-rows-requires : tie.Need-store-rows-requires
 unfolding listOutcome
-leave-rows-requires c κs =
+store-rows-requires c κs =
     let a = c .before .before .before .before .before .before .before .before .before .before .before .before .before .before .before .before .before .args in
     let room = c .before .before .before .before .before .before .before .before .before .before .before .before .cost-room in
     values-room (now (a .file)) (now (a .beds)) (now (a .costs)) (now (a .result)) (room .result) (room .ensures)
     (λ long. listFound (now (a .file)) (entryAsks (askedByList (now (a .file)) long))) (list-twelve (now (a .file)))
-    (c .before .before .before .before .before .before .before .before .list .ensures) (c .list-values .ensures)
+    (c .before .before .before .before .before .before .before .before .list .ensures) (c .before .before .before .list-values .ensures)
 
 same-length : tie.Need-same-length
 same-length c = search needs
@@ -58,7 +59,7 @@ returns c =
     let room = c .before .before .before .before .before .before .before .before .before .before .before .before .before .before .before .before .before .cost-room in
     values-called (now (a .file)) (now (a .beds)) (now (a .costs)) (now (a .result)) (room .result) (room .ensures)
     (λ long. listFound (now (a .file)) (entryAsks (askedByList (now (a .file)) long))) (list-twelve (now (a .file)))
-    (c .before .before .before .before .before .before .before .before .before .before .before .before .before .list .ensures) (c .before .before .before .before .before .list-values .ensures) _ (c .before .before .before .before .leave-rows .ensures)
+    (c .before .before .before .before .before .before .before .before .before .before .before .before .before .list .ensures) (c .before .before .before .before .before .before .before .before .list-values .ensures) _ (c .before .before .before .before .store-rows .ensures)
     ∙ list-call (now (a .file)) (now (a .beds)) (now (a .costs)) (now (a .result))
 
 pub rigbasen-list-spec : {M : Type 1} → statement M
@@ -72,7 +73,7 @@ rigbasen-list-spec =
     slice-aggregate-list
     list-requires
     list-values-requires
-    leave-rows-requires
+    store-rows-requires
     same-length
     same-length-2
     same-length-3

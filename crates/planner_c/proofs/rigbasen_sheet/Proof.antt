@@ -5,8 +5,9 @@ use lib.ListN.{length}
 use denote.Ref.{now}
 use Rattle.definitions.specs.Outcomes.{sheetFound, sheetOutcome}
 use Rattle.definitions.specs.Questions.{entryAsks, askedBySheet}
-use Rattle.region_answers.specs.Sheets.{sheet-twelve}
-use Rattle.planner_c.proofs.RowCalls.{room-most, values-room, values-called, sheet-call}
+use Rattle.byte_areas.specs.Room.{room-most}
+use Rattle.clinic_sheet.specs.Sheets.{sheet-twelve}
+use Rattle.planner_c.proofs.RowCalls.{values-room, values-called, sheet-call}
 use Rattle.planner_c.proofs.rigbasen_sheet.Statement.{statement}
 use Rattle.planner_c.proofs.rigbasen_sheet.Tie as tie
 
@@ -33,14 +34,14 @@ sheet-requires c κs = search needs
 sheet-values-requires : tie.Need-sheet-values-requires
 sheet-values-requires c κs = search needs
 
-leave-rows-requires : tie.Need-leave-rows-requires
+store-rows-requires : tie.Need-store-rows-requires
 unfolding sheetOutcome
-leave-rows-requires c κs =
+store-rows-requires c κs =
     let a = c .before .before .before .before .before .before .before .before .before .before .before .before .before .before .before .before .before .args in
     let room = c .before .before .before .before .before .before .before .before .before .before .before .before .cost-room in
     values-room (now (a .file)) (now (a .beds)) (now (a .costs)) (now (a .result)) (room .result) (room .ensures)
     (λ long. sheetFound (now (a .file)) (a .clinic) (entryAsks (askedBySheet (now (a .file)) (a .clinic) long))) (sheet-twelve (now (a .file)) (a .clinic))
-    (c .before .before .before .before .before .before .before .before .sheet .ensures) (c .sheet-values .ensures)
+    (c .before .before .before .before .before .before .before .before .sheet .ensures) (c .before .before .before .sheet-values .ensures)
 
 same-length : tie.Need-same-length
 same-length c = search needs
@@ -58,7 +59,7 @@ returns c =
     let room = c .before .before .before .before .before .before .before .before .before .before .before .before .before .before .before .before .before .cost-room in
     values-called (now (a .file)) (now (a .beds)) (now (a .costs)) (now (a .result)) (room .result) (room .ensures)
     (λ long. sheetFound (now (a .file)) (a .clinic) (entryAsks (askedBySheet (now (a .file)) (a .clinic) long))) (sheet-twelve (now (a .file)) (a .clinic))
-    (c .before .before .before .before .before .before .before .before .before .before .before .before .before .sheet .ensures) (c .before .before .before .before .before .sheet-values .ensures) _ (c .before .before .before .before .leave-rows .ensures)
+    (c .before .before .before .before .before .before .before .before .before .before .before .before .before .sheet .ensures) (c .before .before .before .before .before .before .before .before .sheet-values .ensures) _ (c .before .before .before .before .store-rows .ensures)
     ∙ sheet-call (now (a .file)) (now (a .beds)) (now (a .costs)) (now (a .result)) (a .clinic)
 
 pub rigbasen-sheet-spec : {M : Type 1} → statement M
@@ -72,7 +73,7 @@ rigbasen-sheet-spec =
     slice-aggregate-sheet
     sheet-requires
     sheet-values-requires
-    leave-rows-requires
+    store-rows-requires
     same-length
     same-length-2
     same-length-3

@@ -2,11 +2,11 @@ use borrow.Author.Needs.{needs}
 use denote.Ref.{now}
 use borrow.Author.Tests.{not-true, not-false}
 use Rattle.held_region.specs.Sound.{accepted-sound}
 use Rattle.region_answers.specs.Counts.{counts-few}
 use Rattle.region_answers.proofs.Areas.{asks-list}
-use Rattle.region_answers.proofs.Sheets.{sheeted-absent, sheeted-short, sheeted-nothing, asks-sheet, sheeted-rows}
-use Rattle.region_answers.proofs.clinic_sheet.sheet_loaded.Statement.{statement}
-use Rattle.region_answers.proofs.clinic_sheet.sheet_loaded.Tie as tie
+use Rattle.clinic_sheet.proofs.Sheets.{sheeted-absent, sheeted-short, sheeted-nothing, asks-sheet, sheeted-rows}
+use Rattle.clinic_sheet.proofs.sheet_loaded.Statement.{statement}
+use Rattle.clinic_sheet.proofs.sheet_loaded.Tie as tie
 
 clinic-patients-requires : tie.Need-clinic-patients-requires
 clinic-patients-requires c κs = accepted-sound _ _ (c .before .before .before .pre)

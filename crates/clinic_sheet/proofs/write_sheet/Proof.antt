@@ -1,9 +1,9 @@
 use borrow.Author.Needs.{needs}
 use denote.Ref.{now}
 use Rattle.row_sums.specs.Sums.{workPart}
-use Rattle.region_answers.proofs.Sheets.{writable-sheet, sheet-written}
-use Rattle.region_answers.proofs.clinic_sheet.write_sheet.Statement.{statement}
-use Rattle.region_answers.proofs.clinic_sheet.write_sheet.Tie as tie
+use Rattle.clinic_sheet.proofs.Sheets.{writable-sheet, sheet-written}
+use Rattle.clinic_sheet.proofs.write_sheet.Statement.{statement}
+use Rattle.clinic_sheet.proofs.write_sheet.Tie as tie
 
 sheet-rows-requires : tie.Need-sheet-rows-requires
 sheet-rows-requires c κs = search needs

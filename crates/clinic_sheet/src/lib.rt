@@ -1,7 +1,7 @@
-// The sheet of a clinic, over the region of an accepted file.
+// What sheet answers of the region of an accepted file.
 ghost use Rattle.held_region.specs.Meaning.{said};
 ghost use Rattle.theorems.specs.Accepted.{Accepted};
-ghost use Rattle.region_answers.specs.Sheets.{AsksSheet, SheetWritten, RegionSheeted};
+ghost use Rattle.clinic_sheet.specs.Sheets.{AsksSheet, SheetWritten, RegionSheeted};
 use answers::Sheeted;
 use held_region::Region;
 use patient_set::PatientSet;

@@ -3,9 +3,9 @@ use native.Mathlib.Omega.{arith}
 use borrow.Author.Tests.{lt-ltb, le-ltb}
 use Rattle.definitions.specs.Basics.{_/_}
 use Rattle.definitions.specs.Limits.{limits, plansWanted}
-use Rattle.planner_c.specs.Room.{costRoom}
-use Rattle.planner_c.proofs.cost_room.Statement.{statement}
-use Rattle.planner_c.proofs.cost_room.Tie as tie
+use Rattle.byte_areas.specs.Room.{costRoom}
+use Rattle.byte_areas.proofs.cost_room.Statement.{statement}
+use Rattle.byte_areas.proofs.cost_room.Tie as tie
 
 returns : tie.Need-returns
 unfolding costRoom

@@ -25,13 +25,13 @@ use Rattle.search.specs.Trees.{GivesRegion}
 use Rattle.sheets.specs.Sheets.{Given, Gives}
 use Rattle.answers.specs.declared.Sheeted.the-variants.{Absent, Short, Nothing, Rows}
 use Rattle.answers.specs.Answers.{sheetedOutcome}
 use Rattle.region_answers.specs.Found.{lastAsked, no-twelve, no-thirteen, no-refusal, outcomeWith, asked-outcome}
 use Rattle.theorems.specs.Clinics.{present-asked}
 use Rattle.region_answers.specs.Asked.{no-list, list-none, list-some}
-use Rattle.region_answers.specs.Sheets.{lateAsked, AsksSheet, SheetWritten, RegionSheeted, no-eleven, yes-eleven}
+use Rattle.clinic_sheet.specs.Sheets.{lateAsked, AsksSheet, SheetWritten, RegionSheeted, no-eleven, yes-eleven}
 use Rattle.region_answers.proofs.Areas.{question, all-long, narrow, written-out}
 use Rattle.region_answers.proofs.Lists.{most, found-count}
-use Rattle.region_answers.proofs.Clinics.{own-costs-small}
+use Rattle.clinic_sheet.proofs.Clinics.{own-costs-small}
 
 -- A sheet whose rows lie in the second part of the work area, as rows of k beds.
 module _ (h : Region) (store : List ℕ) {n set k count : ℕ} (beds costs work : List ℕ) {area : List ℕ} (asks : AsksSheet h store n set beds costs work) (wide : k ≡ length (members set))

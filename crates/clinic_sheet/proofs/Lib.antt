@@ -1,0 +1,2 @@
+pub mod Clinics
+pub mod Sheets
