@@ -27,7 +27,7 @@ use Rattle.answers.specs.declared.Sheeted.the-variants.{Absent, Short, Nothing,
 use Rattle.answers.specs.Answers.{sheetedOutcome}
 use Rattle.region_answers.specs.Found.{lastAsked, no-twelve, no-thirteen, no-refusal, outcomeWith, asked-outcome}
 use Rattle.theorems.specs.Clinics.{present-asked}
-use Rattle.region_answers.specs.Asked.{no-list, list-none, list-some}
+use Rattle.theorems.specs.PlanAllowed.{no-list, list-none, list-some}
 use Rattle.clinic_sheet.specs.Sheets.{lateAsked, AsksSheet, SheetWritten, RegionSheeted, no-eleven, yes-eleven}
 use Rattle.region_answers.proofs.Areas.{question, all-long, narrow, written-out}
 use Rattle.region_answers.proofs.Lists.{most, found-count}

@@ -8,3 +8,4 @@ pub mod Ancestors
 pub mod Sets
 pub mod Related
 pub mod Refusals
+pub mod Counts

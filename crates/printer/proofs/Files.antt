@@ -5,7 +5,7 @@ use Prim.Native.Nat.{_≤_}
 use borrow.Author.Tests.{le-leb, lt-leb}
 use Rattle.definitions.specs.Basics.{ℕ, zero, suc, _<_, true, List, [], _∷_, _++_, length, sets, text}
 use Rattle.definitions.specs.Spelling.{decimal, line}
-use Rattle.definitions.specs.Questions.{Asked, firstNo, regionOf, askedByCheck, askedByList, checkOf}
+use Rattle.definitions.specs.Questions.{Asked, firstNo, regionOf, askedByCheck, askedByList, checkOf, planAllowed}
 use Rattle.definitions.specs.Output.{printedAnswer, printed}
 use Rattle.held_region.specs.declared.Judged.{Judged}
 use Rattle.held_region.specs.declared.Judged.the-variants.{Fine, Refused}
@@ -14,9 +14,8 @@ use Rattle.reader.specs.declared.Loaded.{Loaded}
 use Rattle.reader.specs.Loading.{LoadedFrom, checks}
 use Rattle.theorems.specs.Refusals.{after-check}
 use Rattle.theorems.specs.Refused.{refused-alike}
-use Rattle.region_answers.specs.Later.{refusal-number}
-use Rattle.planner.specs.Loaded.{region-fine}
-use Rattle.region_answers.specs.Found.{lastAsked}
+use Rattle.answers.specs.Numbers.{refusal-number}
+use Rattle.reader.specs.Fine.{region-fine}
 use Rattle.text_writer.specs.Wrote.{Room, Wrote}
 use Rattle.row_printer.specs.Whole.{printed-size}
 use Rattle.printer.specs.Printing.{PrintOutcome, printOutcome}
@@ -71,7 +70,7 @@ module _ (file out : List ℕ) where
 
       region-said : printed file ≡ regionText (regionOf file)
       unfolding printed askedByList regionText
-      region-said = ap (λ n. printedAnswer n (regionOf file)) (after-check file (lastAsked (regionOf file) true) checked)
+      region-said = ap (λ n. printedAnswer n (regionOf file)) (after-check file ((12, true) ∷ (13, planAllowed (regionOf file)) ∷ []) checked)
 
       pub asks-text : (work : List ℕ) → 1_152 ≤ length work → AsksText (loaded .region) store out work
       asks-text work enough = record {

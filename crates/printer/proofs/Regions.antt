@@ -14,8 +14,8 @@ use Rattle.row_list.specs.Laws.{unpadded-long}
 use Rattle.row_sums.specs.Sums.{workPart}
 use Rattle.row_sums.specs.Areas.{part-long}
 use Rattle.search.specs.Trees.{GivesRegion}
-use Rattle.region_answers.specs.Counts.{counts-few}
-use Rattle.region_answers.specs.Asked.{list-none, list-some}
+use Rattle.held_region.specs.Counts.{counts-few}
+use Rattle.theorems.specs.PlanAllowed.{list-none, list-some}
 use Rattle.text_writer.specs.Wrote.{Room, Wrote, Left, none-yet, room-for, then-left, none-left}
 use Rattle.row_printer.specs.Printing.{Printable}
 use Rattle.printer.specs.Steps.{sheetsFrom, regionText, AsksText, AsksSheets, GivesSheets, GivesText}

@@ -21,8 +21,8 @@ use Rattle.row_writer.specs.Writing.{longEnough, Writable, RowsWritten}
 use Rattle.search.specs.Trees.{GivesRegion}
 use Rattle.answers.specs.declared.Listed.the-variants.{Short, Nothing, Rows}
 use Rattle.answers.specs.Answers.{listedOutcome}
-use Rattle.region_answers.specs.Counts.{counts-few}
-use Rattle.region_answers.specs.Asked.{no-list, list-none, list-some}
+use Rattle.held_region.specs.Counts.{counts-few}
+use Rattle.theorems.specs.PlanAllowed.{no-list, list-none, list-some}
 use Rattle.region_answers.specs.Found.{lastAsked, no-twelve, no-thirteen, no-refusal, asked-outcome}
 use Rattle.region_answers.specs.Lists.{RegionListed}
 use Rattle.region_answers.proofs.Areas.{question, all-long, rows-counted, narrow, written-out}

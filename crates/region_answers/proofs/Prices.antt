@@ -19,7 +19,7 @@ use Rattle.pricing.specs.Pricing.{costIn, AsksAll, GivesAll, PlanAsked}
 use Rattle.answers.specs.declared.Priced.{Priced}
 use Rattle.answers.specs.declared.Priced.the-variants.{Misfit}
 use Rattle.answers.specs.Answers.{pricedOutcome}
-use Rattle.region_answers.specs.Counts.{counts-few}
+use Rattle.held_region.specs.Counts.{counts-few}
 use Rattle.region_answers.specs.Prices.{RegionPriced, fitting}
 
 module _ (h : Region) (store : List ℕ) {words terms : List ℕ} (plan : List ℕ) (pre : Accepted (said h store))

@@ -11,7 +11,7 @@ use Rattle.held_region.specs.declared.Refusal.{Refusal}
 use Rattle.held_region.specs.declared.Refusal.the-variants.{TooLong, Layout, Counts, Sum, Limits, Patients, Members, EntryCounts, Entries, Ancestors}
 use Rattle.theorems.specs.Refusals.{after-check, refused-before}
 use Rattle.answers.specs.Answers.{refusalNumber}
-use Rattle.region_answers.specs.Later.{refusal-number}
+use Rattle.answers.specs.Numbers.{refusal-number}
 
 -- Questions 12 and 13; the answer to 12 is handed in.
 abbrev pub lastAsked : Region → Bool → Asked

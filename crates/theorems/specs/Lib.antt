@@ -25,3 +25,4 @@ pub mod Yields
 pub mod SheetAreas
 pub mod Agreement
 pub mod IsolationExamples
+pub mod PlanAllowed

@@ -2,7 +2,7 @@ use borrow.Author.Needs.{needs}
 use denote.Ref.{now}
 use borrow.Author.Tests.{not-true, not-false}
 use Rattle.held_region.specs.Sound.{accepted-sound}
-use Rattle.region_answers.specs.Counts.{counts-few}
+use Rattle.held_region.specs.Counts.{counts-few}
 use Rattle.region_answers.proofs.Areas.{asks-list}
 use Rattle.clinic_sheet.proofs.Sheets.{sheeted-absent, sheeted-short, sheeted-nothing, asks-sheet, sheeted-rows}
 use Rattle.clinic_sheet.proofs.sheet_loaded.Statement.{statement}

@@ -7,7 +7,7 @@ use borrow.Author.Needs.{needs}
 use mathlib.Core.Path.{ap, sym, _∙_}
 use denote.Ref.{now}
 use Rattle.answers.specs.Answers.{checkedNumber}
-use Rattle.planner.specs.Loaded.{accepted-fine, region-fine}
+use Rattle.reader.specs.Fine.{accepted-fine, region-fine}
 use Rattle.region_answers.specs.Found.{refused-entry, accepted-entry}
 use Rattle.region_answers.specs.Lists.{list-outcome}
 use Rattle.planner.proofs.list.Statement.{statement}

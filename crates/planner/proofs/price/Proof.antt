@@ -6,8 +6,8 @@ use Rattle.definitions.specs.Basics.{[], _∷_}
 use Rattle.definitions.specs.Questions.{regionOf, planFits, askedByPrice}
 use Rattle.definitions.specs.Outcomes.{priceOutcome}
 use Rattle.answers.specs.Answers.{checkedNumber, notAllowed}
-use Rattle.region_answers.specs.Later.{refusal-number}
-use Rattle.planner.specs.Loaded.{accepted-fine, region-fine}
+use Rattle.answers.specs.Numbers.{refusal-number}
+use Rattle.reader.specs.Fine.{accepted-fine, region-fine}
 use Rattle.region_answers.specs.Prices.{regionPrice, price-accepted, price-not-accepted}
 use Rattle.planner.proofs.price.Statement.{statement}
 use Rattle.planner.proofs.price.Tie as tie

@@ -1,7 +1,7 @@
 use borrow.Author.Needs.{needs}
 use denote.Ref.{now}
 use borrow.Author.Tests.{not-true, not-false}
-use Rattle.region_answers.specs.Counts.{counts-few}
+use Rattle.held_region.specs.Counts.{counts-few}
 use Rattle.region_answers.proofs.Areas.{asks-list}
 use Rattle.region_answers.proofs.Lists.{listed-short, writable, listed-nothing, listed-rows}
 use Rattle.region_answers.proofs.list_loaded.Statement.{statement}

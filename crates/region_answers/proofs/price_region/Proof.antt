@@ -5,7 +5,7 @@ use denote.Ref.{now}
 use Rattle.definitions.specs.Outcomes.{priced}
 use Rattle.pricing.specs.Pricing.{costIn}
 use Rattle.answers.specs.declared.Priced.the-variants.{Forbidden, Allowed}
-use Rattle.region_answers.specs.Counts.{counts-few}
+use Rattle.held_region.specs.Counts.{counts-few}
 use Rattle.region_answers.proofs.Prices.{misfit-priced, plan-short, asks-all, fit-priced}
 use Rattle.region_answers.proofs.price_region.Statement.{statement}
 use Rattle.region_answers.proofs.price_region.Tie as tie
