@@ -3,9 +3,9 @@ use mathlib.Core.Path.{_≡_, refl, sym, ap, _∙_}
 use native.Mathlib.Omega.{arith}
 use Prim.Native.Nat.{_≤_}
 use borrow.Author.Tests.{le-leb, lt-leb}
-use Rattle.definitions.specs.Basics.{ℕ, zero, suc, _<_, true, List, [], _∷_, _++_, length, sets, text}
+use Rattle.definitions.specs.Basics.{ℕ, zero, suc, _<_, true, List, [], _∷_, length, sets, text}
 use Rattle.definitions.specs.Spelling.{decimal, line}
-use Rattle.definitions.specs.Questions.{Asked, firstNo, regionOf, askedByCheck, askedByList, checkOf, planAllowed}
+use Rattle.definitions.specs.Questions.{regionOf, askedByList, checkOf, planAllowed}
 use Rattle.definitions.specs.Output.{printedAnswer, printed}
 use Rattle.held_region.specs.declared.Judged.{Judged}
 use Rattle.held_region.specs.declared.Judged.the-variants.{Fine, Refused}
