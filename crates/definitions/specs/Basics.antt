@@ -9,7 +9,7 @@ unfoldable pub use mathlib.Core.Option.{bind, orElse, Option·elim}
 pub use mathlib.Core.List.{List, [], _∷_, _++_, map, dropLast}
 unfoldable pub use mathlib.Core.List.{flatten, flatMap, filterMap}
 pub use lib.Dec.{leb, ltb, eqb}
-pub use lib.ListN.{length, getD, take, replicate}
+pub use lib.ListN.{length, getD, take, drop, replicate}
 pub use lib.Seq.{sets}
 
 -- The bytes of a text.

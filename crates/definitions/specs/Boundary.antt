@@ -1,8 +1,11 @@
--- The four calls from C: only numbers and byte areas. Each cost, and each result number beyond the first, is eight bytes.
-use Rattle.definitions.specs.Basics.{ℕ, zero, suc, _*_, _/_, _%_, Bool, cond, List, [], _∷_, length, leb}
+-- The calls from C: only numbers and byte areas. Each cost, and each result number beyond the first, is eight bytes.
+use Rattle.definitions.specs.Basics.{ℕ, zero, suc, _+_, _-_, _*_, _/_, _%_, _^_, Bool, _&&_, cond, Option, none, some, List, [], _∷_}
+use Rattle.definitions.specs.Basics.{map, length, take, drop, eqb, leb, below, sum}
+use Rattle.definitions.specs.Syntax.{Patient, Table, Region}
 use Rattle.definitions.specs.Plans.{Plan}
-use Rattle.definitions.specs.Questions.{callAsks, regionOf, roomForRows, checkOf, askedByList, askedBySheet, askedByPrice}
+use Rattle.definitions.specs.Questions.{Asks, callAsks, regionOf, roomForRows, checkOf, askedByList, askedBySheet, askedByPrice}
 use Rattle.definitions.specs.Outcomes.{Found, listFound, sheetFound, written, bedsAfter, costsAfter, PriceOutcome, priceFound}
+use Rattle.definitions.specs.Writer.{regionFrom, writtenFile, askedByWrite, Made, madeBy, outputAfter}
 
 -- A number in so many bytes, lowest byte first.
 abbrev pub bytesOf : ℕ → ℕ → List ℕ
@@ -56,3 +59,75 @@ priceCallOf p result = record { number = p .number; result = resultAfter (cond (
 
 unfoldable pub priceCall : List ℕ → Plan → List ℕ → PriceCall
 priceCall file plan result = priceCallOf (priceFound file plan (callAsks (askedByPrice file plan) (roomForNumbers 2 result))) result
+
+-- ---- the writer's call (#101)
+
+-- The number that bytes make, lowest byte first; number i of an area, and the same where the largest stands for none.
+abbrev pub valueOf : List ℕ → ℕ
+valueOf [] = 0
+valueOf (b ∷ bs) = b + 256 * valueOf bs
+
+abbrev pub numberAt : List ℕ → ℕ → ℕ
+numberAt area i = valueOf (take 8 (drop (i * 8) area))
+
+abbrev pub optionAt : List ℕ → ℕ → Option ℕ
+optionAt area i = let n = numberAt area i in cond (eqb n (2 ^ 64 - 1)) none (some n)
+
+-- A region is lent in three areas of such numbers. A patient is three: clinic, count of beds, parent or none.
+abbrev pub lentPatient : List ℕ → ℕ → Patient
+lentPatient patients s = record { clinic = numberAt patients (s * 3); bedCount = numberAt patients (s * 3 + 1); parent = optionAt patients (s * 3 + 2) }
+
+unfoldable pub lentPatients : List ℕ → List Patient
+lentPatients patients = map (lentPatient patients) (below (length patients / 24))
+
+-- A table is six: the count of members, four members, the count of entries. (A fifth member has no place, and question 7 refuses its count.)
+abbrev pub lentTableCount : List ℕ → ℕ
+lentTableCount tables = length tables / 48
+
+abbrev pub lentMembers : List ℕ → ℕ → List ℕ
+lentMembers tables i = map (λ j. numberAt tables (i * 6 + suc j)) (below (numberAt tables (i * 6)))
+
+abbrev pub lentEntryCount : List ℕ → ℕ → ℕ
+lentEntryCount tables i = numberAt tables (i * 6 + 5)
+
+-- How many entries the first tables have.
+abbrev pub lentEntriesBefore : List ℕ → ℕ → ℕ
+lentEntriesBefore tables i = sum (map (lentEntryCount tables) (below i))
+
+-- An entry is one number or none; the entries of a table begin where those of the table before it end.
+abbrev pub lentTable : List ℕ → List ℕ → ℕ → Table
+lentTable tables entries i = record {
+  members = lentMembers tables i;
+  entries = map (λ j. optionAt entries (lentEntriesBefore tables i + j)) (below (lentEntryCount tables i));
+}
+
+unfoldable pub lentTables : List ℕ → List ℕ → List Table
+lentTables tables entries = map (lentTable tables entries) (below (lentTableCount tables))
+
+unfoldable pub lentRegion : List ℕ → List ℕ → List ℕ → ℕ → Region
+lentRegion patients tables entries m = regionFrom m (lentPatients patients) (lentTables tables entries)
+
+-- 2, of lent areas: are there whole patients, whole tables, and as many entries as the tables count?
+unfoldable pub lentWhole : List ℕ → List ℕ → List ℕ → Bool
+lentWhole patients tables entries =
+    eqb (length patients % 24) 0 && eqb (length tables % 48) 0 && eqb (length entries) (lentEntriesBefore tables (lentTableCount tables) * 8)
+
+-- The call asks 2, then what the writer asks.
+unfoldable pub askedByLentWrite : List ℕ → List ℕ → List ℕ → ℕ → List ℕ → Asks
+askedByLentWrite patients tables entries m output =
+    let asks = askedByWrite (lentRegion patients tables entries m) output in
+    record { first = (2, lentWhole patients tables entries) ∷ asks .first; later = asks .later }
+
+-- What a writer's call gives back: the number, the output area, and the result area, which holds the byte count.
+pub record WriteCall : Type 0 where
+  pub number : ℕ
+  pub output : List ℕ
+  pub result : List ℕ
+
+unfoldable pub writeCallOf : Made → List ℕ → List ℕ → WriteCall
+writeCallOf made output result = record { number = made .number; output = outputAfter made output; result = resultAfter (length (made .bytes) ∷ []) result }
+
+unfoldable pub writeCall : List ℕ → List ℕ → List ℕ → ℕ → List ℕ → List ℕ → WriteCall
+writeCall patients tables entries m output result =
+    let asks = askedByLentWrite patients tables entries m output in
+    writeCallOf (madeBy (callAsks asks (roomForNumbers 1 result)) (writtenFile (lentRegion patients tables entries m))) output result

@@ -11,10 +11,12 @@ use Rattle.definitions.specs.Questions.{areasLongEnough, planAllowed, pl
 use Rattle.definitions.specs.Sheets.{part, ownTables, ownCost, ownRow, sheetOf}
 use Rattle.definitions.specs.Isolation.{tablesAmong, timesIn, joins}
 use Rattle.definitions.specs.Outcomes.{listFound, sheetFound, outcomeOf, listOutcome, sheetOutcome, priceFound, priceOutcome}
+use Rattle.definitions.specs.Writer.{regionFrom, asHeld, writtenFile, roomForFile, askedByWrite, writeOutcomeOf, writeOutcome}
 use Rattle.definitions.specs.Boundary.{resultAfter, callOf, listCall, sheetCall, priceCallOf, priceCall}
+use Rattle.definitions.specs.Boundary.{lentPatients, lentTables, lentRegion, lentWhole, askedByLentWrite, writeCallOf, writeCall}
 use Rattle.definitions.specs.Output.{printedRow, printedRows, clinicsPresent, printed}
 
--- The file and its spelling; plans and questions; sheets, what the entries give and what is printed.
+-- The file and its spelling; plans and questions; sheets, what the entries give and what is printed; what the requests add.
 unfoldable pub readers : Unit {0}
 unfolding bind orElse flatten flatMap filterMap limits within patientAt patientsOf number hyphenOrNumber items regionLine patientLine tableLine endLine regionLines layout digitsWithin spellPatient spellTable spellBody spell wellFormed
 readers = tt
@@ -27,6 +29,10 @@ unfoldable pub answers : Unit {0}
 unfolding part ownTables ownCost ownRow sheetOf tablesAmong timesIn joins listFound sheetFound outcomeOf listOutcome sheetOutcome priceFound priceOutcome resultAfter callOf listCall sheetCall priceCallOf priceCall printedRow printedRows clinicsPresent printed
 answers = tt
 
+unfoldable pub requested : Unit {0}
+unfolding regionFrom asHeld writtenFile roomForFile askedByWrite writeOutcomeOf writeOutcome lentPatients lentTables lentRegion lentWhole askedByLentWrite writeCallOf writeCall
+requested = tt
+
 unfoldable pub everything : Unit {0}
-unfolding readers questions answers
+unfolding readers questions answers requested
 everything = tt

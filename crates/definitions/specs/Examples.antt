@@ -2,10 +2,11 @@
 use Prim.Native.String.{String}
 use Rattle.definitions.specs.Basics.{ℕ, _-_, _≡_, refl, Option, none, some, List, [], _∷_, _++_, map, flatMap, length, replicate, text}
 use Rattle.definitions.specs.Syntax.{Patient, Table, Region}
-use Rattle.definitions.specs.Spelling.{spellBody, spell}
+use Rattle.definitions.specs.Spelling.{spell}
 use Rattle.definitions.specs.Plans.{Row}
-use Rattle.definitions.specs.Questions.{checksum, workSize, checkOf}
+use Rattle.definitions.specs.Questions.{workSize, checkOf}
 use Rattle.definitions.specs.Outcomes.{ListOutcome, listOutcome, sheetOutcome}
+use Rattle.definitions.specs.Writer.{regionFrom}
 use Rattle.definitions.specs.Output.{printed}
 use Rattle.definitions.specs.Computing.{everything}
 
@@ -29,7 +30,7 @@ region m ps ts n = record { patientCount = length ps; tableCount = length ts; pl
 
 -- The file of m, patients and tables, with the true counts and the true sum.
 abbrev pub fileOf : ℕ → List Patient → List Table → List ℕ
-fileOf m ps ts = spell (region m ps ts (checksum (spellBody (region m ps ts 0))))
+fileOf m ps ts = spell (regionFrom m ps ts)
 
 abbrev pub row : ℕ → List ℕ → Row
 row cost beds = record { cost = cost; beds = beds }

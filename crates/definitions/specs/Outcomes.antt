@@ -12,13 +12,13 @@ pub record Found : Type 0 where
   pub width : ℕ
   pub rows : List Row
 
--- A refusal hands back no rows.
-abbrev pub rowsUnlessRefused : ℕ → List Row → List Row
-rowsUnlessRefused zero rows = rows
-rowsUnlessRefused (suc q) rows = []
+-- A refusal hands back nothing.
+abbrev pub unlessRefused : {A : Type 0} → ℕ → List A → List A
+unlessRefused zero result = result
+unlessRefused (suc q) result = []
 
 abbrev pub foundBy : Asked → ℕ → List Row → Found
-foundBy asked width rows = record { number = firstNo asked; width = width; rows = rowsUnlessRefused (firstNo asked) rows }
+foundBy asked width rows = record { number = firstNo asked; width = width; rows = unlessRefused (firstNo asked) rows }
 
 -- List has rows of V beds, sheet as many as the clinic has patients. What is asked is handed in, since a call from C asks more.
 unfoldable pub listFound : List ℕ → Asked → Found

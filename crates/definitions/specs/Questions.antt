@@ -103,12 +103,17 @@ firstNo [] = 0
 firstNo ((q, true) ∷ rest) = firstNo rest
 firstNo ((q, false) ∷ rest) = q
 
--- Questions 1 to 10, which every entry asks first. Check asks no others and gives the number alone.
+-- Questions 5 to 10, which are put to what a file says.
+abbrev pub askedOfRegion : Region → Asked
+askedOfRegion r =
+    (5, countsWithin r) ∷ (6, patientsWithin r && parentsSmaller r) ∷ (7, membersRight r) ∷ (8, entryCountsRight r) ∷ (9, entriesWithin r)
+    ∷ (10, membersRelated r) ∷ []
+
+-- Questions 1 to 10, which every entry over a file asks first. Check asks no others and gives the number alone.
 unfoldable pub askedByCheck : List ℕ → Asked
 askedByCheck file =
     let r = regionOf file in
-    (1, shortEnough file) ∷ (2, laidOut file) ∷ (3, countsTrue r) ∷ (4, sumTrue file r) ∷ (5, countsWithin r)
-    ∷ (6, patientsWithin r && parentsSmaller r) ∷ (7, membersRight r) ∷ (8, entryCountsRight r) ∷ (9, entriesWithin r) ∷ (10, membersRelated r) ∷ []
+    (1, shortEnough file) ∷ (2, laidOut file) ∷ (3, countsTrue r) ∷ (4, sumTrue file r) ∷ askedOfRegion r
 
 unfoldable pub checkOf : List ℕ → ℕ
 checkOf file = firstNo (askedByCheck file)

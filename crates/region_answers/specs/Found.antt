@@ -6,7 +6,7 @@ use Rattle.definitions.specs.Basics.{ℕ, zero, suc, _≡_, refl, Bool, true, f
 use Rattle.definitions.specs.Syntax.{Region}
 use Rattle.definitions.specs.Plans.{Row}
 use Rattle.definitions.specs.Questions.{Asked, firstNo, regionOf, askedByCheck, checkOf, planAllowed}
-use Rattle.definitions.specs.Outcomes.{Found, ListOutcome, rowsUnlessRefused, foundBy, outcomeOf}
+use Rattle.definitions.specs.Outcomes.{Found, ListOutcome, unlessRefused, foundBy, outcomeOf}
 use Rattle.held_region.specs.declared.Refusal.{Refusal}
 use Rattle.held_region.specs.declared.Refusal.the-variants.{TooLong, Layout, Counts, Sum, Limits, Patients, Members, EntryCounts, Entries, Ancestors}
 use Rattle.theorems.specs.Refusals.{after-check, refused-before}
@@ -19,7 +19,7 @@ lastAsked r long = (12, long) ∷ (13, planAllowed r) ∷ []
 
 -- What is found after a number: a refusal finds no rows.
 abbrev pub foundWith : ℕ → List Row → ℕ → Found
-foundWith width rows number = record { number = number; width = width; rows = rowsUnlessRefused number rows }
+foundWith width rows number = record { number = number; width = width; rows = unlessRefused number rows }
 
 -- The number, by the answers to 12 and 13.
 module _ (r : Region) {long : Bool} where
@@ -80,7 +80,7 @@ pub record AsksTwelve (file : List ℕ) (found : Bool → Found) : Type 0 where
   pub short : found false .rows ≡ []
 
 -- A refusal hands back no more rows than there are.
-unless-short : (n : ℕ) (rows : List Row) → length (rowsUnlessRefused n rows) ≤ length rows
+unless-short : (n : ℕ) (rows : List Row) → length (unlessRefused n rows) ≤ length rows
 unless-short zero rows = omega arith
 unless-short (suc n) rows = omega arith
 
@@ -98,6 +98,6 @@ asks-twelve file asked late same width rows few q refused =
     before : (p : ℕ) → checkOf file ≡ suc p → (long : Bool) → firstNo (asked long) ≡ suc p
     before p e long = ap firstNo (same long) ∙ refused-before file (late long) p e
 
-    go : (n : ℕ) → checkOf file ≡ n → rowsUnlessRefused (firstNo (asked false)) rows ≡ []
-    go zero e = ap (λ n. rowsUnlessRefused n rows) (ap firstNo (same false) ∙ after-check file (late false) e ∙ refused)
-    go (suc p) e = ap (λ n. rowsUnlessRefused n rows) (before p e false)
+    go : (n : ℕ) → checkOf file ≡ n → unlessRefused (firstNo (asked false)) rows ≡ []
+    go zero e = ap (λ n. unlessRefused n rows) (ap firstNo (same false) ∙ after-check file (late false) e ∙ refused)
+    go (suc p) e = ap (λ n. unlessRefused n rows) (before p e false)

@@ -10,7 +10,7 @@ use Rattle.definitions.specs.Plans.{Plan, Row, total, listOf}
 use Rattle.definitions.specs.Sheets.{sheetOf}
 use Rattle.definitions.specs.Questions.{Asked, firstNo, regionOf, roomForRows, areasLongEnough, askedByCheck, checkOf}
 use Rattle.definitions.specs.Questions.{Asks, entryAsks, callAsks, askedByList, askedBySheet, askedByPrice}
-use Rattle.definitions.specs.Outcomes.{Found, rowsUnlessRefused, listFound, sheetFound, written, workAfter}
+use Rattle.definitions.specs.Outcomes.{Found, unlessRefused, listFound, sheetFound, written, workAfter}
 use Rattle.definitions.specs.Outcomes.{ListOutcome, outcomeOf, listOutcome, sheetOutcome, PriceOutcome, priced, priceFound, priceOutcome}
 use Rattle.definitions.specs.Boundary.{bytesOf, roomForNumbers, resultAfter, ListCall, callOf, checkCall, listCall, sheetCall, priceCallOf, priceCall}
 use Rattle.definitions.specs.Isolation.{yieldNumber}
@@ -127,11 +127,11 @@ pub record WorkLeft (number : ℕ) (before after : List ℕ) : Type 0 where
 
 list-none : (file : List ℕ) (asked : Asked) (q : ℕ) → listFound file asked .number ≡ suc q → listFound file asked .rows ≡ []
 unfolding listFound
-list-none file asked q e = ap (λ (n : ℕ). rowsUnlessRefused n (listOf (regionOf file))) e
+list-none file asked q e = ap (λ (n : ℕ). unlessRefused n (listOf (regionOf file))) e
 
 sheet-none : (file : List ℕ) (c : ℕ) (asked : Asked) (q : ℕ) → sheetFound file c asked .number ≡ suc q → sheetFound file c asked .rows ≡ []
 unfolding sheetFound
-sheet-none file c asked q e = ap (λ (n : ℕ). rowsUnlessRefused n (sheetOf (regionOf file) c)) e
+sheet-none file c asked q e = ap (λ (n : ℕ). unlessRefused n (sheetOf (regionOf file) c)) e
 
 outcome-refused : (f : Found) (beds costs work : List ℕ) → f .rows ≡ [] → RowsRefused beds costs (outcomeOf f beds costs work)
 unfolding outcomeOf

@@ -14,7 +14,7 @@ use Rattle.definitions.specs.Plans.{Row, listOf}
 use Rattle.definitions.specs.Sheets.{sameBeds, part, ownRow, sheetOf}
 use Rattle.definitions.specs.Questions.{Asked, entryAsks, callAsks, regionOf, roomForRows, areasLongEnough, askedBySheet}
 use Rattle.definitions.specs.Isolation.{YieldsList}
-use Rattle.definitions.specs.Outcomes.{Found, rowsUnlessRefused, sheetFound, written, bedsAfter, costsAfter, outcomeOf, sheetOutcome}
+use Rattle.definitions.specs.Outcomes.{Found, unlessRefused, sheetFound, written, bedsAfter, costsAfter, outcomeOf, sheetOutcome}
 use Rattle.definitions.specs.Boundary.{bytesOf, roomForNumbers, resultAfter, callOf, sheetCall}
 use Rattle.lists.specs.Tests.{both}
 use Rattle.lists.specs.Members.{_∈_, here, there}
@@ -98,7 +98,7 @@ module _ (file : List ℕ) (c : ℕ) where
 
   found-rows : (asked : Asked) → found asked .number ≡ 0 → found asked .rows ≡ sheetOf region c
   unfolding sheetFound
-  found-rows asked e = ap (λ (n : ℕ). rowsUnlessRefused n (sheetOf region c)) e
+  found-rows asked e = ap (λ (n : ℕ). unlessRefused n (sheetOf region c)) e
 
   found-printed : (asked : Asked) (size : ℕ) (parts : ℕ → List ℕ) (beds costs : List ℕ) → ((n : ℕ) → length (parts n) ≡ size)
       → YieldsList file → roomForRows region size beds costs ≡ true → found asked .number ≡ 0

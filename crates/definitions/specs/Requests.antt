@@ -1,0 +1,118 @@
+-- For each landed request of document 02, in one statement: each of its numbers, each bound, and what a builder gets wrong.
+use Rattle.definitions.specs.Basics.{ℕ, _+_, _-_, _^_, _≡_, refl, Option, none, some, List, [], _∷_, _++_, map, flatMap, length, replicate}
+use Rattle.definitions.specs.Syntax.{Patient, Table, Region}
+use Rattle.definitions.specs.Layout.{layout}
+use Rattle.definitions.specs.Questions.{regionOf}
+use Rattle.definitions.specs.Writer.{writtenFile, WriteOutcome, writeOutcome}
+use Rattle.definitions.specs.Boundary.{bytesOf, WriteCall, writeCall}
+use Rattle.definitions.specs.Computing.{everything}
+use Rattle.definitions.specs.Examples.{paperFile, patient, table, region, lent}
+use Rattle.definitions.specs.Cases.{paperRegion, eight}
+
+-- ---- #101: the writer
+
+-- A region to write; its counts and its sum are not the writer's.
+abbrev toWrite : ℕ → List Patient → List Table → Region
+toWrite m ps ts = record { patientCount = 7; tableCount = 7; plansWanted = m; patients = ps; tables = ts; statedSum = 7 }
+
+abbrev wrote : List ℕ → ℕ → WriteOutcome
+wrote file beyond = record { number = 0; count = length file; output = file ++ lent beyond }
+
+-- The number for an area that is long enough.
+abbrev writeNumber : ℕ → List Patient → List Table → ℕ
+writeNumber m ps ts = writeOutcome (toWrite m ps ts) (lent 200) .number
+
+abbrev root : Patient
+root = patient 0 1 none
+
+-- Numbers in an area of eight bytes each; the one that stands for none.
+abbrev area : List ℕ → List ℕ
+area ns = flatMap (bytesOf 8) ns
+
+abbrev absent : ℕ
+absent = 2 ^ 64 - 1
+
+-- One patient with one bed, and a table with one entry over that patient, as they are lent.
+abbrev one : List ℕ
+one = 0 ∷ 1 ∷ absent ∷ []
+
+abbrev over : List ℕ
+over = 1 ∷ 0 ∷ 0 ∷ 0 ∷ 0 ∷ 1 ∷ []
+
+-- The paper's region, lent by a C program.
+abbrev lentPaper : List ℕ → List ℕ → WriteCall
+lentPaper output result =
+    writeCall (area (0 ∷ 2 ∷ absent ∷ 0 ∷ 2 ∷ 0 ∷ [])) (area (1 ∷ 0 ∷ 9 ∷ 9 ∷ 9 ∷ 2 ∷ 2 ∷ 0 ∷ 1 ∷ 9 ∷ 9 ∷ 4 ∷ [])) (area (3 ∷ 1 ∷ 0 ∷ 2 ∷ 1 ∷ absent ∷ [])) 3 output result
+
+-- The number of the call for areas that hold these numbers.
+abbrev callNumber : List ℕ → List ℕ → List ℕ → ℕ → ℕ
+callNumber ps ts es m = writeCall (area ps) (area ts) (area es) m (lent 200) (lent 8) .number
+
+pub record Saving : Type 0 where
+  pub paperWritten : writeOutcome paperRegion (lent 99) ≡ wrote paperFile 1
+  pub ownCounts : writeOutcome (toWrite 3 (paperRegion .patients) (paperRegion .tables)) (lent 99) ≡ wrote paperFile 1
+  pub readBack : layout (writtenFile (toWrite 3 (paperRegion .patients) (paperRegion .tables))) ≡ some paperRegion
+  pub writtenBack : writtenFile (regionOf paperFile) ≡ paperFile
+  pub justFits : writeOutcome paperRegion (lent 98) ≡ wrote paperFile 0
+  pub number15 : writeOutcome paperRegion (lent 97) ≡ record { number = 15; count = 0; output = lent 97 }
+  pub number5 : writeOutcome (toWrite 1 [] []) (lent 50) ≡ record { number = 5; count = 0; output = lent 50 }
+  pub noPlans : map (λ m. writeNumber m (root ∷ []) []) (0 ∷ 1 ∷ 64 ∷ 65 ∷ []) ≡ 5 ∷ 0 ∷ 0 ∷ 5 ∷ []
+  pub number6 : map (λ p. writeNumber 1 (p ∷ []) []) (patient 16 1 none ∷ patient 0 17 none ∷ patient 0 1 (some 0) ∷ []) ≡ 6 ∷ 6 ∷ 6 ∷ []
+  pub number7 : map (λ ms. writeNumber 1 (root ∷ []) (table ms (some 0 ∷ []) ∷ [])) ([] ∷ (1 ∷ []) ∷ (0 ∷ 0 ∷ 0 ∷ 0 ∷ 0 ∷ []) ∷ []) ≡ 7 ∷ 7 ∷ 7 ∷ []
+  pub number8 : map (λ es. writeNumber 1 (root ∷ []) (table (0 ∷ []) es ∷ [])) ([] ∷ (some 0 ∷ []) ∷ (some 0 ∷ some 0 ∷ []) ∷ []) ≡ 8 ∷ 0 ∷ 8 ∷ []
+  pub number9 : map (λ e. writeNumber 1 (root ∷ []) (table (0 ∷ []) (e ∷ []) ∷ [])) (some 1_000_000 ∷ some 1_000_001 ∷ some 0xffff_ffff ∷ none ∷ []) ≡ 0 ∷ 9 ∷ 9 ∷ 0 ∷ []
+  pub number10 : writeNumber 1 (root ∷ root ∷ []) (table (0 ∷ 1 ∷ []) (some 0 ∷ []) ∷ []) ≡ 10
+  pub tenFirst : writeOutcome (toWrite 1 (root ∷ root ∷ []) (table (0 ∷ 1 ∷ []) (some 0 ∷ []) ∷ [])) [] .number ≡ 10
+  pub called : lentPaper (lent 99) (lent 9) ≡ record { number = 0; output = paperFile ++ lent 1; result = eight 98 ++ lent 1 }
+  pub calledShort : lentPaper (lent 97) (lent 9) ≡ record { number = 15; output = lent 97; result = eight 0 ++ lent 1 }
+  pub calledShortResult : lentPaper (lent 97) (lent 7) ≡ record { number = 12; output = lent 97; result = lent 7 }
+  pub calledTwoFirst : callNumber (0 ∷ 1 ∷ []) [] [] 0 ≡ 2
+  pub calledTenFirst : writeCall (area (one ++ one)) (area (2 ∷ 0 ∷ 1 ∷ 0 ∷ 0 ∷ 1 ∷ [])) (area (0 ∷ [])) 1 [] [] .number ≡ 10
+  pub wholePatients : map (λ extra. writeCall (area one ++ lent extra) [] [] 1 (lent 200) (lent 8) .number) (0 ∷ 1 ∷ 8 ∷ 16 ∷ []) ≡ 0 ∷ 2 ∷ 2 ∷ 2 ∷ []
+  pub wholeTables : map (λ extra. writeCall (area one) (lent extra) [] 1 (lent 200) (lent 8) .number) (0 ∷ 1 ∷ 8 ∷ 40 ∷ []) ≡ 0 ∷ 2 ∷ 2 ∷ 2 ∷ []
+  pub wholeEntries : map (λ extra. writeCall (area one) (area over) (area (5 ∷ []) ++ lent extra) 1 (lent 200) (lent 8) .number) (0 ∷ 1 ∷ 8 ∷ []) ≡ 0 ∷ 2 ∷ 2 ∷ []
+  pub noEntries : callNumber one over [] 1 ≡ 2
+  pub countsDoNotWrap : callNumber one (1 ∷ 0 ∷ 0 ∷ 0 ∷ 0 ∷ (2 ^ 63) ∷ 1 ∷ 0 ∷ 0 ∷ 0 ∷ 0 ∷ (2 ^ 63) ∷ []) [] 1 ≡ 2
+  pub fiveMembers : callNumber one (5 ∷ 0 ∷ 0 ∷ 0 ∷ 0 ∷ 1 ∷ []) (5 ∷ []) 1 ≡ 7
+  pub largePlans : map (callNumber one [] []) ((2 ^ 32 + 1) ∷ absent ∷ []) ≡ 5 ∷ 5 ∷ []
+  pub largeClinic : map (λ n. callNumber (n ∷ 1 ∷ absent ∷ []) [] [] 1) ((2 ^ 32) ∷ absent ∷ []) ≡ 6 ∷ 6 ∷ []
+  pub largeBedCount : map (λ n. callNumber (0 ∷ n ∷ absent ∷ []) [] [] 1) ((2 ^ 32 + 1) ∷ absent ∷ []) ≡ 6 ∷ 6 ∷ []
+  pub largeParent : map (λ n. callNumber (one ++ 0 ∷ 1 ∷ n ∷ []) [] [] 1) (0 ∷ (2 ^ 32 - 1) ∷ (2 ^ 32) ∷ (absent - 1) ∷ absent ∷ []) ≡ 0 ∷ 6 ∷ 6 ∷ 6 ∷ 0 ∷ []
+  pub largeMember : map (λ n. callNumber one (1 ∷ n ∷ 0 ∷ 0 ∷ 0 ∷ 1 ∷ []) (5 ∷ []) 1) (0 ∷ (2 ^ 32) ∷ absent ∷ []) ≡ 0 ∷ 7 ∷ 7 ∷ []
+  pub largeEntry : map (λ n. callNumber one over (n ∷ []) 1) ((2 ^ 32 - 1) ∷ (2 ^ 32) ∷ (absent - 1) ∷ absent ∷ []) ≡ 9 ∷ 9 ∷ 9 ∷ 0 ∷ []
+
+pub saving : Saving
+unfolding everything lent
+saving = record {
+  paperWritten = refl;
+  ownCounts = refl;
+  readBack = refl;
+  writtenBack = refl;
+  justFits = refl;
+  number15 = refl;
+  number5 = refl;
+  noPlans = refl;
+  number6 = refl;
+  number7 = refl;
+  number8 = refl;
+  number9 = refl;
+  number10 = refl;
+  tenFirst = refl;
+  called = refl;
+  calledShort = refl;
+  calledShortResult = refl;
+  calledTwoFirst = refl;
+  calledTenFirst = refl;
+  wholePatients = refl;
+  wholeTables = refl;
+  wholeEntries = refl;
+  noEntries = refl;
+  countsDoNotWrap = refl;
+  fiveMembers = refl;
+  largePlans = refl;
+  largeClinic = refl;
+  largeBedCount = refl;
+  largeParent = refl;
+  largeMember = refl;
+  largeEntry = refl;
+}
