@@ -5,7 +5,7 @@ use native.Mathlib.Omega.{arith}
 use Prim.Native.Nat.{_≤_}
 use lib.ListN.{drop}
 use lib.Seq.{sets-eq}
-use borrow.Author.Tests.{lt-ltb, le-leb, leb-true, eqb-true, eq-eqb}
+use borrow.Author.Tests.{lt-ltb, ltb-true, le-leb, leb-true, eqb-true, eq-eqb}
 use Rattle.definitions.specs.Basics.{ℕ, suc, _+_, _%_, _^_, _<_, Bool, true, _&&_, not, Option, none, some, noneOr, Option·getD, List, [], _∷_, _++_, length}
 use Rattle.definitions.specs.Basics.{map, flatten, dropLast, leb, eqb, every, isEmpty, isSome, sets, sum}
 use Rattle.definitions.specs.Limits.{Field, fileLength, digitCount, patientCount, tableCount, plansWanted, clinic, bedCount, entry, limits, within}
@@ -56,8 +56,9 @@ passes-accepted r well = asked-accepted (asHeld r) (held-counts r) (says (askedO
 
 -- ---- what passes questions 5 to 10 can be spelled
 
-spellable-below : (n : ℕ) → n < 10 ^ limits digitCount .highest → spellable n ≡ true
-spellable-below n h = lt-ltb n (10 ^ limits digitCount .highest) h
+-- A number that is no higher than a field's highest, where that can be spelled.
+spellable-most : (field : Field) → spellable (limits field .highest) ≡ true → (n : ℕ) → n ≤ limits field .highest → spellable n ≡ true
+spellable-most field most n h = lt-ltb n _ (omega (arith, ltb-true (limits field .highest) _ most))
 
 none-or : {test : ℕ → Bool} (o : Option ℕ) → ((n : ℕ) → o ≡ some n → test n ≡ true) → noneOr test o ≡ true
 none-or none each = refl
@@ -68,42 +69,40 @@ filled [] h = absurd (omega arith)
 filled (x ∷ l) h = refl
 
 module _ (r : Region) (a : Accepted r) where
-  counts-spellable : every spellable (r .patientCount ∷ r .tableCount ∷ r .plansWanted ∷ []) ≡ true
+  -- A patient's number is below V.
+  known-spellable : (s : ℕ) → s < length (r .patients) → spellable s ≡ true
   unfolding limits
-  counts-spellable =
-      let (v, t, m) = counts-within r a in
-      join (spellable-below (r .patientCount) (omega (arith, at-most patientCount (r .patientCount) v)))
-      (join (spellable-below (r .tableCount) (omega (arith, at-most tableCount (r .tableCount) t)))
-      (join (spellable-below (r .plansWanted) (omega (arith, at-most plansWanted (r .plansWanted) m))) refl))
+  known-spellable s h = spellable-most patientCount refl s (omega (arith, patients-few r a))
 
   patient-spellable : (p : Patient) → p ∈ r .patients → (spellable (p .clinic) && spellable (p .bedCount) && noneOr spellable (p .parent)) ≡ true
   unfolding patientsWithin limits
   patient-spellable p k =
       let (c, d) = both (within clinic (p .clinic)) (every-in _ (r .patients) (a .patientsFit) k) in
-      join (join (spellable-below (p .clinic) (omega (arith, at-most clinic (p .clinic) c))) (spellable-below (p .bedCount) (omega (arith, at-most bedCount (p .bedCount) d))))
-      (none-or (p .parent) (λ q e. spellable-below q (omega (arith, parent-known r a k q e, patients-few r a))))
+      join (join (spellable-most clinic refl (p .clinic) (at-most clinic (p .clinic) c)) (spellable-most bedCount refl (p .bedCount) (at-most bedCount (p .bedCount) d)))
+      (none-or (p .parent) (λ q e. known-spellable q (parent-known r a k q e)))
 
   members-spellable : (t : Table) → t ∈ r .tables → (not (isEmpty (t .members)) && every spellable (t .members)) ≡ true
-  unfolding limits
   members-spellable t k =
       let right = table-right r a k in
-      join (filled (t .members) (right .some)) (every-all spellable (t .members) (λ s i. spellable-below s (omega (arith, right .known i, patients-few r a))))
+      join (filled (t .members) (right .some)) (every-all spellable (t .members) (λ s i. known-spellable s (right .known i)))
 
   entries-spellable : (t : Table) → t ∈ r .tables → (not (isEmpty (t .entries)) && every (noneOr spellable) (t .entries)) ≡ true
   unfolding limits
   entries-spellable t k =
       join (filled (t .entries) (entries-some r a k))
-      (every-all (noneOr spellable) (t .entries) (λ o i. none-or o (λ n e. spellable-below n (omega (arith, at-most entry n (ap (noneOr (within entry)) (sym e) ∙ every-in _ (t .entries) (table-right r a k .within) i))))))
+      (every-all (noneOr spellable) (t .entries) (λ o i. none-or o (λ n e.
+      spellable-most entry refl n (at-most entry n (ap (noneOr (within entry)) (sym e) ∙ every-in _ (t .entries) (table-right r a k .within) i)))))
 
-  formed : r .statedSum ≤ 65_520 → wellFormed r ≡ true
+  formed : spellable (r .statedSum) ≡ true → wellFormed r ≡ true
   unfolding wellFormed limits
-  formed few =
-      let counts = counts-spellable in
-      let (v, rest) = both (spellable (r .patientCount)) counts in
-      let (t, last) = both (spellable (r .tableCount)) rest in
-      let (m, tail) = both (spellable (r .plansWanted)) last in
-      join (join (join (join v (join t (join m (join (spellable-below (r .statedSum) (omega arith)) refl)))) (every-all _ (r .patients) patient-spellable))
-      (every-all _ (r .tables) members-spellable)) (every-all _ (r .tables) entries-spellable)
+  formed sum =
+      let (v, t, m) = counts-within r a in
+      let counts =
+          join (spellable-most patientCount refl (r .patientCount) (at-most patientCount (r .patientCount) v))
+          (join (spellable-most tableCount refl (r .tableCount) (at-most tableCount (r .tableCount) t))
+          (join (spellable-most plansWanted refl (r .plansWanted) (at-most plansWanted (r .plansWanted) m)) (join sum refl)))
+      in
+      join (join (join counts (every-all _ (r .patients) patient-spellable)) (every-all _ (r .tables) members-spellable)) (every-all _ (r .tables) entries-spellable)
 
 -- ---- a region that passes questions 5 to 10
 
@@ -117,7 +116,8 @@ module _ (r : Region) (a : Accepted (asHeld r)) where
   written-short = spelling-most (asHeld r) a (sum-few r)
 
   pub written-formed : wellFormed (asHeld r) ≡ true
-  written-formed = formed (asHeld r) a (sum-few r)
+  unfolding limits
+  written-formed = formed (asHeld r) a (lt-ltb (asHeld r .statedSum) _ (omega (arith, sum-few r)))
 
   -- .. reading it restores the same counts, patients, tables and entries, ..
   pub written-read : layout (writtenFile r) ≡ some (asHeld r)
