@@ -1,6 +1,7 @@
 -- The number and values of every case of every enum answer.
 use Rattle.definitions.specs.Basics.{ℕ, true, false, List}
 use Rattle.definitions.specs.Outcomes.{ListOutcome, PriceOutcome}
+use Rattle.definitions.specs.Writer.{WriteOutcome}
 use Rattle.held_region.specs.declared.Refusal.{Refusal}
 use Rattle.held_region.specs.declared.Judged.{Judged}
 use Rattle.held_region.specs.Refusals.{questionOf, numberOf}
@@ -13,6 +14,9 @@ use Rattle.answers.specs.declared.Sheeted.the-variants.{Absent}
 use Rattle.answers.specs.declared.PriceValues.{PriceValues}
 use Rattle.answers.specs.declared.Priced.{Priced}
 use Rattle.answers.specs.declared.Priced.the-variants.{Refused, Misfit, Forbidden, Allowed}
+use Rattle.answers.specs.declared.Written.{Written}
+use Rattle.answers.specs.declared.Written.the-variants as Writes
+use Rattle.answers.specs.declared.Written.the-variants.{Bytes}
 
 -- A refusal, by the question answered no.
 abbrev pub refusalNumber : Refusal → ℕ
@@ -68,3 +72,17 @@ pricedOutcome (Allowed t) = record { number = 0; allowed = true; total = t }
 
 abbrev pub valuesOf : PriceValues → PriceOutcome
 valuesOf values = record { number = values .number; allowed = values .allowed; total = values .total }
+
+-- Write's answer: the number and the byte count, beside the output area as it is afterwards.
+abbrev pub writtenNumber : Written → ℕ
+writtenNumber (Writes.Refused refusal) = refusalNumber refusal
+writtenNumber Writes.Short = 15
+writtenNumber (Bytes n) = 0
+
+abbrev pub writtenCount : Written → ℕ
+writtenCount (Writes.Refused refusal) = 0
+writtenCount Writes.Short = 0
+writtenCount (Bytes n) = n
+
+abbrev pub writtenOutcome : Written → List ℕ → WriteOutcome
+writtenOutcome answer output = record { number = writtenNumber answer; count = writtenCount answer; output = output }

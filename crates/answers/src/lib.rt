@@ -1,6 +1,6 @@
 // The answers of the entries, and document 01's number and values for each of their cases.
 ghost use mathlib.Core.Path.{_≡_};
-ghost use Rattle.answers.specs.Answers.{checkedNumber, refusalNumber, listedNumber, listedRows, sheetedNumber, sheetedRows, notAllowed, pricedOutcome, valuesOf};
+ghost use Rattle.answers.specs.Answers.{checkedNumber, refusalNumber, listedNumber, listedRows, sheetedNumber, sheetedRows, notAllowed, pricedOutcome, valuesOf, writtenNumber, writtenCount};
 use held_region::Judged;
 use held_region::Refusal;
 
@@ -123,6 +123,42 @@ pub fn price_values(answer: Priced) -> PriceValues
             number: 0,
             allowed: true,
             total: total,
+        },
+    }
+}
+
+// Write's answer, with the byte count. Short: question 15 is answered no.
+pub enum Written {
+    Refused(Refusal),
+    Short,
+    Bytes(usize),
+}
+
+// The same as write gives it back: the number, and how many bytes were written.
+pub struct WriteValues {
+    pub number: u64,
+    pub count: usize,
+}
+
+// A refused region has no bytes.
+fn not_written(number: u64) -> WriteValues
+    ensures { λ r. ⌜ (r .number ≡ number) × (r .count ≡ 0) ⌝ }
+{
+    WriteValues {
+        number: number,
+        count: 0,
+    }
+}
+
+pub fn write_values(answer: Written) -> WriteValues
+    ensures { λ r. ⌜ (r .number ≡ writtenNumber answer) × (r .count ≡ writtenCount answer) ⌝ }
+{
+    match answer {
+        Written::Refused(refusal) => not_written(refusal_number(refusal)),
+        Written::Short => not_written(15),
+        Written::Bytes(n) => WriteValues {
+            number: 0,
+            count: n,
         },
     }
 }

@@ -1,16 +1,15 @@
--- What is left of a text byte by byte, of a number's digits, and of numbers in brackets.
+-- What is left of a text byte by byte, and of a number's digits.
 use mathlib.Core.Path.{_≡_, refl, sym, ap, _∙_}
-use mathlib.Core.List.{append-assoc}
 use native.Mathlib.Numerals.{add-one}
 use native.Mathlib.Omega.{arith}
 use Prim.Native.Nat.{_≤_}
 use lib.ListN.{drop, drop-of-length-le}
 use lib.Seq.{drop-cons}
-use Rattle.definitions.specs.Basics.{ℕ, zero, suc, _+_, _*_, _/_, _%_, _<_, List, [], _∷_, _++_, map, flatten, length, getD, text}
-use Rattle.definitions.specs.Spelling.{decimal, bracketed}
+use Rattle.definitions.specs.Basics.{ℕ, zero, suc, _+_, _*_, _/_, _%_, _<_, List, [], _∷_, _++_, flatten, length, getD}
+use Rattle.definitions.specs.Spelling.{decimal}
 use Rattle.theorems.specs.Numbers.{digits-one, decimal-more}
 use Rattle.text_writer.specs.Wrote.{Room, Wrote, Left, room-for, then-left, none-left, other-parts}
-use Rattle.text_writer.specs.Parts.{gap, apart, bracketed-apart}
+use Rattle.text_writer.specs.Parts.{gap}
 
 -- A text of which the bytes from byte k on are left.
 module _ {whole out now : List ℕ} {at place : ℕ} (k : ℕ) (left : Left whole at out (drop k whole ∷ []) now place) where
@@ -47,24 +46,3 @@ no-gap i e = ap gap e
 pub one-gap : (i : ℕ) → (i ≡ 0 → ⊥) → gap i ≡ 32 ∷ []
 one-gap zero h = absurd (h refl)
 one-gap (suc i) h = refl
-
--- The numbers from number i on, each with the space before it.
-unfoldable pub numbersFrom : List ℕ → ℕ → List ℕ
-numbersFrom ns i = apart i (map decimal (drop i ns))
-
--- They stand between the brackets; number i comes next, and after the last nothing is left.
-pub numbers-parts : (ns : List ℕ) → bracketed (map decimal ns) ≡ flatten (text "(" ∷ numbersFrom ns 0 ∷ text ")" ∷ [])
-unfolding numbersFrom
-numbers-parts ns = bracketed-apart (map decimal ns)
-
-module _ (ns : List ℕ) (i : ℕ) {whole out now : List ℕ} {at place : ℕ} (left : Left whole at out (numbersFrom ns i ∷ []) now place) where
-  pub gap-left : i < length ns → Left whole at out (gap i ∷ decimal (getD ns i 0) ∷ numbersFrom ns (i + 1) ∷ []) now place
-  unfolding numbersFrom flatten
-  gap-left h =
-      let rest = apart (suc i) (map decimal (drop (suc i) ns)) in
-      let first = ap (λ (l : List ℕ). apart i (map decimal l) ++ []) (drop-cons ns i 0 h) in
-      rw (add-one i) (other-parts (gap i ∷ decimal (getD ns i 0) ∷ rest ∷ []) (first ∙ simp append-assoc) left)
-
-  pub numbers-done : length ns ≤ i → Wrote whole at out now place
-  unfolding numbersFrom flatten
-  numbers-done h = none-left (other-parts [] (ap (λ (l : List ℕ). apart i (map decimal l) ++ []) (drop-of-length-le ns {i = i} h)) left)

@@ -1,16 +1,15 @@
 use borrow.Author.Needs.{needs}
-use mathlib.Core.Path.{sym}
-use mathlib.Core.List.{[], _∷_, append-nil}
+use mathlib.Core.List.{[], _∷_, map}
 use Prim.Native.Nat.{_-_}
 use lib.ListN.{length}
-use Rattle.definitions.specs.Basics.{flatten}
+use Rattle.definitions.specs.Spelling.{decimal}
 use Rattle.text_writer.specs.Wrote.{Left, none-yet, room-for, then-left, none-left}
-use Rattle.text_writer.proofs.Turns.{numbersFrom, numbers-parts, gap-left, numbers-done}
+use Rattle.text_writer.specs.Parts.{apart, bracketed-apart, from-zero, apartFrom, parts-yet, part-left, parts-done}
 use Rattle.text_writer.proofs.write_numbers.Statement.{statement}
 use Rattle.text_writer.proofs.write_numbers.Tie as tie
 
 abbrev Inv-loop : tie.InvT-loop
-Inv-loop out₀ at numbers next₀ i₀ out next i = Left (numbersFrom numbers 0) next₀ out₀ (numbersFrom numbers i ∷ []) out next
+Inv-loop out₀ at numbers next₀ i₀ out next i = Left (apart 0 (map decimal numbers)) next₀ out₀ (apartFrom decimal from-zero numbers i ∷ []) out next
 
 abbrev μ-loop : tie.MeasureT-loop
 μ-loop out₀ at numbers next₀ i₀ out next i = length numbers - i
@@ -18,19 +17,18 @@ abbrev μ-loop : tie.MeasureT-loop
 write-byte-requires : tie.Need-write-byte-requires Inv-loop μ-loop
 write-byte-requires c κs =
     let s = c .before .before .before in
-    room-for (none-yet {out = s .args .out .now} {at = s .args .at} _ (numbers-parts (s .args .numbers .now))) (s .pre)
+    room-for (none-yet {out = s .args .out .now} {at = s .args .at} _ (bracketed-apart (map decimal (s .args .numbers .now)))) (s .pre)
 
 loop-holds : tie.Need-loop-holds Inv-loop μ-loop
-unfolding flatten
-loop-holds c = none-yet _ (sym (append-nil _))
+loop-holds c = parts-yet decimal from-zero _
 
 write-gap-requires : tie.Need-write-gap-requires Inv-loop μ-loop
 write-gap-requires c κs =
     let l = c .before .before in
     let w = l .before .before .before in
     let s = w .before .before .before .before in
-    let room = room-for (then-left (none-yet _ (numbers-parts (s .args .numbers .now))) (w .write-byte .ensures)) (s .pre) in
-    room-for (gap-left _ (l .loop .i) (l .loop .inv) (c .before .loop-test .taken)) room
+    let room = room-for (then-left (none-yet _ (bracketed-apart (map decimal (s .args .numbers .now)))) (w .write-byte .ensures)) (s .pre) in
+    room-for (part-left decimal from-zero _ (l .loop .i) (l .loop .inv) 0 (c .before .loop-test .taken)) room
 
 number-at-requires : tie.Need-number-at-requires Inv-loop μ-loop
 number-at-requires c κs = search needs
@@ -41,8 +39,8 @@ write-number-requires c κs =
     let l = g .before .before .before in
     let w = l .before .before .before in
     let s = w .before .before .before .before in
-    let room = room-for (then-left (none-yet _ (numbers-parts (s .args .numbers .now))) (w .write-byte .ensures)) (s .pre) in
-    rw (c .number-at .ensures) (room-for (then-left (gap-left _ (l .loop .i) (l .loop .inv) (g .before .before .loop-test .taken)) (g .write-gap .ensures)) room)
+    let room = room-for (then-left (none-yet _ (bracketed-apart (map decimal (s .args .numbers .now)))) (w .write-byte .ensures)) (s .pre) in
+    rw (c .number-at .ensures) (room-for (then-left (part-left decimal from-zero _ (l .loop .i) (l .loop .inv) 0 (g .before .before .loop-test .taken)) (g .write-gap .ensures)) room)
 
 add-i : tie.Need-add-i Inv-loop μ-loop
 add-i c = search needs
@@ -55,7 +53,7 @@ loop-again c =
     let n = c .before .before in
     let g = n .before .before .before .before .before in
     let l = g .before .before .before in
-    then-left (then-left (gap-left _ (l .loop .i) (l .loop .inv) (g .before .before .loop-test .taken)) (g .write-gap .ensures))
+    then-left (then-left (part-left decimal from-zero _ (l .loop .i) (l .loop .inv) 0 (g .before .before .loop-test .taken)) (g .write-gap .ensures))
     (rw (n .before .number-at .ensures) at (n .write-number .ensures))
 
 write-byte-requires-2 : tie.Need-write-byte-requires-2 Inv-loop μ-loop
@@ -63,8 +61,8 @@ write-byte-requires-2 c κs =
     let l = c .before .before in
     let w = l .before .before .before in
     let s = w .before .before .before .before in
-    let inner = numbers-done _ (l .loop .i) (l .loop .inv) (c .before .loop-test .left) in
-    room-for (then-left (then-left (none-yet _ (numbers-parts (s .args .numbers .now))) (w .write-byte .ensures)) inner) (s .pre)
+    let inner = parts-done decimal from-zero _ (l .loop .i) (l .loop .inv) (c .before .loop-test .left) in
+    room-for (then-left (then-left (none-yet _ (bracketed-apart (map decimal (s .args .numbers .now)))) (w .write-byte .ensures)) inner) (s .pre)
 
 same-length : tie.Need-same-length Inv-loop μ-loop
 same-length c = search needs
@@ -73,8 +71,8 @@ returns : tie.Need-returns Inv-loop μ-loop
 returns c =
     let l = c .before .before .before .before .before in
     let w = l .before .before .before in
-    let inner = numbers-done _ (l .loop .i) (l .loop .inv) (c .before .before .before .before .loop-test .left) in
-    none-left (then-left (then-left (then-left (none-yet _ (numbers-parts _)) (w .write-byte .ensures)) inner) (c .before .before .write-byte2 .ensures))
+    let inner = parts-done decimal from-zero _ (l .loop .i) (l .loop .inv) (c .before .before .before .before .loop-test .left) in
+    none-left (then-left (then-left (then-left (none-yet _ (bracketed-apart (map decimal (w .before .before .before .before .args .numbers .now)))) (w .write-byte .ensures)) inner) (c .before .before .write-byte2 .ensures))
 
 pub write-numbers-spec : {M : Type 1} → statement M
 write-numbers-spec =
