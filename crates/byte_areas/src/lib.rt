@@ -64,8 +64,8 @@ fn store_number(area: &mut [u8], at: usize, n: u64)
     }
 }
 
-// The result of list and sheet: the row count. A shorter area is untouched.
-fn store_count(result: &mut [u8], n: u64)
+// A result of one number: the row count of list and sheet, the byte count of a writer. A shorter area is untouched.
+pub fn store_count(result: &mut [u8], n: u64)
     ensures { λ _. ⌜ now (result .exit) ≡ resultAfter (n ∷ []) (now (result .entry)) ⌝ }
 {
     if result.len() < 8 {

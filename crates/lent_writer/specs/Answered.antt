@@ -15,6 +15,10 @@ abbrev pub orTwelve : ℕ → ℕ
 orTwelve zero = 12
 orTwelve (suc q) = suc q
 
+pub some-number : (number n : ℕ) → number ≡ n → (number ≡ 0 → ⊥) → number ≡ orTwelve n
+some-number number zero e some-no = absurd (some-no e)
+some-number number (suc q) e some-no = e
+
 abbrev pub nothingWritten : ℕ → List ℕ → WriteOutcome
 nothingWritten number output = record { number = number; count = 0; output = output }
 
