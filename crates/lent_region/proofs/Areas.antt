@@ -1,5 +1,5 @@
 -- Numbers that stand for none, counts taken off what is left, and areas that are whole.
-use mathlib.Core.Path.{_≡_, refl, sym, ap, ap₂, _∙_}
+use mathlib.Core.Path.{_≡_, sym, ap, ap₂, _∙_}
 use mathlib.Core.Bool.{and-false}
 use Prim.Native.Nat.{_≤_}
 use native.Mathlib.Decide.{ℕ-discrete}
@@ -7,7 +7,7 @@ use native.Mathlib.Numerals.{add-one}
 use native.Mathlib.Omega.{arith}
 use borrow.Author.Tests.{eq-eqb, ne-eqb}
 use Rattle.definitions.specs.Basics.{ℕ, suc, _+_, _-_, _*_, _/_, _%_, _^_, _<_, Bool, false, _&&_, cond, none, some, List, length, eqb}
-use Rattle.definitions.specs.Boundary.{numberAt, optionAt, lentTableCount, lentEntryCount, lentEntriesBefore, lentWhole}
+use Rattle.definitions.specs.Boundary.{numberAt, optionAt, lentTableCount, lentEntriesBefore, lentWhole}
 use Rattle.lent_region.specs.Lent.{before-next, before-most}
 
 -- ---- one number, or none

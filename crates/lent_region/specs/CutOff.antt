@@ -1,11 +1,11 @@
 -- A region whose numbers are cut off to go into 32 bits: none is the store's mark, and none is so low that a limit would let it pass.
-use mathlib.Core.Path.{_≡_, refl, sym, ap, ap₂, _∙_}
+use mathlib.Core.Path.{_≡_, refl, sym, ap, _∙_}
 use mathlib.Core.Bool.{and-false}
 use Prim.Native.Nat.{_≤_}
 use native.Mathlib.Decide.{decLe}
 use native.Mathlib.Omega.{arith}
-use borrow.Author.Tests.{lt-leb, le-leb, lt-ltb, le-ltb}
-use Rattle.definitions.specs.Basics.{ℕ, _<_, min, Bool, _&&_, Option, none, some, Option·map, noneOr, List, map, leb, ltb}
+use borrow.Author.Tests.{lt-leb, le-ltb}
+use Rattle.definitions.specs.Basics.{ℕ, _<_, min, _&&_, Option, none, some, Option·map, noneOr, map, leb, ltb}
 use Rattle.definitions.specs.Limits.{Field, limits, within}
 use Rattle.definitions.specs.Syntax.{Patient, Table, Region}
 use Rattle.definitions.specs.Writer.{withSum}

@@ -7,7 +7,7 @@ use native.Mathlib.Omega.{arith}
 use lib.ListN.{set, length-map, List·getD-map}
 use lib.Seq.{take-nil, getD-set-same, getD-set-other}
 use borrow.Author.Tests.{eqb-true, eq-eqb, lt-ltb}
-use Rattle.definitions.specs.Basics.{ℕ, zero, suc, _+_, _*_, _/_, _%_, _<_, min, Bool, true, _&&_, Option, none, some, noneOr, List, [], _∷_, map, length, getD, take, eqb, ltb, sum, numbersFrom, below, every}
+use Rattle.definitions.specs.Basics.{ℕ, zero, suc, _+_, _*_, _/_, _%_, _<_, min, true, _&&_, Option, none, some, noneOr, List, [], _∷_, _++_, map, length, getD, take, eqb, ltb, sum, below, every}
 use Rattle.definitions.specs.Syntax as Said
 use Rattle.definitions.specs.Spelling.{spellBody}
 use Rattle.definitions.specs.Questions.{countsTrue, checksum}
@@ -15,16 +15,16 @@ use Rattle.definitions.specs.Writer.{regionFrom}
 use Rattle.definitions.specs.Boundary.{numberAt, optionAt, lentPatient, lentPatients, lentTableCount, lentMembers, lentEntryCount, lentEntriesBefore, lentTable, lentTables, lentRegion, lentWhole}
 use Rattle.lists.specs.Tests.{both, join}
 use Rattle.lists.specs.Every.{every-image}
-use Rattle.lists.specs.Below.{length-by-places, at-place}
+use Rattle.lists.specs.Below.{length-by-places, at-place, below-more}
 use Rattle.held_region.specs.declared.Patient.{Patient}
 use Rattle.held_region.specs.declared.Table.{Table}
 use Rattle.held_region.specs.declared.Region.{Region}
-use Rattle.held_region.specs.Meaning.{noPatient, patientOf, mark, codeOf, noTable, sumBefore, said}
-use Rattle.held_region.specs.Stores.{at, startOf, entriesOf, start-next, start-most, HasEntries}
+use Rattle.held_region.specs.Meaning.{noPatient, patientOf, mark, codeOf, noTable, said}
+use Rattle.held_region.specs.Stores.{startOf, entriesOf, start-next, start-most, HasEntries}
 use Rattle.held_region.specs.HeldFrom.{noneSaid, noTableSaid, HoldsTable, HeldPatients, TablesHeld, unmarked, HeldFrom}
 use Rattle.held_region.specs.StandsFor.{StandsFor, stands-through}
 use Rattle.held_region.specs.Faithful.{stands-for}
-use Rattle.lent_region.specs.CutOff.{most, cut, cutOption, cutPatient, cutTable, cutOff}
+use Rattle.lent_region.specs.CutOff.{cut, cutOption, cutPatient, cutTable, cutOff}
 use Rattle.lent_region.specs.CutStands.{cut-stands}
 
 -- ---- the first of what is lent
@@ -70,24 +70,12 @@ EntriesLent entries = FirstLent (λ k code. code ≡ codeLent entries k) 0
 
 -- ---- how many entries there are
 
--- The sum over the places below i is what the first i counts make.
-sum-more : (count : ℕ → ℕ) (i : ℕ) → sum (map count (below (suc i))) ≡ sum (map count (below i)) + count i
-sum-more count i = go count 0 i ∙ ap (λ n. sum (map count (below i)) + count n) (omega arith)
-  where
-    go : (count : ℕ → ℕ) (a n : ℕ) → sum (map count (numbersFrom a (suc n))) ≡ sum (map count (numbersFrom a n)) + count (a + n)
-    go count a zero = omega (arith, ap count (z a))
-      where
-        z : (a : ℕ) → a + 0 ≡ a
-        z a = omega arith
-    go count a (suc n) =
-        let next : suc a + n ≡ a + suc n = omega arith in
-        omega (arith, go count (suc a) n, ap count next)
-
-pub before-none : (tables : List ℕ) → lentEntriesBefore tables 0 ≡ 0
-before-none tables = refl
+sum-last : (l : List ℕ) (n : ℕ) → sum (l ++ n ∷ []) ≡ sum l + n
+sum-last [] n = omega arith
+sum-last (x ∷ l) n = omega (arith, sum-last l n)
 
 pub before-next : (tables : List ℕ) (i : ℕ) → lentEntriesBefore tables (suc i) ≡ lentEntriesBefore tables i + lentEntryCount tables i
-before-next tables i = sum-more (lentEntryCount tables) i
+before-next tables i = ap sum (below-more (lentEntryCount tables) i) ∙ sum-last (map (lentEntryCount tables) (below i)) (lentEntryCount tables i)
 
 pub before-most : (tables : List ℕ) (i n : ℕ) → i ≤ n → lentEntriesBefore tables i ≤ lentEntriesBefore tables n
 before-most tables i zero l = let same : i ≡ 0 = omega arith in omega (arith, ap (lentEntriesBefore tables) same)
@@ -98,6 +86,14 @@ before-most tables i (suc n) l = go (decLe i n) (before-most tables i n)
     go (no k) less = let same : i ≡ suc n = omega arith in omega (arith, ap (lentEntriesBefore tables) same)
 
 -- ---- tables as they are held
+
+-- The first four members, however many are counted.
+first-four : (f : ℕ → ℕ) (c : ℕ) → take c (f 0 ∷ f 1 ∷ f 2 ∷ f 3 ∷ []) ≡ take 4 (map f (below c))
+first-four f zero = refl
+first-four f (suc zero) = refl
+first-four f (suc (suc zero)) = refl
+first-four f (suc (suc (suc zero))) = refl
+first-four f (suc (suc (suc (suc c)))) = ap (λ l. f 0 ∷ f 1 ∷ f 2 ∷ f 3 ∷ l) (take-nil c)
 
 module _ (tables entries : List ℕ) where
   abbrev lent-tables : List Said.Table
@@ -118,13 +114,12 @@ module _ (tables entries : List ℕ) where
       length-map (lentTable tables entries i .entries) cutOption
       ∙ length-by-places (λ j. optionAt entries (lentEntriesBefore tables i + j)) 0 (lentEntryCount tables i)
 
-  -- The first four members, however many are counted.
-  first-four : (f : ℕ → ℕ) (c : ℕ) → take c (f 0 ∷ f 1 ∷ f 2 ∷ f 3 ∷ []) ≡ take 4 (map f (below c))
-  first-four f zero = refl
-  first-four f (suc zero) = refl
-  first-four f (suc (suc zero)) = refl
-  first-four f (suc (suc (suc zero))) = refl
-  first-four f (suc (suc (suc (suc c)))) = ap (λ l. f 0 ∷ f 1 ∷ f 2 ∷ f 3 ∷ l) (take-nil c)
+  entry-at : (i q : ℕ) → i < lentTableCount tables → q < lentEntryCount tables i → codeLent entries (lentEntriesBefore tables i + q) ≡ codeOf (getD (getD lent-tables i noTableSaid .entries) q none)
+  entry-at i q inside l =
+      rw (table-at i inside) (ap codeOf (sym (
+      List·getD-map cutOption (lentTable tables entries i .entries) q none
+      ∙ ap cutOption (at-place (λ j. optionAt entries (lentEntriesBefore tables i + j)) none (lentEntryCount tables i) q l)
+      )))
 
   holds-lent : (i : ℕ) (h : Table) → TableLent tables i h → HoldsTable h (cutTable (lentTable tables entries i))
   holds-lent i h lent = record {
@@ -159,18 +154,13 @@ module _ (tables entries : List ℕ) where
       → entriesOf lent-tables ≤ 4096 → HasEntries store lent-tables
   entries-held store whole lent most-of i q l m =
       let inside : i < lentTableCount tables = omega (arith, tables-long) in
-      let here = table-at i inside in
-      let counted : q < lentEntryCount tables i = omega (arith, ap (λ t. length (t .entries)) here, entries-long i) in
+      let counted : q < lentEntryCount tables i = omega (arith, ap (λ t. length (t .entries)) (table-at i inside), entries-long i) in
       let start = starts-lent i (omega arith) in
       let last : lentEntriesBefore tables (suc i) ≤ lentEntriesBefore tables (lentTableCount tables) = before-most tables (suc i) (lentTableCount tables) (omega arith) in
       let stored : lentEntriesBefore tables i + q < 4096 = omega (arith, start-most lent-tables (suc i), starts-lent (suc i) (omega arith), before-next tables i) in
       ap (λ k. getD store (k + q) 0) start
       ∙ lent .each (lentEntriesBefore tables i + q) (omega (arith, before-next tables i))
-      ∙ ap codeOf (
-      ap cutOption (sym (at-place (λ j. optionAt entries (lentEntriesBefore tables i + j)) none (lentEntryCount tables i) q counted))
-      ∙ sym (List·getD-map cutOption (lentTable tables entries i .entries) q none)
-      ∙ ap (λ t. getD (t .entries) q none) (sym here)
-      )
+      ∙ entry-at i q inside counted
 
   -- No number is the mark once it is cut off.
   none-marked : every unmarked lent-tables ≡ true
