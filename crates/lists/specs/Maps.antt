@@ -3,7 +3,7 @@ use mathlib.Core.Path.{sym, ap, ap₂, _∙_, subst⁻¹}
 use mathlib.Core.Logic.{_⊎_, inl, inr}
 use mathlib.Core.List.{append-assoc}
 use mathlib.Core.Option.{Option·none-ne-some}
-use native.Mathlib.Nat.{mul-le-mul, pow-zero, pow-succ'}
+use native.Mathlib.Nat.{mul-le-mul, mul-le-mul-right, pow-zero, pow-succ'}
 use native.Mathlib.Omega.{arith}
 use borrow.Author.Tests.{leb-true}
 use Prim.Native.Nat.{_≤_}
@@ -74,9 +74,16 @@ drop-last [] l = refl
 drop-last (k ∷ []) l = refl
 drop-last {A} (k ∷ m ∷ ls) l = ap (λ (r : List A). k ∷ r) (drop-last (m ∷ ls) l)
 
--- A product of numbers of at most k.
+-- A product of numbers of at most k, ..
 pub product-most : {A : Type 0} (k : ℕ) (f : A → ℕ) (l : List A) → every (λ x. leb (f x) k) l ≡ true → product (map f l) ≤ k ^ length l
 product-most k f [] all = omega (arith, pow-zero k)
 product-most k f (x ∷ l) all =
     let (now, later) = both (leb (f x) k) all in
     subst⁻¹ (λ n. f x * product (map f l) ≤ n) (pow-succ' k (length l)) (mul-le-mul (leb-true (f x) k now) (product-most k f l later))
+
+-- .. and of numbers that are not 0 it is not 0.
+pub product-some : {A : Type 0} (f : A → ℕ) (l : List A) → ((x : A) → x ∈ l → 1 ≤ f x) → 1 ≤ product (map f l)
+product-some f [] each = omega arith
+product-some f (x ∷ l) each =
+    let more : 1 * product (map f l) ≤ f x * product (map f l) = mul-le-mul-right (product (map f l)) (each x (here refl)) in
+    omega (arith, product-some f l (λ y i. each y (there i)))

@@ -1,5 +1,5 @@
 -- What check's 0 says, and what an accepted region has: small counts, known members, and totals of at most `mostTotal`.
-use mathlib.Core.Path.{_≡_, refl, sym, ap, _∙_}
+use mathlib.Core.Path.{_≡_, refl, sym, ap, _∙_, subst}
 use mathlib.Core.Logic.{_⊎_, inl, inr}
 use mathlib.Core.Bool.{true≢false}
 use mathlib.Core.Option.{Option·none-ne-some}
@@ -17,12 +17,14 @@ use Rattle.definitions.specs.Layout.{layout}
 use Rattle.definitions.specs.Plans.{Plan, entryFor, costOver, constraints, total, Row}
 use Rattle.definitions.specs.Sheets.{ownTables, ownCost}
 use Rattle.definitions.specs.Questions.{shortEnough, laidOut, countsTrue, sumTrue, countsWithin, patientsWithin, parentsSmaller, membersRight, entryCountsRight, entriesWithin, membersRelated}
-use Rattle.definitions.specs.Questions.{ancestors, regionOf, askedByCheck, checkOf}
-use Rattle.lists.specs.Tests.{both}
-use Rattle.lists.specs.Members.{_∈_, getD-in, here, there}
+use Rattle.definitions.specs.Questions.{ancestors, regionOf, askedOfRegion, askedByCheck, checkOf}
+use Rattle.lists.specs.Tests.{both, join}
+use Rattle.lists.specs.Members.{_∈_, getD-in, here, there, in-map-cases}
 use Rattle.lists.specs.Every.{every-in, every-all, every-two-in, every-some, contains-out}
 use Rattle.lists.specs.Keep.{keep-out, keep-all, keep-short}
-use Rattle.lists.specs.Below.{below-in}
+use Rattle.lists.specs.Maps.{product-some}
+use Rattle.lists.specs.Below.{below-in, by-number}
+use Rattle.theorems.specs.Answers.{allYes}
 use Rattle.theorems.specs.Refusals.{check-says}
 use Rattle.theorems.specs.Sums.{halves, sumOver, sum-cons}
 
@@ -44,6 +46,29 @@ pub record AcceptedFile (file : List ℕ) : Type 0 where
   pub summed : sumTrue file (regionOf file) ≡ true
   pub region : Accepted (regionOf file)
 
+-- Questions 5 to 10 of a region whose counts are true are answered yes: it is accepted.
+pub asked-accepted : (r : Region) → countsTrue r ≡ true → allYes (askedOfRegion r) ≡ true → Accepted r
+asked-accepted r counted all =
+    let (q5, r5) = both (countsWithin r) all in
+    let (q6, r6) = both (patientsWithin r && parentsSmaller r) r5 in
+    let (q7, r7) = both (membersRight r) r6 in
+    let (q8, r8) = both (entryCountsRight r) r7 in
+    let (q9, r9) = both (entriesWithin r) r8 in
+    record {
+      counted = counted;
+      countsFit = q5;
+      patientsFit = both (patientsWithin r) q6 .0;
+      parentsFit = both (patientsWithin r) q6 .1;
+      membersFit = q7;
+      entryCountsFit = q8;
+      entriesFit = q9;
+      related = both (membersRelated r) r9 .0;
+    }
+
+pub accepted-asked : (r : Region) → Accepted r → allYes (askedOfRegion r) ≡ true
+accepted-asked r a =
+    join (a .countsFit) (join (join (a .patientsFit) (a .parentsFit)) (join (a .membersFit) (join (a .entryCountsFit) (join (a .entriesFit) (join (a .related) refl)))))
+
 pub accepted : (file : List ℕ) → checkOf file ≡ 0 → AcceptedFile file
 unfolding askedByCheck
 accepted file e =
@@ -51,26 +76,7 @@ accepted file e =
     let (q2, r2) = both (laidOut file) r1 in
     let (q3, r3) = both (countsTrue (regionOf file)) r2 in
     let (q4, r4) = both (sumTrue file (regionOf file)) r3 in
-    let (q5, r5) = both (countsWithin (regionOf file)) r4 in
-    let (q6, r6) = both (patientsWithin (regionOf file) && parentsSmaller (regionOf file)) r5 in
-    let (q7, r7) = both (membersRight (regionOf file)) r6 in
-    let (q8, r8) = both (entryCountsRight (regionOf file)) r7 in
-    let (q9, r9) = both (entriesWithin (regionOf file)) r8 in
-    record {
-      short = q1;
-      laid = q2;
-      summed = q4;
-      region = record {
-        counted = q3;
-        countsFit = q5;
-        patientsFit = both (patientsWithin (regionOf file)) q6 .0;
-        parentsFit = both (patientsWithin (regionOf file)) q6 .1;
-        membersFit = q7;
-        entryCountsFit = q8;
-        entriesFit = q9;
-        related = both (membersRelated (regionOf file)) r9 .0;
-      };
-    }
+    record { short = q1; laid = q2; summed = q4; region = asked-accepted (regionOf file) q3 r4 }
 
 -- The most that a plan can cost: as many tables as there may be, each at the highest price.
 abbrev pub mostTotal : ℕ
@@ -165,6 +171,14 @@ module _ (r : Region) (a : Accepted r) where
   unfolding patientAt
   beds-few s h = beds-within (getD-in (r .patients) s _ h) .1
 
+  -- A parent is a patient.
+  pub parent-known : {p : Patient} → p ∈ r .patients → (q : ℕ) → p .parent ≡ some q → q < length (r .patients)
+  unfolding patientAt
+  parent-known {p} k q e =
+      let (s, i, is) = in-map-cases (patientAt r) (patientNumbers r) (subst (λ l. p ∈ l) (sym (by-number (r .patients) _)) k) in
+      let (inside, smaller) = parent-below r (a .parentsFit) s q (ap (λ (x : Patient). x .parent) is ∙ e) in
+      omega arith
+
   pub table-right : {t : Table} → t ∈ r .tables → TableRight r t
   unfolding membersRight entryCountsRight entriesWithin limits
   table-right {t} k =
@@ -184,6 +198,11 @@ module _ (r : Region) (a : Accepted r) where
   pub entries-few : sum (map (λ t. length (t .entries)) (r .tables)) ≤ 4096
   unfolding entryCountsRight limits
   entries-few = at-most entryCount _ (both (every (λ t. eqb (length (t .entries)) (product (bedCounts r (t .members)))) (r .tables)) (a .entryCountsFit) .1)
+
+  pub entries-some : {t : Table} → t ∈ r .tables → 0 < length (t .entries)
+  entries-some {t} k =
+      let right = table-right k in
+      omega (arith, right .counted, product-some (λ s. patientAt r s .bedCount) (t .members) (λ s i. beds-some s (right .known i)))
 
   pub entry-small : {t : Table} → t ∈ r .tables → (plan : Plan) (e : ℕ) → entryFor r plan t ≡ some e → e ≤ 1_000_000
   unfolding entryFor limits

@@ -26,3 +26,5 @@ pub mod SheetAreas
 pub mod Agreement
 pub mod IsolationExamples
 pub mod PlanAllowed
+pub mod Lengths
+pub mod Writer

@@ -95,7 +95,7 @@ decimal-length = decimal-induction (λ n ds. (k : ℕ) → n < 10 ^ suc k → le
     more n ds h before zero g = absurd (omega arith)
     more n ds h before (suc k) g = let b = before k (omega arith) in let l = length-more ds (48 + n % 10) in omega arith
 
-decimal-bound : (n : ℕ) → n < 10 ^ length (decimal n)
+pub decimal-bound : (n : ℕ) → n < 10 ^ length (decimal n)
 decimal-bound = decimal-induction (λ n ds. n < 10 ^ length ds) (λ n h. h)
     (λ n ds h before. rw (length-more ds (48 + n % 10), pow-succ' 10 (length ds)) (omega arith))
 
@@ -117,10 +117,18 @@ decimal-nonzero : (n : ℕ) → 1 ≤ n → nonzeroFirst (decimal n) ≡ true
 decimal-nonzero = decimal-induction (λ n ds. 1 ≤ n → nonzeroFirst ds ≡ true) (λ n h g. ap not (ne-eqb (48 + n) 48 (omega arith)))
     (λ n ds h before g. nonzero-append ds ((48 + n % 10) ∷ []) (before (omega arith)))
 
-decimal-leads : (n : ℕ) → (noLeadingZero (decimal n) ≡ true) × (1 ≤ length (decimal n))
+pub decimal-leads : (n : ℕ) → (noLeadingZero (decimal n) ≡ true) × (1 ≤ length (decimal n))
 unfolding digitsWithin
 decimal-leads zero = (refl, omega arith)
 decimal-leads (suc n) = nonzero-leads (decimal (suc n)) (decimal-nonzero (suc n) (omega arith))
+
+-- A smaller number has no more digits.
+pub decimal-longer : (m n : ℕ) → m ≤ n → length (decimal m) ≤ length (decimal n)
+decimal-longer m n h = by (length (decimal n)) (decimal-leads n .1) (decimal-bound n)
+  where
+    by : (k : ℕ) → 1 ≤ k → n < 10 ^ k → length (decimal m) ≤ k
+    by zero some-digits bound = absurd (omega arith)
+    by (suc k) some-digits bound = decimal-length m k (omega arith)
 
 -- The other way: digits with no zero in front are the decimal digits of their value.
 value-decimal : (v : ℕ) (ds : List ℕ) → 1 ≤ v → every isDigit ds ≡ true → decimal (valueFrom v ds) ≡ decimal v ++ ds
