@@ -108,17 +108,27 @@ module _ (r : Region) (a : Accepted r) where
   region-most : length (line (text "region" ∷ decimal (r .patientCount) ∷ decimal (r .tableCount) ∷ decimal (r .plansWanted) ∷ [])) ≤ regionMost
   unfolding regionMost
   region-most =
-      omega (arith, line-long (text "region") (decimal (r .patientCount) ∷ decimal (r .tableCount) ∷ decimal (r .plansWanted) ∷ []),
-      line-long (text "region") (longest patientCount ∷ longest tableCount ∷ longest plansWanted ∷ []),
-      digits-most patientCount (r .patientCount) (counted-most .0), digits-most tableCount (r .tableCount) (counted-most .1), digits-most plansWanted (r .plansWanted) (counted-most .2))
+      omega (
+        arith,
+        line-long (text "region") (decimal (r .patientCount) ∷ decimal (r .tableCount) ∷ decimal (r .plansWanted) ∷ []),
+        line-long (text "region") (longest patientCount ∷ longest tableCount ∷ longest plansWanted ∷ []),
+        digits-most patientCount (r .patientCount) (counted-most .0),
+        digits-most tableCount (r .tableCount) (counted-most .1),
+        digits-most plansWanted (r .plansWanted) (counted-most .2),
+      )
 
   patient-most : (p : Patient) → p ∈ r .patients → length (spellPatient p) ≤ patientMost
   unfolding patientMost spellPatient patientsWithin
   patient-most p k =
       let (c, d) = both (within clinic (p .clinic)) (every-in _ (r .patients) (a .patientsFit) k) in
-      omega (arith, line-long (text "patient") (decimal (p .clinic) ∷ decimal (p .bedCount) ∷ hyphenOrDecimal (p .parent) ∷ []),
-      line-long (text "patient") (longest clinic ∷ longest bedCount ∷ longest patientCount ∷ []),
-      digits-most clinic (p .clinic) (at-most clinic (p .clinic) c), digits-most bedCount (p .bedCount) (at-most bedCount (p .bedCount) d), parent-most (p .parent) (λ q e. omega (arith, parent-known r a k q e, patients-counted r a, counted-most .0)))
+      omega (
+        arith,
+        line-long (text "patient") (decimal (p .clinic) ∷ decimal (p .bedCount) ∷ hyphenOrDecimal (p .parent) ∷ []),
+        line-long (text "patient") (longest clinic ∷ longest bedCount ∷ longest patientCount ∷ []),
+        digits-most clinic (p .clinic) (at-most clinic (p .clinic) c),
+        digits-most bedCount (p .bedCount) (at-most bedCount (p .bedCount) d),
+        parent-most (p .parent) (λ q e. omega (arith, parent-known r a k q e, patients-counted r a, counted-most .0)),
+      )
     where
       parent-most : (o : Option ℕ) → ((q : ℕ) → o ≡ some q → q ≤ limits patientCount .highest) → length (hyphenOrDecimal o) ≤ length (longest patientCount)
       parent-most none h = decimal-leads (limits patientCount .highest) .1
@@ -128,7 +138,7 @@ module _ (r : Region) (a : Accepted r) where
   unfolding limits
   members-most t right =
       let each : (s : ℕ) → s ∈ t .members → length (decimal s) ≤ length (longest patientCount) =
-          λ s k. digits-most patientCount s (omega (arith, right .known k, patients-counted r a, counted-most .0)) in
+      λ s k. digits-most patientCount s (omega (arith, right .known k, patients-counted r a, counted-most .0)) in
       let most = bracketed-most decimal (length (longest patientCount)) (t .members) (right .some) each in
       let few = mul-le-mul-right (suc (length (longest patientCount))) (right .few) in
       omega (arith, bracketed-long (longest patientCount) (replicate 3 (longest patientCount)))
@@ -138,8 +148,12 @@ module _ (r : Region) (a : Accepted r) where
   table-most t k =
       let right = table-right r a k in
       let entries = bracketed-most hyphenOrDecimal (length (longest entry)) (t .entries) (entries-some r a k) (λ e i. hyphen-most entry e (every-in _ (t .entries) (right .within) i)) in
-      omega (arith, line-long (text "cost") (bracketed (map decimal (t .members)) ∷ bracketed (map hyphenOrDecimal (t .entries)) ∷ []),
-      line-long (text "cost") (bracketed (replicate (limits memberCount .highest) (longest patientCount)) ∷ text "()" ∷ []), members-most t right)
+      omega (
+        arith,
+        line-long (text "cost") (bracketed (map decimal (t .members)) ∷ bracketed (map hyphenOrDecimal (t .entries)) ∷ []),
+        line-long (text "cost") (bracketed (replicate (limits memberCount .highest) (longest patientCount)) ∷ text "()" ∷ []),
+        members-most t right,
+      )
 
   patients-most : length (flatMap spellPatient (r .patients)) ≤ limits patientCount .highest * patientMost
   patients-most =
@@ -150,8 +164,13 @@ module _ (r : Region) (a : Accepted r) where
   unfolding limits
   tables-most =
       let few : length (r .tables) ≤ limits tableCount .highest = omega (arith, tables-counted r a, counted-most .1) in
-      omega (arith, lines-most spellTable (λ t. tableMost + length (t .entries) * entryMost) (r .tables) table-most, sum-both tableMost entryMost (λ t. length (t .entries)) (r .tables),
-      mul-le-mul-right tableMost few, mul-le-mul-right entryMost (entries-few r a))
+      omega (
+        arith,
+        lines-most spellTable (λ t. tableMost + length (t .entries) * entryMost) (r .tables) table-most,
+        sum-both tableMost entryMost (λ t. length (t .entries)) (r .tables),
+        mul-le-mul-right tableMost few,
+        mul-le-mul-right entryMost (entries-few r a),
+      )
 
   -- So is the file that spells it, where its sum has at most five digits.
   pub spelling-most : r .statedSum ≤ 65_520 → length (spell r) ≤ mostWritten
@@ -160,6 +179,16 @@ module _ (r : Region) (a : Accepted r) where
       let body = flatMap spellPatient (r .patients) ++ flatMap spellTable (r .tables) in
       let head = line (text "region" ∷ decimal (r .patientCount) ∷ decimal (r .tableCount) ∷ decimal (r .plansWanted) ∷ []) in
       let end = line (text "end" ∷ decimal (r .statedSum) ∷ []) in
-      omega (arith, length-append (head ++ body) end, length-append head body, length-append (flatMap spellPatient (r .patients)) (flatMap spellTable (r .tables)),
-      line-long (text "end") (decimal (r .statedSum) ∷ []), line-long (text "end") (decimal 65_520 ∷ []), decimal-longer (r .statedSum) 65_520 sum-few,
-      region-most, patients-most, tables-most, most-written)
+      omega (
+        arith,
+        length-append (head ++ body) end,
+        length-append head body,
+        length-append (flatMap spellPatient (r .patients)) (flatMap spellTable (r .tables)),
+        line-long (text "end") (decimal (r .statedSum) ∷ []),
+        line-long (text "end") (decimal 65_520 ∷ []),
+        decimal-longer (r .statedSum) 65_520 sum-few,
+        region-most,
+        patients-most,
+        tables-most,
+        most-written,
+      )

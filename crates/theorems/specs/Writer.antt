@@ -142,4 +142,3 @@ module _ (r : Region) (a : Accepted (asHeld r)) where
   pub written-accepted : checkOf (writtenFile r) ≡ 0
   unfolding checkOf askedByCheck
   written-accepted = no-no (askedByCheck (writtenFile r)) (join short (join laid (rw written-region (join (held-counts r) (join summed (accepted-asked (asHeld r) a))))))
-
