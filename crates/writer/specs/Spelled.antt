@@ -66,14 +66,14 @@ lists-apart ms es =
     ∙ ap (λ (l : List ℕ). text "(cost " ++ l)
     (ap (λ (l : List ℕ). bracketed ms ++ (32 ∷ l)) (bracketed-then es (text ")\n")) ∙ bracketed-then ms (text " (" ++ (apart 0 es ++ text "))\n")))
 
-pub table-parts : (store : List ℕ) (start : ℕ) (t : Table) (members : List ℕ) → every spellable (membersOf t) ≡ true → members ≡ membersOf t
+pub table-parts : (store : List ℕ) (start : ℕ) (t : Table) → every spellable (membersOf t) ≡ true
     → spellTable (tableFrom store start t)
-    ≡ flatten (text "(cost (" ∷ apart 0 (map spellCode members) ∷ text ") (" ∷ apart 0 (map spellCode (codesFrom store start (t .entries))) ∷ text "))\n" ∷ [])
+    ≡ flatten (text "(cost (" ∷ apart 0 (map spellCode (membersOf t)) ∷ text ") (" ∷ apart 0 (map spellCode (codesFrom store start (t .entries))) ∷ text "))\n" ∷ [])
 unfolding spellTable
-table-parts store start t members ok is =
+table-parts store start t ok =
     let entries = map-map hyphenOrDecimal (λ k. entryOf (getD store (start + k) 0)) (below (t .entries)) ∙ sym (map-map spellCode (λ k. getD store (start + k) 0) (below (t .entries))) in
-    ap₂ (λ (ms es : List (List ℕ)). line (text "cost" ∷ bracketed ms ∷ bracketed es ∷ [])) (number-codes (membersOf t) ok ∙ ap (map spellCode) (sym is)) entries
-    ∙ lists-apart (map spellCode members) (map spellCode (codesFrom store start (t .entries)))
+    ap₂ (λ (ms es : List (List ℕ)). line (text "cost" ∷ bracketed ms ∷ bracketed es ∷ [])) (number-codes (membersOf t) ok) entries
+    ∙ lists-apart (map spellCode (membersOf t)) (map spellCode (codesFrom store start (t .entries)))
 
 -- ---- the whole file
 

@@ -1,16 +1,15 @@
 -- What the writers of an accepted region rely on.
-use mathlib.Core.Path.{_≡_, sym, ap, _∙_}
-use native.Mathlib.Numerals.{add-one}
+use mathlib.Core.Path.{_≡_, refl, sym, ap, _∙_}
 use native.Mathlib.Omega.{arith}
 use Prim.Native.Nat.{_≤_}
 use borrow.Author.Tests.{eq-eqb}
-use Rattle.definitions.specs.Basics.{ℕ, suc, _+_, _<_, true, not, _&&_, List, map, length, below, every, isEmpty}
-use Rattle.definitions.specs.Spelling.{spellable, spellTable, spell}
+use Rattle.definitions.specs.Basics.{ℕ, suc, _+_, _<_, true, not, _&&_, List, length, getD, take, below, every, isEmpty}
+use Rattle.definitions.specs.Spelling.{spellable, spell}
 use Rattle.definitions.specs.Questions.{countsTrue}
 use Rattle.definitions.specs.Writer.{asHeld, writtenFile}
 use Rattle.lists.specs.Tests.{both, join}
 use Rattle.lists.specs.Every.{every-map}
-use Rattle.lists.specs.Below.{every-place}
+use Rattle.lists.specs.Below.{every-place, below-take}
 use Rattle.theorems.specs.Accepted.{Accepted}
 use Rattle.theorems.specs.Forms.{okHead, okPatient, okTable}
 use Rattle.theorems.specs.Files.{LinesOk, well-formed-lines}
@@ -18,24 +17,30 @@ use Rattle.theorems.specs.Lengths.{mostWritten}
 use Rattle.theorems.specs.Writer.{as-held, written-short, written-formed}
 use Rattle.held_region.specs.declared.Table.{Table}
 use Rattle.held_region.specs.declared.Region.{Region}
-use Rattle.held_region.specs.Meaning.{membersOf, tableIn, startIn, tableSaid, said}
+use Rattle.held_region.specs.Meaning.{patientOf, patientIn, membersOf, tableIn, startIn, tableSaid, said}
 use Rattle.held_region.specs.Asked.{patients-said, tables-by-places, tables-said, starts-said}
 use Rattle.held_region.specs.Stores.{start-most}
 use Rattle.held_region.specs.Entries.{total-most}
 use Rattle.held_region.specs.Sound.{HasPlaces, has-places, accepted-sound, members-held}
-use Rattle.text_writer.specs.Wrote.{Room}
-use Rattle.writer.specs.Spelled.{patientsSaid, patientLines, tableFrom, sum-said}
+use Rattle.writer.specs.Spelled.{patientsSaid, sum-said}
 
 -- Of the patients.
 pub record PatientsFit (h : Region) : Type 0 where
   pub places : h .v ≤ 32
   pub lines : every okPatient (patientsSaid h) ≡ true
 
+pub patient-fits : (h : Region) → PatientsFit h → (s : ℕ) → s < h .v → okPatient (patientOf (patientIn h s)) ≡ true
+patient-fits h fit s l = every-place _ (h .v) s (sym (every-map okPatient (λ q. patientOf (patientIn h q)) (below (h .v))) ∙ fit .lines) l
+
 -- Of a table whose entries begin at a place of the store.
 pub record TableFits (t : Table) (start : ℕ) : Type 0 where
   pub few : t .members ≤ 4
   pub inside : start + t .entries ≤ 4096
   pub members : every spellable (membersOf t) ≡ true
+
+-- Its members stand at the first places.
+pub members-taken : (t : Table) → t .members ≤ length (t .first) → take (t .members) (t .first) ≡ membersOf t
+members-taken t h = sym (below-take (λ j. getD (t .first) j 0) (t .first) (t .members) h (λ j l. refl))
 
 -- Of all.
 pub record Writable (h : Region) (store : List ℕ) : Type 0 where

@@ -14,7 +14,7 @@ ghost use Prim.Native.Nat.{_+_, _≤_};
 ghost use Rattle.definitions.specs.Basics.{true, map};
 ghost use Rattle.definitions.specs.Spelling.{spellPatient, spellTable, spellBody};
 ghost use Rattle.theorems.specs.Forms.{okPatient};
-ghost use Rattle.held_region.specs.Meaning.{codeOf, parentOf, patientOf, said};
+ghost use Rattle.held_region.specs.Meaning.{codeOf, parentOf, patientOf, membersOf, said};
 ghost use Rattle.text_writer.specs.Wrote.{Room, Wrote};
 ghost use Rattle.text_writer.specs.Parts.{apart, spellCode};
 ghost use Rattle.writer.specs.Spelled.{codesFrom, tableFrom, patientLines, tableLines};
@@ -54,6 +54,16 @@ fn write_patients(out: &mut [u8], at: usize, region: Region) -> usize
     next
 }
 
+// A table's members, single spaces between them.
+fn write_members(out: &mut [u8], at: usize, table: Table) -> usize
+    requires { ⌜ (table .members ≤ 4) × (Room (apart 0 (map spellCode (membersOf table))) at (now out)) ⌝ }
+    ensures { λ r. ⌜ Wrote (apart 0 (map spellCode (membersOf table))) at (now (out .entry)) (now (out .exit)) r ⌝ }
+{
+    let first = table.first;
+    let count = table.members;
+    write_codes(out, at, &first[..count], 0)
+}
+
 // Entries of the store, single spaces between them.
 fn write_entries(
     out: &mut [u8],
@@ -80,10 +90,8 @@ fn write_table(out: &mut [u8], at: usize, table: Table, store: &[u32; 4096], sta
     requires { ⌜ (TableFits table start) × (Room (spellTable (tableFrom (now store) start table)) at (now out)) ⌝ }
     ensures { λ r. ⌜ Wrote (spellTable (tableFrom (now (store .entry)) start table)) at (now (out .entry)) (now (out .exit)) r ⌝ }
 {
-    let first = table.first;
-    let count = table.members;
     let members = write_text(out, at, b"(cost (");
-    let between = write_codes(out, members, &first[..count], 0);
+    let between = write_members(out, members, table);
     let entries = write_text(out, between, b") (");
     let end = write_entries(out, entries, store, start, table.entries);
     write_text(out, end, b"))\n")

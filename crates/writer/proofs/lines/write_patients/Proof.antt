@@ -1,50 +1,60 @@
+use borrow.Author.Needs.{needs}
+use mathlib.Core.List.{[], _∷_}
+use Prim.Native.Nat.{_-_}
+use Rattle.definitions.specs.Spelling.{spellPatient}
+use Rattle.held_region.specs.Meaning.{patientOf, patientIn}
+use Rattle.text_writer.specs.Wrote.{Left, room-for, then-left}
+use Rattle.text_writer.specs.Parts.{linesFrom, lines-yet}
+use Rattle.writer.specs.Spelled.{patientsSaid, patientLines}
+use Rattle.writer.specs.Writable.{patient-fits}
+use Rattle.writer.proofs.Turns.{place-left, places-written}
 use Rattle.writer.proofs.lines.write_patients.Statement.{statement}
 use Rattle.writer.proofs.lines.write_patients.Tie as tie
-use Rattle.writer.proofs.lines.write_patients.Reads as reads
-use Rattle.writer.proofs.lines.write_patients.Lts as lts
-use Rattle.writer.proofs.lines.write_patient.Reads as write-patient-reads
 
 abbrev Inv-loop : tie.InvT-loop
-Inv-loop out₀ at region patients next₀ s₀ out next s = ?
+Inv-loop out₀ at region patients next₀ s₀ out next s = Left (patientLines region) at out₀ (linesFrom spellPatient (patientsSaid region) s ∷ []) out next
 
 abbrev μ-loop : tie.MeasureT-loop
-μ-loop out₀ at region patients next₀ s₀ out next s = ?
+μ-loop out₀ at region patients next₀ s₀ out next s = region .v - s
 
--- src/lines.rt:49:5
 loop-holds : tie.Need-loop-holds Inv-loop μ-loop
-loop-holds c = ?
+loop-holds c = lines-yet spellPatient _
 
--- src/lines.rt:50:23
 mul-patient : tie.Need-mul-patient Inv-loop μ-loop
-mul-patient c = ?
+mul-patient c = search needs
 
--- src/lines.rt:50:23
 array-copy-out-patient : tie.Need-array-copy-out-patient Inv-loop μ-loop
-array-copy-out-patient c = ?
+array-copy-out-patient c = search needs
 
--- src/lines.rt:51:9
 write-patient-requires : tie.Need-write-patient-requires Inv-loop μ-loop
-write-patient-requires c κs = ?
+write-patient-requires c κs =
+    let t = c .before .before in
+    let l = t .before .before in
+    let s = l .before .before .before in
+    (patient-fits (s .args .region) (s .pre .0) (l .loop .s) (t .if1 .taken), room-for (place-left spellPatient (λ q. patientOf (patientIn (s .args .region) q)) _ (l .loop .s) (l .loop .inv) (t .if1 .taken)) (s .pre .1))
 
--- src/lines.rt:52:9
 add-s : tie.Need-add-s Inv-loop μ-loop
-add-s c = ?
+add-s c = search needs
 
--- src/lines.rt:49:5
 loop-less : tie.Need-loop-less Inv-loop μ-loop
-loop-less c = ?
+loop-less c = search needs
 
--- src/lines.rt:49:5
 loop-again : tie.Need-loop-again Inv-loop μ-loop
-loop-again c = ?
+loop-again c =
+    let w = c .before .before in
+    let t = w .before .before .before in
+    let l = t .before .before in
+    let s = l .before .before .before in
+    then-left (place-left spellPatient (λ q. patientOf (patientIn (s .args .region) q)) _ (l .loop .s) (l .loop .inv) (t .if1 .taken)) (w .write-patient .ensures)
 
--- src/lines.rt:42:1
 same-length : tie.Need-same-length Inv-loop μ-loop
-same-length c = ?
+same-length c = search needs
 
--- src/lines.rt:42:1
 returns : tie.Need-returns Inv-loop μ-loop
-returns c = ?
+returns c =
+    let l = c .before .before in
+    let s = l .before .before .before in
+    places-written spellPatient (λ q. patientOf (patientIn (s .args .region) q)) _ (l .loop .s) (l .loop .inv) (c .if1 .left)
 
 pub write-patients-spec : {M : Type 1} → statement M
 write-patients-spec =
