@@ -1,8 +1,9 @@
 -- What write gives back, by the answers to questions 5 to 10 and to 15.
 use mathlib.Core.Path.{_≡_, refl, sym, ap, ap₂, _∙_}
 use Prim.Native.Nat.{_≤_}
+use native.Mathlib.Omega.{arith}
 use borrow.Author.Tests.{le-leb, lt-leb}
-use Rattle.definitions.specs.Basics.{ℕ, suc, _<_, true, false, List, [], _∷_, _++_, length, sets}
+use Rattle.definitions.specs.Basics.{ℕ, suc, _<_, true, false, List, [], _∷_, _++_, length, take, sets}
 use Rattle.definitions.specs.Spelling.{spell}
 use Rattle.definitions.specs.Questions.{Asked, firstNo, askedOfRegion, entryAsks}
 use Rattle.definitions.specs.Outcomes.{unlessRefused}
@@ -17,6 +18,7 @@ use Rattle.held_region.specs.Refusals.{asked, lastAsked}
 use Rattle.answers.specs.declared.Written.the-variants.{Refused, Short, Bytes}
 use Rattle.answers.specs.Answers.{refusalNumber, writtenOutcome}
 use Rattle.answers.specs.Numbers.{refusal-number}
+use Rattle.text_writer.specs.Wrote.{Room, Wrote, taken-back}
 use Rattle.writer.specs.Writable.{said-held, file-said}
 
 module _ (h : Region) (store output : List ℕ) where
@@ -53,10 +55,21 @@ module _ (h : Region) (store output : List ℕ) where
     by-room : firstNo allAsked ≡ firstNo ((15, roomForFile file output) ∷ [])
     by-room = yes-then (askedOfRegion (said h store)) ((15, roomForFile file output) ∷ []) (accepted-asked (said h store) a)
 
-    pub write-short : length output < length file → writtenOutcome Short output ≡ writeOutcome (said h store) output
+    write-short : length output < length file → writtenOutcome Short output ≡ writeOutcome (said h store) output
     unfolding roomForFile
     write-short l = asked-outcome (by-room ∙ ap (λ b. firstNo ((15, b) ∷ [])) (lt-leb _ _ l))
 
-    pub write-bytes : length file ≤ length output → writtenOutcome (Bytes (length file)) (sets output 0 file) ≡ writeOutcome (said h store) output
+    write-bytes : length file ≤ length output → writtenOutcome (Bytes (length file)) (sets output 0 file) ≡ writeOutcome (said h store) output
     unfolding roomForFile
     write-bytes l = asked-outcome (by-room ∙ ap (λ b. firstNo ((15, b) ∷ [])) (le-leb _ _ l))
+
+    -- The file was made in a text, and what was made is copied from there.
+    module _ {area text : List ℕ} {n : ℕ} (made : Wrote file 0 area text n) (room : Room file 0 area) where
+      pub made-short : length output < n → writtenOutcome Short output ≡ writeOutcome (said h store) output
+      made-short l = write-short (omega (arith, made .next))
+
+      pub made-copied : n ≤ length output → {after : List ℕ} {end : ℕ} → Wrote (take n text) 0 output after end
+          → writtenOutcome (Bytes n) after ≡ writeOutcome (said h store) output
+      made-copied l {after} copied =
+          let count : n ≡ length file = omega (arith, made .next) in
+          ap₂ (λ k bytes. writtenOutcome (Bytes k) bytes) count (copied .bytes ∙ ap (sets output 0) (taken-back made room)) ∙ write-bytes (omega arith)

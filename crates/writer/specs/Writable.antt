@@ -3,14 +3,16 @@ use mathlib.Core.Path.{_≡_, refl, sym, ap, _∙_}
 use native.Mathlib.Omega.{arith}
 use Prim.Native.Nat.{_≤_}
 use borrow.Author.Tests.{eq-eqb}
-use Rattle.definitions.specs.Basics.{ℕ, suc, _+_, _<_, true, not, _&&_, List, length, getD, take, below, every, isEmpty}
-use Rattle.definitions.specs.Spelling.{spellable, spell}
+use lib.ListN.{length-append}
+use Rattle.definitions.specs.Basics.{ℕ, suc, _+_, _<_, true, not, _&&_, List, [], _∷_, length, getD, take, below, text, every, isEmpty}
+use Rattle.definitions.specs.Limits.{fileLength, limits}
+use Rattle.definitions.specs.Spelling.{decimal, line, spellable, spellBody, spell}
 use Rattle.definitions.specs.Questions.{countsTrue}
 use Rattle.definitions.specs.Writer.{asHeld, writtenFile}
 use Rattle.lists.specs.Tests.{both, join}
 use Rattle.lists.specs.Every.{every-map}
 use Rattle.lists.specs.Below.{every-place, below-take}
-use Rattle.theorems.specs.Accepted.{Accepted}
+use Rattle.theorems.specs.Accepted.{Accepted, plans-wanted}
 use Rattle.theorems.specs.Forms.{okHead, okPatient, okTable}
 use Rattle.theorems.specs.Files.{LinesOk, well-formed-lines}
 use Rattle.theorems.specs.Lengths.{mostWritten}
@@ -45,6 +47,7 @@ members-taken t h = sym (below-take (λ j. getD (t .first) j 0) (t .first) (t .m
 -- Of all.
 pub record Writable (h : Region) (store : List ℕ) : Type 0 where
   pub head : okHead (h .v, h .t, h .m) ≡ true
+  pub wanted : h .m ≤ 64
   pub patients : PatientsFit h
   pub few : h .t ≤ 64
   pub tables : (i : ℕ) → i < h .t → TableFits (tableIn h i) (startIn h i)
@@ -70,6 +73,13 @@ module _ (h : Region) (store : List ℕ) where
     pub file-short : length (spell (said h store)) ≤ mostWritten
     file-short = rw file-said at (written-short (said h store) held-accepted)
 
+    -- So are the lines before the end line.
+    pub body-short : length (spellBody (said h store)) ≤ limits fileLength .highest
+    unfolding spell limits
+    body-short =
+        let end = line (text "end" ∷ decimal (said h store .statedSum) ∷ []) in
+        omega (arith, file-short, length-append (spellBody (said h store)) end)
+
     lines-ok : LinesOk (said h store)
     lines-ok = well-formed-lines (said h store) (rw said-held at (written-formed (said h store) held-accepted))
 
@@ -86,6 +96,7 @@ module _ (h : Region) (store : List ℕ) where
         let places = has-places h store (a .countsFit) in
         record {
           head = lines-ok .head;
+          wanted = plans-wanted (said h store) a .1;
           patients = record { places = places .patients; lines = lines-ok .patients };
           few = places .tables;
           tables = λ i l. record {

@@ -1,51 +1,52 @@
 use borrow.Author.Needs.{needs}
+use Rattle.text_writer.specs.Wrote.{none-yet, room-for, then-left, none-left}
+use Rattle.writer.specs.Spelled.{body-parts}
 use Rattle.writer.proofs.lines.write_body.Statement.{statement}
 use Rattle.writer.proofs.lines.write_body.Tie as tie
-use Rattle.writer.proofs.lines.write_body.Reads as reads
-use Rattle.writer.proofs.lines.write_body.Lts as lts
-use Rattle.text_writer.proofs.write_form.Reads as write-form-reads
-use Rattle.writer.proofs.lines.write_patients.Reads as write-patients-reads
-use Rattle.writer.proofs.lines.write_tables.Reads as write-tables-reads
 
--- src/lines.rt:125:9
 slice-aggregate-write-form : tie.Need-slice-aggregate-write-form
 slice-aggregate-write-form c = search needs
 
--- src/lines.rt:126:11
 cast-t12 : tie.Need-cast-t12
 cast-t12 c = search needs
 
--- src/lines.rt:126:28
 cast-t13 : tie.Need-cast-t13
 cast-t13 c = search needs
 
--- src/lines.rt:126:45
 cast-t14 : tie.Need-cast-t14
-cast-t14 c = ?
+cast-t14 c = search needs
 
--- src/lines.rt:126:9
 slice-aggregate-write-form-2 : tie.Need-slice-aggregate-write-form-2
 slice-aggregate-write-form-2 c = search needs
 
--- src/lines.rt:122:9
 write-form-requires : tie.Need-write-form-requires
-write-form-requires c κs = ?
+write-form-requires c κs =
+    let s = c .before .before .before .before .before .before .before in
+    room-for (none-yet {out = s .args .out .now} {at = 0} _ (body-parts (s .args .region) (s .args .store .now) (s .pre .0 .head))) (s .pre .1)
 
--- src/lines.rt:128:9
 write-patients-requires : tie.Need-write-patients-requires
-write-patients-requires c κs = ?
+write-patients-requires c κs =
+    let f = c .before .before .before in
+    let s = f .before .before .before .before .before .before .before .before in
+    (s .pre .0 .patients, room-for (then-left (none-yet _ (body-parts (s .args .region) (s .args .store .now) (s .pre .0 .head))) (f .write-form .ensures)) (s .pre .1))
 
--- src/lines.rt:129:5
 write-tables-requires : tie.Need-write-tables-requires
-write-tables-requires c κs = ?
+write-tables-requires c κs =
+    let p = c .before .before .before in
+    let f = p .before .before .before .before in
+    let s = f .before .before .before .before .before .before .before .before in
+    (s .pre .0, room-for (then-left (then-left (none-yet _ (body-parts (s .args .region) (s .args .store .now) (s .pre .0 .head))) (f .write-form .ensures)) (p .write-patients .ensures)) (s .pre .1))
 
--- src/lines.rt:118:1
 same-length : tie.Need-same-length
 same-length c = search needs
 
--- src/lines.rt:118:1
 returns : tie.Need-returns
-returns c = ?
+returns c =
+    let t = c .before .before in
+    let p = t .before .before .before .before in
+    let f = p .before .before .before .before in
+    let s = f .before .before .before .before .before .before .before .before in
+    none-left (then-left (then-left (then-left (none-yet _ (body-parts (s .args .region) (s .args .store .now) (s .pre .0 .head))) (f .write-form .ensures)) (p .write-patients .ensures)) (t .write-tables .ensures))
 
 pub write-body-spec : {M : Type 1} → statement M
 write-body-spec =

@@ -34,7 +34,7 @@ write-table-requires c κs =
     let t = c .before .before in
     let l = t .before in
     let s = l .before .before in
-    rw (l .loop .inv .0) (s .pre .0 .tables (l .loop .i) (t .loop-test .taken), room-for (place-left spellTable (tableSaid (s .args .region) (s .args .store .now)) (s .args .region .t) (l .loop .i) (l .loop .inv .1) (t .loop-test .taken)) (s .pre .1))
+    rw (l .loop .inv .0) (s .pre .0 .tables (l .loop .i) (t .loop-test .taken), room-for (place-left spellTable (tableSaid (s .args .t3) (s .args .store .now)) (s .args .t3 .t) (l .loop .i) (l .loop .inv .1) (t .loop-test .taken)) (s .pre .1))
 
 add-start : tie.Need-add-start Inv-loop μ-loop
 add-start c =
@@ -55,7 +55,7 @@ loop-again c =
     let t = w .before .before .before in
     let l = t .before in
     let s = l .before .before in
-    (omega (arith, l .loop .inv .0, ap (startIn (s .args .region)) (add-one (l .loop .i))), then-left (place-left spellTable (tableSaid (s .args .region) (s .args .store .now)) (s .args .region .t) (l .loop .i) (l .loop .inv .1) (t .loop-test .taken)) (rw (l .loop .inv .0) at (w .write-table .ensures)))
+    (omega (arith, l .loop .inv .0, ap (startIn (s .args .t3)) (add-one (l .loop .i))), then-left (place-left spellTable (tableSaid (s .args .t3) (s .args .store .now)) (s .args .t3 .t) (l .loop .i) (l .loop .inv .1) (t .loop-test .taken)) (rw (l .loop .inv .0) at (w .write-table .ensures)))
 
 same-length : tie.Need-same-length Inv-loop μ-loop
 same-length c = search needs
@@ -64,7 +64,7 @@ returns : tie.Need-returns Inv-loop μ-loop
 returns c =
     let l = c .before in
     let s = l .before .before in
-    places-written spellTable (tableSaid (s .args .region) (s .args .store .now)) (s .args .region .t) (l .loop .i) (l .loop .inv .1) (c .loop-test .left)
+    places-written spellTable (tableSaid (s .args .t3) (s .args .store .now)) (s .args .t3 .t) (l .loop .i) (l .loop .inv .1) (c .loop-test .left)
 
 pub write-tables-spec : {M : Type 1} → statement M
 write-tables-spec =
