@@ -3,8 +3,8 @@ use mathlib.Core.Path.{_≡_, refl, sym, ap, _∙_}
 use native.Mathlib.Omega.{arith}
 use Prim.Native.Nat.{_≤_}
 use borrow.Author.Tests.{eq-eqb}
-use lib.ListN.{length-append}
-use Rattle.definitions.specs.Basics.{ℕ, suc, _+_, _<_, true, not, _&&_, List, [], _∷_, length, getD, take, below, text, every, isEmpty}
+use lib.ListN.{length-append, length-replicate}
+use Rattle.definitions.specs.Basics.{ℕ, suc, _+_, _<_, true, not, _&&_, List, [], _∷_, length, getD, take, replicate, below, text, every, isEmpty}
 use Rattle.definitions.specs.Limits.{fileLength, limits}
 use Rattle.definitions.specs.Spelling.{decimal, line, spellable, spellBody, spell}
 use Rattle.definitions.specs.Questions.{countsTrue}
@@ -24,6 +24,7 @@ use Rattle.held_region.specs.Asked.{patients-said, tables-by-places, tables-sai
 use Rattle.held_region.specs.Stores.{start-most}
 use Rattle.held_region.specs.Entries.{total-most}
 use Rattle.held_region.specs.Sound.{HasPlaces, has-places, accepted-sound, members-held}
+use Rattle.text_writer.specs.Wrote.{Room}
 use Rattle.writer.specs.Spelled.{patientsSaid, sum-said}
 
 -- Of the patients.
@@ -70,8 +71,12 @@ module _ (h : Region) (store : List ℕ) where
     held-accepted : Accepted (asHeld (said h store))
     held-accepted = rw said-held a
 
-    pub file-short : length (spell (said h store)) ≤ mostWritten
+    file-short : length (spell (said h store)) ≤ mostWritten
     file-short = rw file-said at (written-short (said h store) held-accepted)
+
+    -- It has room in an area of so many bytes.
+    pub file-room : Room (spell (said h store)) 0 (replicate mostWritten 0)
+    file-room = omega (arith, file-short, length-replicate {A = ℕ} mostWritten 0)
 
     -- So are the lines before the end line.
     pub body-short : length (spellBody (said h store)) ≤ limits fileLength .highest

@@ -1,36 +1,36 @@
 use borrow.Author.Needs.{needs}
+use mathlib.Core.Path.{sym, ap, _∙_}
+use Rattle.held_region.specs.Refusals.{numberOf}
+use Rattle.writer.specs.Outcomes.{write-refused, write-accepted}
 use Rattle.writer.proofs.write.Statement.{statement}
 use Rattle.writer.proofs.write.Tie as tie
-use Rattle.writer.proofs.write.Reads as reads
-use Rattle.writer.proofs.write.Lts as lts
-use Rattle.questions.proofs.judge.Reads as judge-reads
-use Rattle.writer.proofs.write_accepted.Reads as write-accepted-reads
 
--- src/lib.rt:51:11
 judge-requires : tie.Need-judge-requires
 judge-requires c κs = search needs
 
--- src/lib.rt:52:25
 enum-known-refusal : tie.Need-enum-known-refusal
 enum-known-refusal c = search needs
 
--- src/lib.rt:53:55
 enum-told : tie.Need-enum-told
 enum-told c = search needs
 
--- src/lib.rt:53:25
 write-accepted-requires : tie.Need-write-accepted-requires
-write-accepted-requires c κs = ?
+write-accepted-requires c κs =
+    let e = c .before in
+    let j = e .before .before in
+    let s = j .before .before in
+    write-accepted (s .args .region) (s .args .store .now) (s .args .output .now) (ap numberOf (sym (e .enum-told .given .1)) ∙ j .judge .ensures)
 
--- src/lib.rt:48:1
 returns : tie.Need-returns
-returns c = ?
+returns c =
+    let r = c .before in
+    let j = r .before .before in
+    let s = j .before .before in
+    write-refused (s .args .region) (s .args .store .now) (s .args .output .now) (r .refusal .given .0 .0) (ap numberOf (sym (r .refusal .given .1)) ∙ j .judge .ensures)
 
--- src/lib.rt:48:1
 same-length : tie.Need-same-length
 same-length c = search needs
 
--- src/lib.rt:48:1
 returns-2 : tie.Need-returns-2
 returns-2 c = search needs
 

@@ -1,42 +1,61 @@
 use borrow.Author.Needs.{needs}
+use native.Mathlib.Omega.{arith}
+use mathlib.Core.Path.{sym}
+use lib.Seq.{length-take-le}
+use Rattle.text_writer.specs.Wrote.{ends-inside}
+use Rattle.writer.specs.Writable.{file-room}
+use Rattle.writer.specs.Outcomes.{made-short, made-copied}
 use Rattle.writer.proofs.write_accepted.Statement.{statement}
 use Rattle.writer.proofs.write_accepted.Tie as tie
-use Rattle.writer.proofs.write_accepted.Reads as reads
-use Rattle.writer.proofs.write_accepted.Lts as lts
-use Rattle.text_writer.proofs.write_text.Reads as write-text-reads
-use Rattle.writer.proofs.write_file.Reads as write-file-reads
 
--- src/lib.rt:39:24
 slice-aggregate-write-file : tie.Need-slice-aggregate-write-file
 slice-aggregate-write-file c = search needs
 
--- src/lib.rt:39:9
 write-file-requires : tie.Need-write-file-requires
-write-file-requires c κs = ?
+write-file-requires c κs =
+    let s = c .before .before in
+    (s .pre, file-room (s .args .region) (s .args .store .now) (s .pre))
 
--- src/lib.rt:41:9
 returns : tie.Need-returns
-returns c = ?
+returns c =
+    let w = c .before .before in
+    let s = w .before .before .before in
+    let room = file-room (s .args .region) (s .args .store .now) (s .pre) in
+    made-short (s .args .region) (s .args .store .now) (s .args .output .now) (s .pre) (w .write-file .ensures) room (c .if1 .taken)
 
--- src/lib.rt:43:27
 array-share-prefix-text : tie.Need-array-share-prefix-text
-array-share-prefix-text c = ?
+array-share-prefix-text c =
+    let w = c .before .before .before in
+    let s = w .before .before .before in
+    let room = file-room (s .args .region) (s .args .store .now) (s .pre) in
+    ends-inside (w .write-file .ensures) room
 
--- src/lib.rt:43:27
 slice-aggregate-write-text : tie.Need-slice-aggregate-write-text
-slice-aggregate-write-text c = ?
+slice-aggregate-write-text c =
+    let w = c .before .before .before .before in
+    let s = w .before .before .before in
+    let room = file-room (s .args .region) (s .args .store .now) (s .pre) in
+    sym (length-take-le _ _ (ends-inside (w .write-file .ensures) room))
 
--- src/lib.rt:43:5
 write-text-requires : tie.Need-write-text-requires
-write-text-requires c κs = ?
+write-text-requires c κs =
+    let e = c .before .before in
+    let w = e .before .before in
+    let s = w .before .before .before in
+    let room = file-room (s .args .region) (s .args .store .now) (s .pre) in
+    omega (arith, length-take-le (w .write-file .result) (w .write-file .last .0) (ends-inside (w .write-file .ensures) room), e .if1 .left)
 
--- src/lib.rt:34:1
 same-length : tie.Need-same-length
 same-length c = search needs
 
--- src/lib.rt:34:1
 returns-2 : tie.Need-returns-2
-returns-2 c = ?
+returns-2 c =
+    let t = c .before .before in
+    let e = t .before .before .before in
+    let w = e .before .before in
+    let s = w .before .before .before in
+    let room = file-room (s .args .region) (s .args .store .now) (s .pre) in
+    made-copied (s .args .region) (s .args .store .now) (s .args .output .now) (s .pre) (w .write-file .ensures) room (e .if1 .left) (t .write-text .ensures)
 
 pub write-accepted-spec : {M : Type 1} → statement M
 write-accepted-spec =
