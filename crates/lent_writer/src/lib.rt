@@ -16,4 +16,3 @@ fn number_without_room(region: Region, store: &[u32; 4096]) -> u64
     let number = checked_number(judge(region, store, true));
     if number == 0 { 12 } else { number }
 }
-

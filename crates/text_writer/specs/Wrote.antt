@@ -2,8 +2,8 @@
 use mathlib.Core.Path.{_≡_, refl, sym, ap, _∙_}
 use native.Mathlib.Omega.{arith}
 use Prim.Native.Nat.{_≤_}
-use lib.ListN.{set, length-append}
-use lib.Seq.{length-sets}
+use lib.ListN.{set, take, drop, length-append}
+use lib.Seq.{length-sets, sets-eq, take-at}
 use Rattle.definitions.specs.Basics.{ℕ, suc, _+_, List, [], _∷_, _++_, flatten, length, sets}
 
 -- A text has room at a place.
@@ -61,3 +61,12 @@ module _ {whole out now : List ℕ} {at place : ℕ} where
     ends = ap (λ (l : List ℕ). place + length l) (sym same) ∙ left .ends;
     long = left .long;
   }
+
+-- A written text ends inside the area; where it begins with the area, it is what stands there up to its end.
+module _ {text out after : List ℕ} {at end : ℕ} (w : Wrote text at out after end) (room : Room text at out) where
+  pub ends-inside : end ≤ length after
+  ends-inside = omega (arith, w .next, ap length (w .bytes), length-sets out at text)
+
+pub taken-back : {text out after : List ℕ} {end : ℕ} → Wrote text 0 out after end → Room text 0 out → take end after ≡ text
+taken-back {text} {out} {after} {end} w room =
+    ap (take end) (w .bytes ∙ sets-eq text out 0 room) ∙ take-at text (drop (0 + length text) out) end (omega (arith, w .next))

@@ -1,0 +1,40 @@
+use borrow.Author.Needs.{needs}
+use Rattle.writer.specs.Spelled.{patient-codes}
+use Rattle.writer.proofs.lines.write_patient.Statement.{statement}
+use Rattle.writer.proofs.lines.write_patient.Tie as tie
+
+parent-code-requires : tie.Need-parent-code-requires
+parent-code-requires c κs = search needs
+
+slice-aggregate-write-form : tie.Need-slice-aggregate-write-form
+slice-aggregate-write-form c = search needs
+
+slice-aggregate-write-form-2 : tie.Need-slice-aggregate-write-form-2
+slice-aggregate-write-form-2 c = search needs
+
+write-form-requires : tie.Need-write-form-requires
+write-form-requires c κs =
+    let p = c .before .before .before in
+    let s = p .before .before in
+    rw (patient-codes (s .args .patient) _ (s .pre .0) (p .parent-code .ensures)) at (s .pre .1)
+
+same-length : tie.Need-same-length
+same-length c = search needs
+
+returns : tie.Need-returns
+returns c =
+    let w = c .before .before in
+    let p = w .before .before .before .before in
+    let s = p .before .before in
+    rw (patient-codes (s .args .patient) _ (s .pre .0) (p .parent-code .ensures)) (w .write-form .ensures)
+
+pub write-patient-spec : {M : Type 1} → statement M
+write-patient-spec =
+    tie.close
+    (tie.spec
+    parent-code-requires
+    slice-aggregate-write-form
+    slice-aggregate-write-form-2
+    write-form-requires
+    same-length
+    returns)
