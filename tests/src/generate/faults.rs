@@ -21,18 +21,30 @@ pub fn sound_region(random: &mut Random) -> Region {
 
 /// A file of which the question, 3 to 10, is answered "no" and every earlier one "yes".
 pub fn file_with_fault(question: u64, random: &mut Random) -> Vec<u8> {
-    let mut draft = Draft::of(&sound_region(random));
-    put_fault(question, &mut draft, random);
+    let draft = with_faults(&[question], random);
     written(question == 4, &draft, random)
 }
 
 /// A file with faults of two questions; the smaller number is its answer.
 pub fn file_with_faults(one: u64, other: u64, random: &mut Random) -> Vec<u8> {
-    let mut draft = Draft::of(&sound_region(random));
-    // Counts are stated last, of what the file then holds.
-    put_fault(one.max(other), &mut draft, random);
-    put_fault(one.min(other), &mut draft, random);
+    let draft = with_faults(&[one, other], random);
     written(one == 4 || other == 4, &draft, random)
+}
+
+/// A region with faults of some of the questions 5 to 10; the smallest number is its answer. Other numbers make no fault of it.
+pub fn region_with_faults(questions: &[u64], random: &mut Random) -> Region {
+    with_faults(questions, random).region
+}
+
+fn with_faults(questions: &[u64], random: &mut Random) -> Draft {
+    let mut draft = Draft::of(&sound_region(random));
+    let mut falling = questions.to_vec();
+    // Counts are stated last, of what the file then holds.
+    falling.sort_by(|one, other| other.cmp(one));
+    for question in falling {
+        put_fault(question, &mut draft, random);
+    }
+    draft
 }
 
 fn written(wrong_sum: bool, draft: &Draft, random: &mut Random) -> Vec<u8> {
