@@ -6,7 +6,8 @@ use crate::region::{Patient, Region, Table};
 /// Stands for `-`.
 pub const NONE: u64 = u64::MAX;
 
-/// The numbers, of any size. A patient: clinic, beds, parent. A table: the count of its members, four of them, the count of its entries.
+/// The numbers, of any size. A patient is its clinic, beds and parent; a table the count of its members, four of them,
+/// and the count of its entries.
 #[derive(Clone)]
 pub struct Numbers {
     pub patients: Vec<[u64; 3]>,
@@ -91,7 +92,7 @@ impl Lent {
     }
 }
 
-/// As many as are counted. Those past the fourth have no place: question 7 refuses their count, and one of them shows it.
+/// As many as are counted. Past the fourth they have no place; question 7 refuses their count, which one of them shows.
 fn members_of(table: &[u64]) -> Vec<u64> {
     let count = table[0].min(5) as usize;
     table[1..ENTRY_COUNT].iter().copied().chain([0]).take(count).collect()

@@ -213,7 +213,7 @@ pub fn limits(tested: Tested<WriteCall>, seed: u64, count: usize) -> Result<Tall
     tally.with_all(numbers::OF_REGIONS)
 }
 
-/// A few regions with output areas of every length from 0 to past the need, result areas of 0 to 17 bytes, and mixtures.
+/// A few regions with output areas of every length up to past the need, result areas of 0 to 17 bytes, and mixtures.
 pub fn all_lengths(tested: Tested<WriteCall>, seed: u64, _: usize) -> Result<Tally, Difference> {
     let mut tally = Tally::of(&format!("{}, all lengths", tested.name));
     let mut random = Random::of(seed, "write, all lengths");
@@ -233,8 +233,8 @@ pub fn all_lengths(tested: Tested<WriteCall>, seed: u64, _: usize) -> Result<Tal
     tally.with_all(&[0, 12, 15])
 }
 
-/// The way back, without the independent speller: what is read of a written file is what was lent, check accepts it, and its
-/// list is the region's. And the way there: the region that is read of a good file is written as that file.
+/// What is read of a written file is what was lent, check accepts it, and its list is the region's. The other way round,
+/// what is read of a good file is written as that file.
 pub fn round_trips(tested: Tested<WriteCall>, seed: u64, count: usize) -> Result<Tally, Difference> {
     let mut tally = Tally::of(&format!("{}, there and back", tested.name));
     let mut random = Random::of(seed, "write, there and back");

@@ -31,7 +31,7 @@ pub fn file_with_faults(one: u64, other: u64, random: &mut Random) -> Vec<u8> {
     written(one == 4 || other == 4, &draft, random)
 }
 
-/// A region with faults of some of the questions 5 to 10; the smallest number is its answer. Other numbers make no fault of it.
+/// A region with faults of these questions, as far as they are 5 to 10; the smallest is its answer.
 pub fn region_with_faults(questions: &[u64], random: &mut Random) -> Region {
     with_faults(questions, random).region
 }
@@ -209,7 +209,7 @@ fn high_entry(region: &mut Region, random: &mut Random) {
     entries[place] = Some(random.pick(&[low, low + 1, low.next_power_of_two(), HIGHEST_ENTRY * 2, HIGHEST_NUMBER]));
 }
 
-/// Question 10: a table over two patients of which neither is the other's ancestor.
+/// Question 10: a table over two to four patients, of two of which neither is the other's ancestor.
 fn joined_trees(draft: &mut Draft, random: &mut Random) {
     let region = &mut draft.region;
     if region.tables.len() == 64 {
@@ -219,7 +219,11 @@ fn joined_trees(draft: &mut Draft, random: &mut Random) {
     let first = random.between(0, second - 1);
     // The second patient and those below it become a tree of their own.
     region.patients[second as usize].parent = None;
-    let members = vec![first, second];
+    let others = random.below(3);
+    let mut members = small::some_of((0..region.patients.len() as u64).collect(), others, random);
+    members.extend([first, second]);
+    members.sort();
+    members.dedup();
     let entries = vec![Some(7); region.entries_over(&members) as usize];
     let place = random.below(region.tables.len() + 1);
     region.tables.insert(place, Table { members, entries });
