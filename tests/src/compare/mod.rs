@@ -142,6 +142,7 @@ fn run_few_writes(seed: u64) -> Result<(), Difference> {
     write::double_faults(BARE.write, seed, 20)?.print();
     write::not_whole(BARE.write, seed, 48)?.print();
     write::large_numbers(BARE.write, seed, 96)?.print();
+    write::limits(BARE.write, seed, 24)?.print();
     write::round_trips(BARE.write, seed, 12)?.print();
     Ok(())
 }

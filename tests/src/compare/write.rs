@@ -1,4 +1,4 @@
-//! Write in every byte of every area: good regions, faults of each question, areas of every length, and the way back.
+//! Write in every byte of every area, with regions that a file could say and with others; and written files read back.
 
 use crate::areas::{Area, Areas, Lengths, Outputs};
 use crate::boundary;
@@ -28,6 +28,7 @@ pub fn run(tested: Tested<WriteCall>, seed: u64, count: usize) -> Result<Vec<Tal
         not_whole(tested, seed, count)?,
         large_numbers(tested, seed, count * 2)?,
         limits(tested, seed, count)?,
+        counts(tested, seed, count)?,
         all_lengths(tested, seed, count)?,
         round_trips(tested, seed, count / 8)?,
     ])
@@ -74,6 +75,19 @@ fn lent_text(lent: &Lent) -> String {
 
 fn outputs_text(areas: &Outputs) -> String {
     format!("\n  output {}\n  result {}", area_text(&areas.output), area_text(&areas.result))
+}
+
+/// One call with areas of some lengths.
+fn compare_near(
+    tally: &mut Tally,
+    tested: Tested<WriteCall>,
+    lent: &Lent,
+    known: Option<u64>,
+    random: &mut Random,
+) -> Result<(), Difference> {
+    let file = outcomes::file_of_lent(lent);
+    let areas = near(&file, random);
+    compare(tally, tested, (lent, &file), areas, known)
 }
 
 /// A region, any numbers in the places of members that are not there, and its file or refusal.
@@ -124,12 +138,10 @@ pub fn single_faults(tested: Tested<WriteCall>, seed: u64, count: usize) -> Resu
     for _ in 0..count {
         for question in numbers::OF_REGIONS {
             let region = faults::region_with_faults(&[*question], &mut random);
-            let (lent, file) = lent_with_file(&region, &mut random);
-            compare(&mut tally, tested, (&lent, &file), near(&file, &mut random), Some(*question))?;
+            let lent = lent_faults::lent(&region, &mut random);
+            compare_near(&mut tally, tested, &lent, Some(*question), &mut random)?;
         }
-        let lent = lent_faults::shifted_count(&mut random);
-        let file = outcomes::file_of_lent(&lent);
-        compare(&mut tally, tested, (&lent, &file), near(&file, &mut random), Some(8))?;
+        compare_near(&mut tally, tested, &lent_faults::shifted_count(&mut random), Some(8), &mut random)?;
     }
     tally.with_all(numbers::OF_REGIONS)
 }
@@ -155,13 +167,13 @@ fn compare_faults(
     random: &mut Random,
 ) -> Result<(), Difference> {
     let region = faults::region_with_faults(&[one, other], random);
-    let whole = if one == 2 { lent_faults::not_whole(&region, random) } else { lent_faults::lent(&region, random) };
-    let file = outcomes::file_of_lent(&whole);
+    let lent = if one == 2 { lent_faults::not_whole(&region, random) } else { lent_faults::lent(&region, random) };
+    let file = outcomes::file_of_lent(&lent);
     let needed = file.as_ref().map_or(SOME, Vec::len);
     let output = if other == 15 { random.below(needed) } else { needed };
     let result = if one == 12 || other == 12 { random.below(8) } else { 8 };
     let areas = Outputs::patterned(output, result, random.number());
-    compare(tally, tested, (&whole, &file), areas, Some(one))
+    compare(tally, tested, (&lent, &file), areas, Some(one))
 }
 
 /// Areas that are not whole, and counts that do not add up, some of them only where a sum is cut to 32 or 64 bits.
@@ -170,8 +182,7 @@ pub fn not_whole(tested: Tested<WriteCall>, seed: u64, count: usize) -> Result<T
     let mut random = Random::of(seed, "write, areas not whole");
     for _ in 0..count {
         let lent = lent_faults::not_whole(&small::any_region(&mut random), &mut random);
-        let file = outcomes::file_of_lent(&lent);
-        compare(&mut tally, tested, (&lent, &file), near(&file, &mut random), Some(2))?;
+        compare_near(&mut tally, tested, &lent, Some(2), &mut random)?;
     }
     tally.with_all(&[2])
 }
@@ -181,17 +192,25 @@ pub fn large_numbers(tested: Tested<WriteCall>, seed: u64, count: usize) -> Resu
     let mut tally = Tally::of(&format!("{}, large numbers", tested.name));
     let mut random = Random::of(seed, "write, large numbers");
     for _ in 0..count {
-        let lent = lent_faults::one_large_number(&mut random);
-        let file = outcomes::file_of_lent(&lent);
-        compare(&mut tally, tested, (&lent, &file), near(&file, &mut random), None)?;
+        compare_near(&mut tally, tested, &lent_faults::one_large_number(&mut random), None, &mut random)?;
     }
     tally.with_all(&[0, 2, 5, 6, 7, 9])
 }
 
-/// 0 to 40 patients with 0 to 70 tables, and many more; stores at the limit; each field at its limits and beside them.
+/// One field of a sound region at its limits and beside them.
 pub fn limits(tested: Tested<WriteCall>, seed: u64, count: usize) -> Result<Tally, Difference> {
     let mut tally = Tally::of(&format!("{}, limits", tested.name));
     let mut random = Random::of(seed, "write, limits");
+    for _ in 0..count {
+        compare_near(&mut tally, tested, &lent_faults::at_a_limit(&mut random), None, &mut random)?;
+    }
+    tally.with_all(&[0, 5, 6, 7, 8, 9])
+}
+
+/// 0 to 40 patients with 0 to 70 tables, many more of both, and stores at the limit.
+pub fn counts(tested: Tested<WriteCall>, seed: u64, _: usize) -> Result<Tally, Difference> {
+    let mut tally = Tally::of(&format!("{}, counts", tested.name));
+    let mut random = Random::of(seed, "write, counts");
     for patients in 0..=40 {
         for tables in 0..=70 {
             let region = lent_faults::of_counts(patients, tables, random.between(1, 64));
@@ -205,12 +224,7 @@ pub fn limits(tested: Tested<WriteCall>, seed: u64, count: usize) -> Result<Tall
         let (lent, file) = lent_with_file(&region, &mut random);
         compare(&mut tally, tested, (&lent, &file), Outputs::patterned(70_000, 8, random.number()), Some(number))?;
     }
-    for _ in 0..count {
-        let lent = lent_faults::at_a_limit(&mut random);
-        let file = outcomes::file_of_lent(&lent);
-        compare(&mut tally, tested, (&lent, &file), near(&file, &mut random), None)?;
-    }
-    tally.with_all(numbers::OF_REGIONS)
+    tally.with_all(&[0, 5, 8])
 }
 
 /// A few regions with output areas of every length up to past the need, result areas of 0 to 17 bytes, and mixtures.

@@ -177,10 +177,11 @@ fn wrong_writes() -> Vec<(&'static str, Comparison<WriteCall>, WriteCall)> {
         ("15 before 10", write::double_faults, writes::room_before::<10>),
         ("15 before 12", write::double_faults, writes::room_before::<12>),
         ("12 before the region's", write::double_faults, writes::twelve_first),
-        ("32 patients are too many", write::limits, writes::refusing_the_most::<32, 0>),
-        ("64 tables are too many", write::limits, writes::refusing_the_most::<0, 64>),
-        ("patients are counted in 8 bits", write::limits, writes::patients_counted_in::<8>),
-        ("patients are counted in 16 bits", write::limits, writes::patients_counted_in::<16>),
+        ("a table without members is taken", write::limits, writes::no_members_taken),
+        ("32 patients are too many", write::counts, writes::refusing_the_most::<32, 0>),
+        ("64 tables are too many", write::counts, writes::refusing_the_most::<0, 64>),
+        ("patients are counted in 8 bits", write::counts, writes::patients_counted_in::<8>),
+        ("patients are counted in 16 bits", write::counts, writes::patients_counted_in::<16>),
         ("members that are not there are judged", write::good_regions, writes::unused_judged),
     ]
 }

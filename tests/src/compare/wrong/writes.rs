@@ -93,6 +93,14 @@ pub fn without<const QUESTION: u64>(lent: &Lent, areas: &mut Outputs) -> u64 {
     }
 }
 
+pub fn no_members_taken(lent: &Lent, areas: &mut Outputs) -> u64 {
+    let none = |table: &[u64]| table[0] == 0;
+    match boundary::write(lent, areas) {
+        7 if numbers_in(&lent.tables).chunks(6).any(none) => 0,
+        number => number,
+    }
+}
+
 /// One of the most patients or tables is too many.
 pub fn refusing_the_most<const PATIENTS: usize, const TABLES: usize>(lent: &Lent, areas: &mut Outputs) -> u64 {
     let counts = (lent.patients.contents().len() / 24, lent.tables.contents().len() / 48);
