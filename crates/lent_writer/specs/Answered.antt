@@ -5,7 +5,7 @@ use Rattle.definitions.specs.Syntax as Said
 use Rattle.definitions.specs.Questions.{Asked, firstNo, askedOfRegion, callAsks}
 use Rattle.definitions.specs.Outcomes.{unlessRefused}
 use Rattle.definitions.specs.Writer.{regionFrom, asHeld, writtenFile, roomForFile, askedByWrite, madeBy, WriteOutcome, writeOutcomeOf, writeOutcome}
-use Rattle.definitions.specs.Boundary.{lentRegion, lentWhole, askedByLentWrite}
+use Rattle.definitions.specs.Boundary.{roomForNumbers, resultAfter, lentRegion, lentWhole, askedByLentWrite, WriteCall, writeCallOf, writeCall}
 use Rattle.theorems.specs.Answers.{says, yes-then, no-then, yes-between}
 use Rattle.held_region.specs.Refusals.{asked, lastAsked}
 use Rattle.held_region.specs.StandsFor.{StandsFor}
@@ -21,6 +21,11 @@ some-number number (suc q) e some-no = e
 
 abbrev pub nothingWritten : ℕ → List ℕ → WriteOutcome
 nothingWritten number output = record { number = number; count = 0; output = output }
+
+-- Values that are given back, and what they are.
+pub given-values : {given number counted count : ℕ} (output : List ℕ) → given ≡ number → counted ≡ count
+    → _≡_ {A = WriteOutcome} (record { number = given; count = counted; output = output }) (record { number = number; count = count; output = output })
+given-values output e f = λ i. record { number = e i; count = f i; output = output }
 
 -- What is made by questions that give one number.
 module _ (file output : List ℕ) where
@@ -106,3 +111,10 @@ module _ (patients tables entries : List ℕ) (m : ℕ) (output : List ℕ) wher
         go (suc q) e =
             made-refused (writtenFile region) output (early ++ (12, false) ∷ later) q (no-then early ((12, false) ∷ later) q e)
             ∙ ap (λ n. nothingWritten (orTwelve n) output) (sym e)
+
+  -- With the result area, it is the call.
+  pub called : {number count : ℕ} {after left : List ℕ} (result : List ℕ)
+      → _≡_ {A = WriteOutcome} (record { number = number; count = count; output = after }) (lentOutcome (roomForNumbers 1 result)) → left ≡ resultAfter (count ∷ []) result
+      → _≡_ {A = WriteCall} (record { number = number; output = after; result = left }) (writeCall patients tables entries m output result)
+  unfolding lentOutcome writeOutcomeOf writeCall writeCallOf
+  called result e f = λ i. record { number = e i .number; output = e i .output; result = (f ∙ ap (λ (o : WriteOutcome). resultAfter (o .count ∷ []) result) e) i }

@@ -4,7 +4,7 @@ ghost use Rattle.definitions.specs.Basics.{false};
 ghost use Rattle.definitions.specs.Plans.{Plan};
 ghost use Rattle.definitions.specs.Questions.{callAsks, askedByPrice};
 ghost use Rattle.definitions.specs.Outcomes.{priceFound};
-ghost use Rattle.definitions.specs.Boundary.{checkCall, listCall, sheetCall, priceCall};
+ghost use Rattle.definitions.specs.Boundary.{checkCall, listCall, sheetCall, priceCall, writeCall};
 ghost use Rattle.answers.specs.Answers.{notAllowed};
 use answers::checked_number;
 use answers::list_values;
@@ -13,6 +13,7 @@ use answers::sheet_values;
 use byte_areas::cost_room;
 use byte_areas::store_price;
 use byte_areas::store_rows;
+use lent_writer::write_lent;
 use planner::check;
 use planner::list;
 use planner::price;
@@ -85,4 +86,19 @@ pub extern "C" fn rigbasen_price(file: &[u8], plan: &[u8], result: &mut [u8]) ->
     let values = price_values(price(file, plan));
     store_price(result, values.allowed, values.total);
     values.number
+}
+
+// A region that is lent in three areas, written as a file. The result area holds one number: the byte count.
+#[no_mangle]
+pub extern "C" fn rigbasen_write(
+    patients: &[u8],
+    tables: &[u8],
+    entries: &[u8],
+    m: u64,
+    output: &mut [u8],
+    result: &mut [u8],
+) -> u64
+    ensures { λ n. ⌜ record { number = n; output = now (output .exit); result = now (result .exit) } ≡ writeCall (now (patients .entry)) (now (tables .entry)) (now (entries .entry)) m (now (output .entry)) (now (result .entry)) ⌝ }
+{
+    write_lent(patients, tables, entries, m, output, result)
 }

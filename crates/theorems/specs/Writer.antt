@@ -98,9 +98,9 @@ module _ (r : Region) (a : Accepted r) where
   formed sum =
       let (v, t, m) = counts-within r a in
       let counts =
-          join (spellable-most patientCount refl (r .patientCount) (at-most patientCount (r .patientCount) v))
-          (join (spellable-most tableCount refl (r .tableCount) (at-most tableCount (r .tableCount) t))
-          (join (spellable-most plansWanted refl (r .plansWanted) (at-most plansWanted (r .plansWanted) m)) (join sum refl)))
+      join (spellable-most patientCount refl (r .patientCount) (at-most patientCount (r .patientCount) v))
+      (join (spellable-most tableCount refl (r .tableCount) (at-most tableCount (r .tableCount) t))
+      (join (spellable-most plansWanted refl (r .plansWanted) (at-most plansWanted (r .plansWanted) m)) (join sum refl)))
       in
       join (join (join counts (every-all _ (r .patients) patient-spellable)) (every-all _ (r .tables) members-spellable)) (every-all _ (r .tables) entries-spellable)
 
