@@ -38,3 +38,12 @@ uint64_t rigbasen_price(const uint8_t *file, size_t file_length, const uint8_t *
     (void)file, (void)file_length, (void)plan, (void)plan_length, (void)result, (void)result_length;
     return number();
 }
+
+uint64_t rigbasen_write(const uint8_t *patients, size_t patients_length, const uint8_t *tables, size_t tables_length,
+                        const uint8_t *entries, size_t entries_length, uint64_t m,
+                        uint8_t *output, size_t output_length, uint8_t *result, size_t result_length)
+{
+    (void)patients, (void)patients_length, (void)tables, (void)tables_length, (void)entries, (void)entries_length;
+    (void)m, (void)output, (void)output_length, (void)result, (void)result_length;
+    return number();
+}

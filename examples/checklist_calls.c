@@ -1,6 +1,6 @@
 /*
  * The calls that the checklist makes.
- *     cuts FILE            lends every cut of the file, short of the whole, to all four calls
+ *     cuts FILE            lends every cut of the file, short of the whole, to the four calls of a file
  *     print FILE           the list and the clinics' sheets by the calls, in the printing program's form
  *     price FILE BED ..    what the plan costs
  *     seal                 standard input with its end line put behind it
@@ -31,7 +31,7 @@ static int refused_clean(uint64_t number, const struct areas *areas)
         && all(areas->costs, sizeof areas->costs, PATTERN) && all(areas->result, sizeof areas->result, 0);
 }
 
-/* Do all four calls refuse this cut? */
+/* Do all four calls of a file refuse this cut? */
 static int cut_refused(const struct region_file *cut, const uint8_t *plan, size_t patients)
 {
     struct areas areas;

@@ -52,6 +52,32 @@ static void *run_price(void *unused)
     return unused;
 }
 
+/* Writes the most of everything: patients in a chain, and tables over two of them with 64 entries each. */
+static void *run_write(void *unused)
+{
+    static struct rigbasen_patient patients[RIGBASEN_MOST_PATIENTS];
+    static struct rigbasen_table tables[RIGBASEN_MOST_TABLES];
+    static uint64_t entries[RIGBASEN_MOST_ENTRIES];
+    static uint8_t output[RIGBASEN_WRITTEN_BYTES];
+    uint8_t result[RIGBASEN_WRITE_RESULT_BYTES];
+    for (uint64_t i = 0; i < RIGBASEN_MOST_PATIENTS; i++) {
+        struct rigbasen_patient patient = {i / 2, 8, i == 0 ? RIGBASEN_NONE : i - 1};
+        patients[i] = patient;
+    }
+    for (uint64_t i = 0; i < RIGBASEN_MOST_TABLES; i++) {
+        struct rigbasen_table table = {2, {i / 3, i / 3 + 1, 0, 0}, 64};
+        tables[i] = table;
+    }
+    uint64_t number = rigbasen_write((const uint8_t *)patients, sizeof patients, (const uint8_t *)tables, sizeof tables,
+                                     (const uint8_t *)entries, sizeof entries, RIGBASEN_MOST_ROWS,
+                                     output, sizeof output, result, sizeof result);
+    if (number != RIGBASEN_FINE) {
+        fprintf(stderr, "write refused the largest region\n");
+        exit(2);
+    }
+    return unused;
+}
+
 /* How many bytes of its stack a thread changed that runs this. */
 static size_t stack_of(void *(*run)(void *))
 {
@@ -76,9 +102,10 @@ static size_t stack_of(void *(*run)(void *))
 
 int main(int count, char **arguments)
 {
-    static const char *const names[] = {"check", "list", "sheet", "price"};
-    static void *(*const calls[])(void *) = {run_check, run_list, run_sheet, run_price};
-    size_t most[] = {0, 0, 0, 0};
+    static const char *const names[] = {"check", "list", "sheet", "price", "write"};
+    static void *(*const calls[])(void *) = {run_check, run_list, run_sheet, run_price, run_write};
+    enum { CALLS = sizeof calls / sizeof calls[0] };
+    size_t most[CALLS] = {0};
     int over = 0;
     if (count < 2) {
         fprintf(stderr, "stack_needed FILE ..\n");
@@ -87,12 +114,12 @@ int main(int count, char **arguments)
     for (int i = 1; i < count; i++) {
         read_region(arguments[i], &file);
         size_t own = stack_of(run_nothing);
-        for (int call = 0; call < 4; call++) {
+        for (int call = 0; call < CALLS; call++) {
             size_t taken = stack_of(calls[call]) - own;
             most[call] = taken > most[call] ? taken : most[call];
         }
     }
-    for (int call = 0; call < 4; call++) {
+    for (int call = 0; call < CALLS; call++) {
         printf("%s took %zu bytes of stack\n", names[call], most[call]);
         over = over || most[call] > RIGBASEN_STACK_BYTES;
     }

@@ -6,40 +6,9 @@
 #include <inttypes.h>
 #include <stdio.h>
 
+#include "on_screen.h"
 #include "region_file.h"
 #include "rigbasen.h"
-
-/* What each refusal means to a ward. */
-static const struct {
-    uint64_t number;
-    const char *text;
-} meanings[] = {
-    {RIGBASEN_TOO_LONG, "the file is longer than 65,535 bytes"},
-    {RIGBASEN_LAYOUT, "the file is not laid out as a region file; it may be cut short"},
-    {RIGBASEN_COUNTS, "the patient lines or table lines are not as many as the first line says"},
-    {RIGBASEN_SUM, "the sum in the end line is wrong; the file was damaged"},
-    {RIGBASEN_LIMITS, "the number of patients, of tables or of plans wanted is out of range"},
-    {RIGBASEN_PATIENTS, "a patient's clinic, bed count or parent is out of range"},
-    {RIGBASEN_MEMBERS, "a table's members are too many, unknown or not in rising order"},
-    {RIGBASEN_ENTRY_COUNTS, "a table has too few or too many entries"},
-    {RIGBASEN_ENTRIES, "an entry is above 1,000,000"},
-    {RIGBASEN_ANCESTORS, "a table joins two patients of whom neither is an ancestor of the other"},
-    {RIGBASEN_NO_SUCH_CLINIC, "the clinic has no patient in the file"},
-    {RIGBASEN_SHORT_AREA, "a lent area is too short"},
-    {RIGBASEN_NO_PLAN, "there is no allowed plan"},
-    {RIGBASEN_PLAN_MISFIT, "the plan has not one bed for each patient, each below its patient's count"},
-};
-
-/* The text of a number. A library that is newer than this screen may ask a question that has none here. */
-static const char *meaning(uint64_t number)
-{
-    for (size_t i = 0; i < sizeof meanings / sizeof meanings[0]; i++) {
-        if (meanings[i].number == number) {
-            return meanings[i].text;
-        }
-    }
-    return "a question that this screen has no text for";
-}
 
 /* How many calls refused. */
 static int refusals = 0;
@@ -53,25 +22,6 @@ static int refused(const char *call, uint64_t number)
     printf("%s: refused with %" PRIu64 ": %s\n", call, number, meaning(number));
     refusals++;
     return 1;
-}
-
-static void show_beds(const uint8_t *beds, size_t count)
-{
-    for (size_t i = 0; i < count; i++) {
-        printf(" %d", beds[i]);
-    }
-    printf("\n");
-}
-
-/* Rows of so many beds, each with its cost. */
-static void show_rows(const struct areas *areas, size_t width)
-{
-    uint64_t rows = number_at(areas->result);
-    printf("%" PRIu64 " rows\n", rows);
-    for (uint64_t r = 0; r < rows; r++) {
-        printf("  cost %" PRIu64 ", beds", number_at(areas->costs + r * RIGBASEN_NUMBER_BYTES));
-        show_beds(areas->beds + r * width, width);
-    }
 }
 
 static void show_check(const struct region_file *file)

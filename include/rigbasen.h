@@ -1,10 +1,11 @@
 /*
- * Rigbasen: the bed plans of a region. Four calls over one region file.
+ * Rigbasen: the bed plans of a region. Four calls over one region file, and a fifth that makes such a file.
  *
  *     rigbasen_check   is the file a good one?
  *     rigbasen_list    its m cheapest plans
  *     rigbasen_sheet   one clinic's part of that list
  *     rigbasen_price   what one plan costs
+ *     rigbasen_write   the file of a region that the caller holds
  *
  * Each call gives RIGBASEN_FINE or the number of the first question that is answered "no".
  * Link with libplanner_c.a, on x86-64. C99 or later, and C++.
@@ -25,8 +26,11 @@ extern "C" {
 #define RIGBASEN_MOST_BEDS 16 /* of one patient */
 #define RIGBASEN_MOST_CLINICS 16
 #define RIGBASEN_MOST_ROWS 64 /* the largest m */
+#define RIGBASEN_MOST_TABLES 64
+#define RIGBASEN_MOST_MEMBERS 4 /* of one table */
+#define RIGBASEN_MOST_ENTRIES 4096 /* of all tables together */
 
-/* How many bytes a cost or a result number has, lowest byte first. */
+/* How many bytes a cost, a result number or a number of a lent region has, lowest byte first. */
 #define RIGBASEN_NUMBER_BYTES 8
 
 /* Areas of these sizes are long enough for every region. */
@@ -34,6 +38,8 @@ extern "C" {
 #define RIGBASEN_COSTS_BYTES (RIGBASEN_MOST_ROWS * RIGBASEN_NUMBER_BYTES)
 #define RIGBASEN_ROWS_RESULT_BYTES RIGBASEN_NUMBER_BYTES        /* list and sheet: the row count */
 #define RIGBASEN_PRICE_RESULT_BYTES (2 * RIGBASEN_NUMBER_BYTES) /* price: allowed, then the total */
+#define RIGBASEN_WRITTEN_BYTES 34942                            /* write: the output area */
+#define RIGBASEN_WRITE_RESULT_BYTES RIGBASEN_NUMBER_BYTES       /* write: the byte count */
 
 /* Stack that is enough for every call. */
 #define RIGBASEN_STACK_BYTES (128 * 1024)
@@ -42,7 +48,7 @@ extern "C" {
 enum rigbasen_number {
     RIGBASEN_FINE = 0,           /* every question of the call is answered yes */
     RIGBASEN_TOO_LONG = 1,       /* is the file at most 65,535 bytes? */
-    RIGBASEN_LAYOUT = 2,         /* is it laid out as a region file? (a cut or empty file is not) */
+    RIGBASEN_LAYOUT = 2,         /* is it laid out as a region file? (a cut or empty one is not); write: are the lent areas whole? */
     RIGBASEN_COUNTS = 3,         /* are there V patient lines and T table lines? */
     RIGBASEN_SUM = 4,            /* is the end line's number the true sum? */
     RIGBASEN_LIMITS = 5,         /* is V 1 to 32, T 0 to 64, m 1 to 64? */
@@ -52,9 +58,10 @@ enum rigbasen_number {
     RIGBASEN_ENTRIES = 9,        /* is each entry that is a number at most 1,000,000? */
     RIGBASEN_ANCESTORS = 10,     /* of any two members of a table, is one an ancestor of the other? */
     RIGBASEN_NO_SUCH_CLINIC = 11, /* sheet: has the clinic asked for a patient in the file? */
-    RIGBASEN_SHORT_AREA = 12,    /* list, sheet, price: are the lent areas long enough? */
+    RIGBASEN_SHORT_AREA = 12,    /* list, sheet, price: are the lent areas long enough? write: is the result area? */
     RIGBASEN_NO_PLAN = 13,       /* list, sheet: is there an allowed plan? */
-    RIGBASEN_PLAN_MISFIT = 14    /* price: are there exactly V beds, each below its patient's count? */
+    RIGBASEN_PLAN_MISFIT = 14,   /* price: are there exactly V beds, each below its patient's count? */
+    RIGBASEN_SHORT_OUTPUT = 15   /* write: is the output area long enough? */
 };
 
 /*
@@ -98,11 +105,44 @@ uint64_t rigbasen_price(const uint8_t *file, size_t file_length,
                         const uint8_t *plan, size_t plan_length,
                         uint8_t *result, size_t result_length);
 
+/* Stands for `-`: a patient without a parent, a forbidden entry. */
+#define RIGBASEN_NONE UINT64_MAX
+
+/* A patient and a table as they are lent to write: an array of them is such an area. (x86-64 has the lowest byte first.) */
+struct rigbasen_patient {
+    uint64_t clinic;
+    uint64_t beds;   /* how many there are */
+    uint64_t parent; /* or RIGBASEN_NONE */
+};
+
+struct rigbasen_table {
+    uint64_t member_count;
+    uint64_t members[RIGBASEN_MOST_MEMBERS]; /* those past the count are ignored */
+    uint64_t entry_count;
+};
+
 /*
- * What is proved, for every file, clinic number, plan and areas of any length:
+ * Writes the file of a region, end line included: what check then finds good. Questions 2, 5 to 10, 12, 15.
+ *
+ * A patient is three numbers of 8 bytes, a table six, as in the structures above; an entry is one, or RIGBASEN_NONE.
+ * The entries are those of the first table, then those of the next, and so on. V and T are how many patients and tables are lent.
+ * The file stands at the beginning of output, and its byte count in the first 8 bytes of result.
+ *
+ * Question 2 asks here whether the areas are whole: 24 bytes a patient, 48 a table, 8 an entry, and as many entries as the tables
+ * count together. Every number is judged as it is lent, however large. Question 12 asks for 8 bytes of result,
+ * and then 15 for as many bytes of output as the file has.
+ */
+uint64_t rigbasen_write(const uint8_t *patients, size_t patients_length,
+                        const uint8_t *tables, size_t tables_length,
+                        const uint8_t *entries, size_t entries_length, uint64_t m,
+                        uint8_t *output, size_t output_length,
+                        uint8_t *result, size_t result_length);
+
+/*
+ * What is proved, for every file, clinic number, plan, lent region and areas of any length:
  * the call comes back, its number is the first "no", and every byte of every lent area afterwards is the one described here.
- * On a refusal beds and costs are untouched, and a result area that is long enough gets zeros; a shorter one is untouched.
- * Bytes beyond the rows and beyond the result's numbers are untouched. No call depends on an earlier one.
+ * On a refusal beds, costs and output are untouched, and a result area that is long enough gets zeros; a shorter one is untouched.
+ * Bytes beyond the rows, the written file and the result's numbers are untouched. No call depends on an earlier one.
  *
  * What the caller sees to:
  * - Each pointer points to as many bytes as its length says, readable, and writable where it is not const.
@@ -110,7 +150,7 @@ uint64_t rigbasen_price(const uint8_t *file, size_t file_length,
  * - The areas of one call do not overlap each other, the file or the plan, and nobody else writes to any of them meanwhile.
  *   (The library has no variables of its own, so threads may call at once, each with its own areas.)
  * - RIGBASEN_STACK_BYTES of stack are free: the work area is there. By measure, check takes about 33,000 bytes,
- *   price 39,000, list up to 108,000 and sheet up to 115,000, the most where 32 patients are one tree.
+ *   price 39,000, write (NOT MEASURED YET), list up to 108,000 and sheet up to 115,000, the most where 32 patients are one tree.
  * - Time. A call always ends, but where one tree holds many patients under many tables it can take very long.
  */
 

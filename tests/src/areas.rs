@@ -2,6 +2,8 @@
 
 const GUARD: usize = 16;
 const GUARD_BYTE: u8 = 0xa7;
+/// Before an area of numbers, so that they stand at no multiple of eight.
+const ODD_GUARD: usize = 13;
 
 /// A lent area of some length. Equality looks at the guard bytes too.
 #[derive(Clone, PartialEq)]
@@ -14,10 +16,25 @@ impl Area {
     /// An area filled with a pattern of bytes of at least 128, which differ from every bed and from 0.
     pub fn patterned(length: usize, salt: u64) -> Area {
         let pattern = |place: usize| 128 | ((place as u64).wrapping_mul(37).wrapping_add(salt) as u8 & 127);
-        let mut bytes = vec![GUARD_BYTE; GUARD];
-        bytes.extend((0..length).map(pattern));
-        bytes.extend([GUARD_BYTE; GUARD]);
-        Area { bytes, guard: GUARD }
+        Area::guarded((0..length).map(pattern), GUARD)
+    }
+
+    /// An area of numbers that are there to be read, eight bytes each, lowest byte first.
+    pub fn of_numbers(numbers: impl IntoIterator<Item = u64>) -> Area {
+        Area::guarded(numbers.into_iter().flat_map(u64::to_le_bytes), ODD_GUARD)
+    }
+
+    fn guarded(contents: impl Iterator<Item = u8>, guard: usize) -> Area {
+        let mut bytes = vec![GUARD_BYTE; guard];
+        bytes.extend(contents);
+        bytes.resize(bytes.len() + guard, GUARD_BYTE);
+        Area { bytes, guard }
+    }
+
+    /// The same area with another length: cut at its end, or with some bytes more.
+    pub fn resized(&self, length: usize) -> Area {
+        let more = std::iter::repeat(0xff);
+        Area::guarded(self.contents().iter().copied().chain(more).take(length), self.guard)
     }
 
     /// The same contents in a memory block of exactly their length.
@@ -56,6 +73,36 @@ pub struct Areas {
     pub beds: Area,
     pub costs: Area,
     pub result: Area,
+}
+
+/// The areas that write writes.
+#[derive(Clone, PartialEq)]
+pub struct Outputs {
+    pub output: Area,
+    pub result: Area,
+}
+
+impl Outputs {
+    pub fn patterned(output: usize, result: usize, salt: u64) -> Outputs {
+        Outputs { output: Area::patterned(output, salt), result: Area::patterned(result, salt ^ 42) }
+    }
+
+    /// The same contents in memory blocks of exactly their lengths.
+    pub fn bare(&self) -> Outputs {
+        Outputs { output: self.output.bare(), result: self.result.bare() }
+    }
+
+    /// Takes over the contents of areas of the same lengths.
+    pub fn take(&mut self, other: &Outputs) {
+        self.output.lent().copy_from_slice(other.output.contents());
+        self.result.lent().copy_from_slice(other.result.contents());
+    }
+
+    /// The bytes that the result area counts; none where it is too short to count.
+    pub fn counted(&self) -> &[u8] {
+        let count = self.result.contents().first_chunk().map_or(0, |bytes| u64::from_le_bytes(*bytes));
+        self.output.contents().get(..count as usize).unwrap_or_default()
+    }
 }
 
 /// How many bytes each area of a list or sheet call has.

@@ -1,6 +1,7 @@
 //! The proved library's calls from C, each behind a safe wrapper.
 
-use crate::areas::Areas;
+use crate::areas::{Areas, Outputs};
+use crate::lent::Lent;
 
 extern "C" {
     fn rigbasen_check(file: *const u8, file_length: usize) -> u64;
@@ -33,6 +34,20 @@ extern "C" {
         beds_length: usize,
         costs: *mut u8,
         costs_length: usize,
+        result: *mut u8,
+        result_length: usize,
+    ) -> u64;
+
+    fn rigbasen_write(
+        patients: *const u8,
+        patients_length: usize,
+        tables: *const u8,
+        tables_length: usize,
+        entries: *const u8,
+        entries_length: usize,
+        m: u64,
+        output: *mut u8,
+        output_length: usize,
         result: *mut u8,
         result_length: usize,
     ) -> u64;
@@ -81,6 +96,28 @@ pub fn sheet(file: &[u8], clinic: u64, areas: &mut Areas) -> u64 {
             beds.len(),
             costs.as_mut_ptr(),
             costs.len(),
+            result.as_mut_ptr(),
+            result.len(),
+        )
+    }
+}
+
+/// Write's number; the result area has one number, the byte count.
+pub fn write(lent: &Lent, areas: &mut Outputs) -> u64 {
+    let (patients, tables, entries) = (lent.patients.contents(), lent.tables.contents(), lent.entries.contents());
+    let (output, result) = (areas.output.lent(), areas.result.lent());
+    // Each pointer and length are those of one slice, and the slices do not overlap.
+    unsafe {
+        rigbasen_write(
+            patients.as_ptr(),
+            patients.len(),
+            tables.as_ptr(),
+            tables.len(),
+            entries.as_ptr(),
+            entries.len(),
+            lent.m,
+            output.as_mut_ptr(),
+            output.len(),
             result.as_mut_ptr(),
             result.len(),
         )

@@ -7,6 +7,7 @@ pub mod boundary;
 pub mod compare;
 pub mod files;
 pub mod generate;
+pub mod lent;
 pub mod limits;
 pub mod numbers;
 pub mod outcomes;

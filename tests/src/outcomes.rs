@@ -1,7 +1,9 @@
 //! What each call from C must answer, by the independent program: the number, and every byte of
 //! every lent area afterwards.
 
-use crate::areas::Areas;
+use crate::areas::{Areas, Outputs};
+use crate::generate::spelling;
+use crate::lent::Lent;
 use crate::plans::{self, Row};
 use crate::reader;
 use crate::region::Region;
@@ -105,6 +107,28 @@ impl Outcomes {
     /// The list's rows; none where the file is refused.
     pub fn rows(&self) -> &[Row] {
         &self.list
+    }
+}
+
+/// The file of a lent region; or the first "no" of question 2, put to the areas, and of 5 to 10.
+pub fn file_of_lent(lent: &Lent) -> Result<Vec<u8>, u64> {
+    let region = lent.region()?;
+    reader::judge(&region)?;
+    Ok(spelling::file_of(&region))
+}
+
+/// The number of the write call for this file or refusal: questions 12 and 15, then the file is written.
+pub fn write(file: &Result<Vec<u8>, u64>, areas: &mut Outputs) -> u64 {
+    write_result(areas.result.lent(), &[0]);
+    match file {
+        Err(number) => *number,
+        Ok(_) if areas.result.contents().len() < 8 => 12,
+        Ok(file) if areas.output.contents().len() < file.len() => 15,
+        Ok(file) => {
+            areas.output.lent()[..file.len()].copy_from_slice(file);
+            write_result(areas.result.lent(), &[file.len() as u64]);
+            0
+        }
     }
 }
 

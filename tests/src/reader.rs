@@ -12,7 +12,7 @@ struct Lines {
     true_sum: u64,
 }
 
-type Question = fn(&Lines) -> bool;
+type Question = fn(&Region) -> bool;
 
 /// The region of a file, or the number of the first question answered "no".
 pub fn read(file: &[u8]) -> Result<Region, u64> {
@@ -20,24 +20,35 @@ pub fn read(file: &[u8]) -> Result<Region, u64> {
         return Err(1);
     }
     let lines = laid_out(file).ok_or(2u64)?;
-    let questions: [(u64, Question); 8] = [
-        (3, |lines| lines.v == lines.region.patients.len() as u64 && lines.t == lines.region.tables.len() as u64),
-        (4, |lines| lines.end == lines.true_sum),
-        (5, |lines| (1..=32).contains(&lines.v) && lines.t <= 64 && (1..=64).contains(&lines.region.m)),
-        (6, |lines| patients_in_limits(&lines.region)),
-        (7, |lines| lines.region.tables.iter().all(|table| members_in_order(&table.members, lines.v))),
-        (8, |lines| entries_counted(&lines.region)),
-        (9, |lines| {
-            lines.region.tables.iter().all(|table| table.entries.iter().flatten().all(|e| *e <= HIGHEST_ENTRY))
-        }),
-        (10, |lines| lines.region.tables.iter().all(|table| on_one_path(&lines.region, &table.members))),
-    ];
-    for (number, answer) in questions {
-        if !answer(&lines) {
-            return Err(number);
-        }
+    if lines.v != lines.region.patients.len() as u64 || lines.t != lines.region.tables.len() as u64 {
+        return Err(3);
     }
+    if lines.end != lines.true_sum {
+        return Err(4);
+    }
+    judge(&lines.region)?;
     Ok(lines.region)
+}
+
+/// Questions 5 to 10 of a region, V and T being what it has; the number of the first answered "no".
+pub fn judge(region: &Region) -> Result<(), u64> {
+    let questions: [(u64, Question); 6] = [
+        (5, counts_in_limits),
+        (6, patients_in_limits),
+        (7, |region| region.tables.iter().all(|table| members_in_order(&table.members, region.patients.len() as u64))),
+        (8, entries_counted),
+        (9, |region| region.tables.iter().all(|table| table.entries.iter().flatten().all(|e| *e <= HIGHEST_ENTRY))),
+        (10, |region| region.tables.iter().all(|table| on_one_path(region, &table.members))),
+    ];
+    match questions.into_iter().find(|(_, answer)| !answer(region)) {
+        Some((number, _)) => Err(number),
+        None => Ok(()),
+    }
+}
+
+/// Question 5.
+fn counts_in_limits(region: &Region) -> bool {
+    (1..=32).contains(&region.patients.len()) && region.tables.len() <= 64 && (1..=64).contains(&region.m)
 }
 
 /// Question 6.

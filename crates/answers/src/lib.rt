@@ -141,7 +141,7 @@ pub struct WriteValues {
 }
 
 // A refused region has no bytes.
-fn not_written(number: u64) -> WriteValues
+pub fn not_written(number: u64) -> WriteValues
     ensures { λ r. ⌜ (r .number ≡ number) × (r .count ≡ 0) ⌝ }
 {
     WriteValues {

@@ -1,9 +1,9 @@
-// The numbers that the calls from C leave in lent byte areas, eight bytes each, lowest first, and the room for them.
+// The numbers that the calls from C find and leave in lent byte areas, eight bytes each, lowest first, and the room for them.
 ghost use mathlib.Core.Path.{_≡_};
 ghost use Prim.Native.Nat.{_+_, _*_, _≤_, _<_};
-ghost use Rattle.definitions.specs.Basics.{[], _∷_, cond, length, getD, take, sets};
+ghost use Rattle.definitions.specs.Basics.{[], _∷_, cond, length, getD, take, drop, sets};
 ghost use Rattle.definitions.specs.Outcomes.{written};
-ghost use Rattle.definitions.specs.Boundary.{bytesOf, resultAfter};
+ghost use Rattle.definitions.specs.Boundary.{bytesOf, valueOf, numberAt, resultAfter};
 ghost use Rattle.byte_areas.specs.Room.{costRoom};
 use limits::Field;
 use limits::highest;
@@ -20,6 +20,36 @@ pub fn cost_room(costs: usize, result: usize) -> usize
     if fitting < most { fitting } else { most }
 }
 
+fn byte_at(area: &[u8], at: usize) -> u64
+    requires { ⌜ at < length (now area) ⌝ }
+    ensures { λ n. ⌜ (n ≡ getD (now (area .entry)) at 0) × (n < 256) ⌝ }
+{
+    area[at] as u64
+}
+
+// The number of four bytes, from place `at` on.
+fn half_at(area: &[u8], at: usize) -> u64
+    requires { ⌜ at + 4 ≤ length (now area) ⌝ }
+    ensures { λ n. ⌜ (n ≡ valueOf (take 4 (drop at (now (area .entry))))) × (n < 0x1_0000_0000) ⌝ }
+{
+    let a = byte_at(area, at);
+    let b = byte_at(area, at + 1);
+    let c = byte_at(area, at + 2);
+    let d = byte_at(area, at + 3);
+    a + 256 * (b + 256 * (c + 256 * d))
+}
+
+// Number i of an area.
+pub fn number_at(area: &[u8], i: usize) -> u64
+    requires { ⌜ i * 8 + 8 ≤ length (now area) ⌝ }
+    ensures { λ n. ⌜ n ≡ numberAt (now (area .entry)) i ⌝ }
+{
+    let at = i * 8;
+    let low = half_at(area, at);
+    let high = half_at(area, at + 4);
+    low + 0x1_0000_0000 * high
+}
+
 // One number, from place `at` on.
 fn store_number(area: &mut [u8], at: usize, n: u64)
     requires { ⌜ at + 8 ≤ length (now area) ⌝ }
@@ -34,8 +64,8 @@ fn store_number(area: &mut [u8], at: usize, n: u64)
     }
 }
 
-// The result of list and sheet: the row count. A shorter area is untouched.
-fn store_count(result: &mut [u8], n: u64)
+// A result of one number: the row count of list and sheet, the byte count of a writer. A shorter area is untouched.
+pub fn store_count(result: &mut [u8], n: u64)
     ensures { λ _. ⌜ now (result .exit) ≡ resultAfter (n ∷ []) (now (result .entry)) ⌝ }
 {
     if result.len() < 8 {

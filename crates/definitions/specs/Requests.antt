@@ -1,5 +1,5 @@
 -- For each landed request of document 02, in one statement: each of its numbers, each bound, and what a builder gets wrong.
-use Rattle.definitions.specs.Basics.{ℕ, _+_, _-_, _^_, _≡_, refl, Option, none, some, List, [], _∷_, _++_, map, flatMap, length, replicate}
+use Rattle.definitions.specs.Basics.{ℕ, _+_, _-_, _^_, _≡_, refl, Option, none, some, List, [], _∷_, _++_, map, flatten, flatMap, length, replicate}
 use Rattle.definitions.specs.Syntax.{Patient, Table, Region}
 use Rattle.definitions.specs.Layout.{layout}
 use Rattle.definitions.specs.Questions.{regionOf}
@@ -73,6 +73,9 @@ pub record Saving : Type 0 where
   pub wholeEntries : map (λ extra. writeCall (area one) (area over) (area (5 ∷ []) ++ lent extra) 1 (lent 200) (lent 8) .number) (0 ∷ 1 ∷ 8 ∷ []) ≡ 0 ∷ 2 ∷ 2 ∷ []
   pub noEntries : callNumber one over [] 1 ≡ 2
   pub countsDoNotWrap : callNumber one (1 ∷ 0 ∷ 0 ∷ 0 ∷ 0 ∷ (2 ^ 63) ∷ 1 ∷ 0 ∷ 0 ∷ 0 ∷ 0 ∷ (2 ^ 63) ∷ []) [] 1 ≡ 2
+  pub secondTable : callNumber (0 ∷ 2 ∷ absent ∷ []) (1 ∷ 0 ∷ 0 ∷ 0 ∷ 0 ∷ 2 ∷ 1 ∷ 0 ∷ 0 ∷ 0 ∷ 0 ∷ 2 ∷ []) (1 ∷ 2 ∷ 3 ∷ 4 ∷ []) 1 ≡ 0
+  pub mostPatients : map (λ n. callNumber (flatten (replicate n one)) [] [] 1) (32 ∷ 33 ∷ []) ≡ 15 ∷ 5 ∷ []
+  pub mostTables : map (λ n. callNumber one (flatten (replicate n over)) (replicate n 5) 1) (64 ∷ 65 ∷ []) ≡ 15 ∷ 5 ∷ []
   pub fiveMembers : callNumber one (5 ∷ 0 ∷ 0 ∷ 0 ∷ 0 ∷ 1 ∷ []) (5 ∷ []) 1 ≡ 7
   pub largePlans : map (callNumber one [] []) ((2 ^ 32 + 1) ∷ absent ∷ []) ≡ 5 ∷ 5 ∷ []
   pub largeClinic : map (λ n. callNumber (n ∷ 1 ∷ absent ∷ []) [] [] 1) ((2 ^ 32) ∷ absent ∷ []) ≡ 6 ∷ 6 ∷ []
@@ -108,6 +111,9 @@ saving = record {
   wholeEntries = refl;
   noEntries = refl;
   countsDoNotWrap = refl;
+  secondTable = refl;
+  mostPatients = refl;
+  mostTables = refl;
   fiveMembers = refl;
   largePlans = refl;
   largeClinic = refl;

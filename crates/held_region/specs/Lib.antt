@@ -9,3 +9,7 @@ pub mod Sets
 pub mod Related
 pub mod Refusals
 pub mod Counts
+pub mod FirstHeld
+pub mod HeldFrom
+pub mod StandsFor
+pub mod Faithful

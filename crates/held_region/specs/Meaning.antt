@@ -1,8 +1,7 @@
 -- What a held region and its store say, as the definitions' region: what the definitions say of a region can be said of these two.
 use Rattle.definitions.specs.Basics.{ℕ, zero, suc, _+_, cond, Option, none, some, eqb, List, [], map, getD, replicate, below}
 use Rattle.definitions.specs.Syntax as Said
-use Rattle.definitions.specs.Spelling.{spellBody}
-use Rattle.definitions.specs.Questions.{checksum}
+use Rattle.definitions.specs.Writer.{withSum}
 use Rattle.held_region.specs.declared.Parent.{Parent}
 use Rattle.held_region.specs.declared.Parent.the-variants.{Root, Of}
 use Rattle.held_region.specs.declared.Patient.{Patient}
@@ -63,15 +62,16 @@ tableSaid h store i = record { members = membersOf (tableIn h i); entries = map 
 
 -- ---- the region
 
--- Counts, patients and tables with their true sum, which goes over the lines before the end line, whatever that line says.
-abbrev pub summed : ℕ → ℕ → ℕ → List Said.Patient → List Said.Table → Said.Region
-summed v t m patients tables =
-    let ending : ℕ → Said.Region = λ n. record { patientCount = v; tableCount = t; plansWanted = m; patients = patients; tables = tables; statedSum = n } in
-    ending (checksum (spellBody (ending 0)))
-
--- m, the first v patients, the first t tables.
+-- m, the first v patients, the first t tables; their sum is the true one.
 unfoldable pub said : Region → List ℕ → Said.Region
-said h store = summed (h .v) (h .t) (h .m) (map (λ s. patientOf (patientIn h s)) (below (h .v))) (map (tableSaid h store) (below (h .t)))
+said h store = withSum (record {
+  patientCount = h .v;
+  tableCount = h .t;
+  plansWanted = h .m;
+  patients = map (λ s. patientOf (patientIn h s)) (below (h .v));
+  tables = map (tableSaid h store) (below (h .t));
+  statedSum = 0;
+})
 
 abbrev pub blankRegion : Region
 blankRegion = record { v = 0; t = 0; m = 0; patients = replicate 32 noPatient; tables = replicate 64 noTable }

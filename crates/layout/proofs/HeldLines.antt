@@ -17,8 +17,9 @@ use Rattle.line_reader.specs.declared.PatientLine.the-variants.{Is as IsPatient
 use Rattle.scanner.specs.Answers.{optional}
 use Rattle.line_reader.specs.Answers.{LineEnd, patientRead}
 use Rattle.layout.specs.Taken.{taken-none, taken-more, taken-other, taken-all}
-use Rattle.table_reader.specs.FirstHeld.{held-none, held-more}
-use Rattle.layout.specs.Reading.{held, noneSaid, HoldsPatient, PatientsSoFar, PatientLines}
+use Rattle.held_region.specs.FirstHeld.{held-none, held-more}
+use Rattle.held_region.specs.HeldFrom.{noneSaid, HoldsPatient}
+use Rattle.layout.specs.Reading.{held, PatientsSoFar, PatientLines}
 
 pub patients-none : (s : List ℕ) (at : ℕ) → PatientsSoFar s at (replicate 32 noPatient) 0 at
 patients-none s at = record { said = []; taken = taken-none; counted = refl; holds = held-none 32 HoldsPatient noPatient noneSaid (replicate 32 noPatient); wide = refl }

@@ -15,12 +15,13 @@ use Rattle.held_region.specs.Meaning.{codeOf, noTable}
 use Rattle.scanner.specs.Words.{exactly-short, exactly-same, exactly-other}
 use Rattle.line_reader.specs.Answers.{LineEnd}
 use Rattle.table_reader.specs.declared.TableLine.{TableLine}
-use Rattle.table_reader.specs.FirstHeld.{held-none, held-more}
+use Rattle.held_region.specs.FirstHeld.{held-none, held-more}
 use Rattle.table_reader.specs.Stores.{stored-none}
-use Rattle.table_reader.specs.TableReading.{HoldsTable, Holding, Adds, TableThere, TableRead}
+use Rattle.held_region.specs.HeldFrom.{noTableSaid, HoldsTable}
+use Rattle.table_reader.specs.TableReading.{Holding, Adds, TableThere, TableRead}
 use Rattle.table_reader.proofs.HeldTables.{one-more, adds-none, adds-then}
 use Rattle.layout.specs.Taken.{taken-none, taken-more, taken-other, taken-all}
-use Rattle.layout.specs.TableLines.{noTableSaid, storedEntries, TablesSoFar, TableLines}
+use Rattle.layout.specs.TableLines.{storedEntries, TablesSoFar, TableLines}
 
 -- A list does not begin with two words that differ behind what they have in common.
 differ : (common : List ℕ) (u v : ℕ) (us vs xs : List ℕ) → (u ≡ v → ⊥) → (exactly (common ++ v ∷ vs) xs ≡ none → ⊥) → exactly (common ++ u ∷ us) xs ≡ none

@@ -9,10 +9,10 @@ use Rattle.definitions.specs.Syntax as Said
 use Rattle.definitions.specs.Layout.{many, whole, lines, regionLine, patientLine, tableLine, endLine, regionLines, layout}
 use Rattle.theorems.specs.Lines.{flatten-lines}
 use Rattle.lists.specs.Maps.{flatten-append, drop-last}
+use Rattle.held_region.specs.HeldFrom.{HeldPatients, TablesHeld}
 use Rattle.table_reader.specs.TableReading.{Found, Holding}
 use Rattle.layout.specs.declared.Laid.{Laid}
-use Rattle.layout.specs.Reading.{HeldPatients}
-use Rattle.layout.specs.TableLines.{storedEntries, TablesHeld}
+use Rattle.layout.specs.TableLines.{storedEntries}
 
 -- What is held of a laid-out file: everything it says but for what has no place, and what the sum is taken over.
 pub record LaidThere (s : List ℕ) (r : Laid) (before after : List ℕ) : Type 0 where

@@ -1,7 +1,7 @@
 -- What is read of a file, and what is held of it.
 use Prim.Native.Nat.{_≤_, max}
 use lib.ListN.{drop}
-use Rattle.definitions.specs.Basics.{ℕ, _≡_, none, some, List, length}
+use Rattle.definitions.specs.Basics.{ℕ, _≡_, some, List, length}
 use Rattle.definitions.specs.Syntax as Said
 use Rattle.definitions.specs.Layout.{many, whole, lines, patientLine}
 use Rattle.scanner.specs.declared.Optional.{Optional}
@@ -9,27 +9,14 @@ use Rattle.scanner.specs.declared.Optional.the-variants.{Hyphen, Number}
 use Rattle.held_region.specs.declared.Parent.{Parent}
 use Rattle.held_region.specs.declared.Parent.the-variants.{Root, Of}
 use Rattle.held_region.specs.declared.Patient.{Patient}
-use Rattle.held_region.specs.Meaning.{patientOf, noPatient}
+use Rattle.held_region.specs.HeldFrom.{HeldPatients}
 use Rattle.layout.specs.declared.patients.Patients.{Patients}
 use Rattle.layout.specs.Taken.{Taken}
-use Rattle.table_reader.specs.FirstHeld.{FirstHeld}
 
 -- The parent field as it is held.
 abbrev pub held : Optional → Parent
 held Hyphen = Root
 held (Number p) = Of p
-
--- What stands at a place where no patient is said.
-abbrev pub noneSaid : Said.Patient
-noneSaid = record { clinic = 0; bedCount = 0; parent = none }
-
--- A patient is held as it is said.
-abbrev pub HoldsPatient : Patient → Said.Patient → Type 0
-HoldsPatient p q = patientOf p ≡ q
-
--- The first 32 of the patients that are said are held.
-abbrev pub HeldPatients : List Patient → List Said.Patient → Type 0
-HeldPatients = FirstHeld 32 HoldsPatient noPatient noneSaid
 
 -- On the way: the lines up to place i are taken, and the first 32 patients that they say are held.
 pub record PatientsSoFar (s : List ℕ) (at : ℕ) (first : List Patient) (count i : ℕ) : Type 0 where

@@ -1,27 +1,19 @@
 -- What is read of the table lines, and what is held of them.
 use Prim.Native.Nat.{_≤_, max}
 use lib.ListN.{drop}
-use Rattle.definitions.specs.Basics.{ℕ, _≡_, true, some, isSome, List, [], _∷_, map, flatMap, length}
+use Rattle.definitions.specs.Basics.{ℕ, _≡_, true, some, isSome, List, _∷_, map, flatMap, length}
 use Rattle.definitions.specs.Syntax as Said
 use Rattle.definitions.specs.Layout.{many, whole, lines, tableLine, endLine}
 use Rattle.held_region.specs.declared.Table.{Table}
-use Rattle.held_region.specs.Meaning.{noTable, codeOf}
-use Rattle.table_reader.specs.FirstHeld.{FirstHeld}
-use Rattle.table_reader.specs.TableReading.{HoldsTable, Holding, Adds}
+use Rattle.held_region.specs.Meaning.{codeOf}
+use Rattle.held_region.specs.HeldFrom.{TablesHeld}
+use Rattle.table_reader.specs.TableReading.{Holding, Adds}
 use Rattle.layout.specs.declared.tables.Tables.{Tables}
 use Rattle.layout.specs.Taken.{Taken}
-
--- What stands at a place where no table is said.
-abbrev pub noTableSaid : Said.Table
-noTableSaid = record { members = []; entries = [] }
 
 -- The numbers of some tables: their entries one after the other.
 abbrev pub storedEntries : List Said.Table → List ℕ
 storedEntries tables = flatMap (λ t. map codeOf (t .entries)) tables
-
--- The first 64 of the tables that are said are held.
-abbrev pub TablesHeld : List Table → List Said.Table → Type 0
-TablesHeld = FirstHeld 64 HoldsTable noTable noTableSaid
 
 -- On the way: the lines up to place i are taken, the first 64 tables that they say are held, and their entries are added to the store.
 pub record TablesSoFar (s : List ℕ) (at : ℕ) (before : List ℕ) (first : List Table) (count used i : ℕ) (after : List ℕ) : Type 0 where

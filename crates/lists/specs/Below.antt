@@ -11,7 +11,7 @@ use Prim.Native.Nat.{_≤_}
 use Rattle.definitions.specs.Basics.{ℕ, zero, suc, _+_, _<_, _≡_, refl, Bool, true, false, _&&_, cond}
 use Rattle.definitions.specs.Basics.{List, [], _∷_, _++_, map, length, getD, take, numbersFrom, below, every, keep, contains}
 use Rattle.lists.specs.Members.{_∈_, here, there, here-or-there, none-in-nil, Enumerates}
-use Rattle.lists.specs.Every.{every-in, every-same, contains-in}
+use Rattle.lists.specs.Every.{every-in, every-same, every-map, contains-in}
 use Rattle.lists.specs.Keep.{keep-same}
 use Rattle.lists.specs.Maps.{map-same}
 
@@ -82,7 +82,17 @@ module _ {A : Type 0} where
 pub below-take : (f : ℕ → ℕ) (l : List ℕ) (n : ℕ) → n ≤ length l → ((j : ℕ) → j < n → f j ≡ getD l j 0) → map f (below n) ≡ take n l
 below-take f l n h same = by-places f 0 n (take n l) (length-take-le n l h) (λ i k. same i k ∙ sym (getD-take n l i 0 k))
 
+-- Two stand-ins past the end that a function does not tell apart.
+pub same-default : {A B : Type 0} (f : A → B) (d e : A) → f d ≡ f e → (xs : List A) (i : ℕ) → f (getD xs i d) ≡ f (getD xs i e)
+same-default f d e same [] i = same
+same-default f d e same (x ∷ xs) zero = refl
+same-default f d e same (x ∷ xs) (suc i) = same-default f d e same xs i
+
 -- ---- tests
+
+-- A test of all elements is a test of all places.
+pub every-by-places : {A : Type 0} (f : A → Bool) (d : A) (n : ℕ) (xs : List A) → length xs ≡ n → every f xs ≡ every (λ i. f (getD xs i d)) (below n)
+every-by-places f d n xs e = ap (every f) (sym (by-places (λ i. getD xs i d) d n xs e (λ i l. refl))) ∙ every-map f (λ i. getD xs i d) (below n)
 
 -- What every place passes, each passes.
 pub every-place : (f : ℕ → Bool) (n i : ℕ) → every f (below n) ≡ true → i < n → f i ≡ true

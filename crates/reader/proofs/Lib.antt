@@ -1,3 +1,2 @@
 pub mod StoredEntries
-pub mod Faithful
 pub mod Loads

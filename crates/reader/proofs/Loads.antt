@@ -27,10 +27,12 @@ use Rattle.held_region.specs.declared.Refusal.the-variants.{TooLong, Layout, Co
 use Rattle.held_region.specs.declared.Judged.{Judged}
 use Rattle.held_region.specs.declared.Judged.the-variants.{Fine, Refused}
 use Rattle.held_region.specs.Refusals.{questionOf, numberOf, asked}
+use Rattle.held_region.specs.HeldFrom.{unmarked, HeldFrom}
+use Rattle.held_region.specs.Faithful.{stands-for}
+use Rattle.reader.proofs.StoredEntries.{stands-held}
 use Rattle.layout.specs.declared.Laid.{Laid}
 use Rattle.reader.specs.declared.Loaded.{Loaded}
 use Rattle.layout.specs.LaidOut.{LaidThere, LaidOut}
-use Rattle.reader.proofs.Faithful.{unmarked, ReadFrom, stands-for}
 use Rattle.reader.specs.Loading.{readAsked, FileRead, LoadedFrom, refusedWith, regionHeld}
 
 -- ---- the first four questions
@@ -79,9 +81,9 @@ table-unmarked t h =
     every-weaken (noneOr spellable) (noneOr (λ e. ltb e mark)) entry-unmarked (t .entries) entries
 
 module _ {s : List ℕ} {laid : Laid} {before after : List ℕ} (l : LaidThere s laid before after) (wide : length before ≡ 4096) (counted : countsTrue (l .tree) ≡ true) where
-  read-from : sumTrue s (l .tree) ≡ true → ReadFrom (regionHeld laid) after (l .tree)
+  held-from : sumTrue s (l .tree) ≡ true → HeldFrom (regionHeld laid) after (l .tree)
   unfolding sumTrue
-  read-from summed = record {
+  held-from summed = record {
     patientCount = l .patientCount;
     tableCount = l .tableCount;
     plansWanted = l .plansWanted;
@@ -89,7 +91,7 @@ module _ {s : List ℕ} {laid : Laid} {before after : List ℕ} (l : LaidThere s
     summed = eqb-true _ _ summed ∙ ap checksum (body-spelt s (l .tree) (l .says));
     patients = l .patientsHeld;
     tables = l .tablesHeld;
-    entries = l .stored wide;
+    entries = stands-held after (l .tree .tables) (l .stored wide);
     unmarked = every-weaken okTable unmarked table-unmarked (l .tree .tables) (well-formed-lines (l .tree) (layout-spelling s (l .tree) .0 (l .says) .0) .tables);
   }
 
@@ -153,7 +155,7 @@ module _ {s : List ℕ} (h : shortEnough s ≡ true) {laid : Laid} {before after
           let summed : sumTrue s (this .tree) ≡ true = eq-eqb _ _ (sym (this .statedSum) ∙ sym same ∙ true-sum) in
           record {
             number = read-all s h (this .says) counted summed;
-            held = λ fine. rw (e, file-says s h (this .says)) (stands-for (read-from this wide counted summed));
+            held = λ fine. rw (e, file-says s h (this .says)) (stands-for (held-from this wide counted summed));
           }
 
 -- ---- what is loaded
@@ -192,8 +194,8 @@ module _ (parents : Bool) {s store : List ℕ} {r : Loaded} (from : FileRead s r
       → LoadedFrom parents s (record { answer = answer; region = r .region }) store
   unfolding readAsked
   load-judged {answer} is judged =
-      let file = from .held is in
+      let file = from .held is parents in
       record {
-        number = judged ∙ file .asks parents ∙ none-refused (readAsked s) (asked parents (regionOf s)) refl (sym (ap numberOf is) ∙ from .number);
-        says = λ fine. file .says parents (sym (judged ∙ file .asks parents) ∙ ap numberOf fine);
+        number = judged ∙ file .asks ∙ none-refused (readAsked s) (asked parents (regionOf s)) refl (sym (ap numberOf is) ∙ from .number);
+        says = λ fine. file .says (sym (judged ∙ file .asks) ∙ ap numberOf fine);
       }

@@ -1,12 +1,12 @@
 -- What is read and loaded of a file.
 use Rattle.definitions.specs.Basics.{ℕ, Bool, true, _≡_, List, [], _∷_, _++_}
-use Rattle.definitions.specs.Syntax as Said
 use Rattle.definitions.specs.Questions.{Asked, shortEnough, laidOut, countsTrue, sumTrue, firstNo, regionOf, askedByCheck, checkOf}
 use Rattle.held_region.specs.declared.Region.{Region}
 use Rattle.held_region.specs.declared.Refusal.{Refusal}
 use Rattle.held_region.specs.declared.Judged.the-variants.{Fine, Refused}
 use Rattle.held_region.specs.Meaning.{blankRegion, said}
 use Rattle.held_region.specs.Refusals.{numberOf, asked, lastAsked}
+use Rattle.held_region.specs.StandsFor.{StandsFor}
 use Rattle.reader.specs.declared.Loaded.{Loaded}
 use Rattle.layout.specs.declared.Laid.{Laid}
 
@@ -17,16 +17,10 @@ readAsked s = (1, shortEnough s) ∷ (2, laidOut s) ∷ (3, countsTrue (regionOf
 abbrev pub loadAsked : Bool → List ℕ → Asked
 loadAsked parents s = readAsked s ++ asked parents (regionOf s)
 
--- What is held stands for what a file says: the questions from the fifth on have the same first no, and where there is none, the two are the same.
--- (A file may say more patients, tables, members or entries than have places; questions 5, 7 and 8 refuse it then.)
-pub record StandsFor (held file : Said.Region) : Type 0 where
-  pub asks : (parents : Bool) → firstNo (asked parents held) ≡ firstNo (asked parents file)
-  pub says : (parents : Bool) → firstNo (asked parents file) ≡ 0 → held ≡ file
-
 -- The first no of questions 1 to 4; and where there is none, what is held stands for what the file says.
 pub record FileRead (s : List ℕ) (r : Loaded) (store : List ℕ) : Type 0 where
   pub number : numberOf (r .answer) ≡ firstNo (readAsked s)
-  pub held : r .answer ≡ Fine → StandsFor (said (r .region) store) (regionOf s)
+  pub held : r .answer ≡ Fine → (parents : Bool) → StandsFor parents (said (r .region) store) (regionOf s)
 
 -- The first no of all; and where there is none, the region and the store say what the file says.
 pub record LoadedFrom (parents : Bool) (s : List ℕ) (r : Loaded) (store : List ℕ) : Type 0 where

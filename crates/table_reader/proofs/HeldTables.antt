@@ -18,7 +18,7 @@ use Rattle.scanner.specs.Items.{Bounded}
 use Rattle.table_reader.specs.declared.Entries.{Entries}
 use Rattle.table_reader.specs.declared.Entries.the-variants.{Are}
 use Rattle.table_reader.specs.TakenItems.{items-start, items-no-item, items-next, items-closed, items-no-separator, items-no-list}
-use Rattle.table_reader.specs.FirstHeld.{FirstHeld, held-none, held-more}
+use Rattle.held_region.specs.FirstHeld.{FirstHeld, held-none, held-more}
 use Rattle.table_reader.specs.Stores.{stored-set, stored-full}
 use Rattle.table_reader.specs.TableReading.{Found, ItemsSoFar, ItemsThere, MembersHeld, Adds, EntriesAdded, EntriesRead, TableRead}
 

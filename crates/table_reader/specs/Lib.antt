@@ -1,4 +1,3 @@
 pub mod TakenItems
 pub mod Stores
-pub mod FirstHeld
 pub mod TableReading

@@ -1,18 +1,19 @@
 -- What is read of a table line, and what is held of it.
 use Prim.Native.Nat.{_≤_}
 use lib.ListN.{drop}
-use Rattle.definitions.specs.Basics.{ℕ, _≡_, Bool, true, false, Option, none, some, List, _++_, map, length, take}
+use Rattle.definitions.specs.Basics.{ℕ, _≡_, Bool, true, false, Option, none, some, List, _++_, map, length}
 use Rattle.definitions.specs.Syntax as Said
 use Rattle.definitions.specs.Layout.{Reader, whole, word, number, hyphenOrNumber, items, tableLine}
 use Rattle.held_region.specs.declared.Table.{Table}
 use Rattle.held_region.specs.Meaning.{codeOf}
+use Rattle.held_region.specs.FirstHeld.{FirstHeld}
+use Rattle.held_region.specs.HeldFrom.{HoldsTable}
 use Rattle.table_reader.specs.declared.Members.{Members}
 use Rattle.table_reader.specs.declared.Entries.{Entries}
 use Rattle.table_reader.specs.declared.Entries.the-variants.{Are, Nothing}
 use Rattle.table_reader.specs.declared.TableLine.{TableLine}
 use Rattle.table_reader.specs.Stores.{Stored}
 use Rattle.table_reader.specs.TakenItems.{ItemsTaken, ListRead}
-use Rattle.table_reader.specs.FirstHeld.{FirstHeld}
 
 -- An answer with a flag: what holds where the flag is set, and what holds where it is not.
 pub record Found (flag : Bool) (There Missing : Type 0) : Type 0 where
@@ -33,12 +34,6 @@ module _ {A : Type 0} (item : Reader ℕ A) (Kept : List A → Type 0) (s : List
     pub list : ListRead item s at said next
     pub counted : count ≡ length said
     pub kept : Kept said
-
--- A table is held as it is said: its first four members, and how many members and entries it has.
-pub record HoldsTable (h : Table) (t : Said.Table) : Type 0 where
-  pub memberCount : h .members ≡ length (t .members)
-  pub members : take (length (t .members)) (h .first) ≡ take 4 (t .members)
-  pub entryCount : h .entries ≡ length (t .entries)
 
 -- The first four of the members that are said are held.
 pub record MembersHeld (first said : List ℕ) : Type 0 where

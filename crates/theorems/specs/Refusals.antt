@@ -1,4 +1,5 @@
--- Demand 1, of the four entries and the four calls from C: what each number says, and what a refusal hands back and leaves.
+-- Demand 1, of the entries over a file and their calls from C: what each number says, and what a refusal hands back and leaves.
+-- (What the writer's number says stands in `Writer`.)
 use mathlib.Core.Path.{_≡_, refl, ap, ap₂, _∙_}
 use mathlib.Core.Logic.{_⊎_, inl, inr}
 use native.Mathlib.Omega.{arith}
@@ -6,12 +7,15 @@ use lib.ListN.{drop, length-replicate, replicate-append-replicate}
 use borrow.Author.Tests.{ne-eqb, lt-leb, le-leb}
 use Prim.Native.Nat.{_≤_}
 use Rattle.definitions.specs.Basics.{ℕ, zero, suc, _+_, _*_, _<_, Bool, true, false, Option, none, some, List, [], _∷_, _++_, flatMap, length, replicate}
+use Rattle.definitions.specs.Syntax.{Region}
 use Rattle.definitions.specs.Plans.{Plan, Row, total, listOf}
 use Rattle.definitions.specs.Sheets.{sheetOf}
 use Rattle.definitions.specs.Questions.{Asked, firstNo, regionOf, roomForRows, areasLongEnough, askedByCheck, checkOf}
 use Rattle.definitions.specs.Questions.{Asks, entryAsks, callAsks, askedByList, askedBySheet, askedByPrice}
 use Rattle.definitions.specs.Outcomes.{Found, unlessRefused, listFound, sheetFound, written, workAfter}
 use Rattle.definitions.specs.Outcomes.{ListOutcome, outcomeOf, listOutcome, sheetOutcome, PriceOutcome, priced, priceFound, priceOutcome}
+use Rattle.definitions.specs.Writer.{askedByWrite}
+use Rattle.definitions.specs.Boundary.{askedByLentWrite}
 use Rattle.definitions.specs.Boundary.{bytesOf, roomForNumbers, resultAfter, ListCall, callOf, checkCall, listCall, sheetCall, priceCallOf, priceCall}
 use Rattle.definitions.specs.Isolation.{yieldNumber}
 use Rattle.theorems.specs.Answers.{numbers, allYes, Numbered, Says, says, yes-then, no-then}
@@ -19,8 +23,11 @@ use Rattle.theorems.specs.Writing.{written-is}
 
 -- ---- the questions of each entry, by number, whatever the file
 
+abbrev fiveToTen : List ℕ
+fiveToTen = 5 ∷ 6 ∷ 7 ∷ 8 ∷ 9 ∷ 10 ∷ []
+
 abbrev oneToTen : List ℕ
-oneToTen = 1 ∷ 2 ∷ 3 ∷ 4 ∷ 5 ∷ 6 ∷ 7 ∷ 8 ∷ 9 ∷ 10 ∷ []
+oneToTen = 1 ∷ 2 ∷ 3 ∷ 4 ∷ fiveToTen
 
 pub record EachAsks : Type 0 where
   pub check : (file : List ℕ) → numbers (askedByCheck file) ≡ oneToTen
@@ -32,9 +39,13 @@ pub record EachAsks : Type 0 where
   pub sheetFromC : (file : List ℕ) (c : ℕ) (longEnough room : Bool)
       → numbers (callAsks (askedBySheet file c longEnough) room) ≡ oneToTen ++ 11 ∷ 12 ∷ 12 ∷ 13 ∷ []
   pub priceFromC : (file : List ℕ) (plan : Plan) (room : Bool) → numbers (callAsks (askedByPrice file plan) room) ≡ oneToTen ++ 12 ∷ 14 ∷ []
+  -- The writer has no file to read; from C, 2 is asked of the areas that hold the region.
+  pub write : (r : Region) (output : List ℕ) → numbers (entryAsks (askedByWrite r output)) ≡ fiveToTen ++ 15 ∷ []
+  pub writeFromC : (patients tables entries : List ℕ) (m : ℕ) (output : List ℕ) (room : Bool)
+      → numbers (callAsks (askedByLentWrite patients tables entries m output) room) ≡ 2 ∷ fiveToTen ++ 12 ∷ 15 ∷ []
 
 pub each-asks : EachAsks
-unfolding askedByCheck askedByList askedBySheet askedByPrice
+unfolding askedByCheck askedByList askedBySheet askedByPrice askedByWrite askedByLentWrite
 each-asks = record {
   check = λ file. refl;
   list = λ file l. refl;
@@ -43,6 +54,8 @@ each-asks = record {
   listFromC = λ file l room. refl;
   sheetFromC = λ file c l room. refl;
   priceFromC = λ file p room. refl;
+  write = λ r output. refl;
+  writeFromC = λ ps ts es m output room. refl;
 }
 
 -- ---- what the number of each entry and of each call says
@@ -188,7 +201,7 @@ zero-bytes (suc count) =
     let more : 8 + count * 8 ≡ suc count * 8 = omega arith in
     ap (λ (r : List ℕ). replicate 8 0 ++ r) (zero-bytes count) ∙ replicate-append-replicate 8 (count * 8) 0 ∙ ap (λ (n : ℕ). replicate n 0) more
 
-result-zeroed : (count : ℕ) (result : List ℕ) → ResultZeroed count result (resultAfter (replicate count 0) result)
+pub result-zeroed : (count : ℕ) (result : List ℕ) → ResultZeroed count result (resultAfter (replicate count 0) result)
 unfolding resultAfter
 result-zeroed count result = record {
   shorter = λ h. rw (counted, lt-leb (count * 8) (length result) h);

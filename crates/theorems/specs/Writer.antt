@@ -5,21 +5,22 @@ use native.Mathlib.Omega.{arith}
 use Prim.Native.Nat.{_≤_}
 use lib.ListN.{drop}
 use lib.Seq.{sets-eq}
-use borrow.Author.Tests.{lt-ltb, le-leb, leb-true, eqb-true, eq-eqb}
+use borrow.Author.Tests.{lt-ltb, ltb-true, le-leb, leb-true, eqb-true, eq-eqb}
 use Rattle.definitions.specs.Basics.{ℕ, suc, _+_, _%_, _^_, _<_, Bool, true, _&&_, not, Option, none, some, noneOr, Option·getD, List, [], _∷_, _++_, length}
 use Rattle.definitions.specs.Basics.{map, flatten, dropLast, leb, eqb, every, isEmpty, isSome, sets, sum}
 use Rattle.definitions.specs.Limits.{Field, fileLength, digitCount, patientCount, tableCount, plansWanted, clinic, bedCount, entry, limits, within}
 use Rattle.definitions.specs.Syntax.{Patient, Table, Region, patientNumbers}
 use Rattle.definitions.specs.Layout.{lines, layout}
 use Rattle.definitions.specs.Spelling.{spellable, spellBody, spell, wellFormed}
-use Rattle.definitions.specs.Questions.{Asked, firstNo, checksum, shortEnough, laidOut, countsTrue, sumTrue, patientsWithin, regionOf, askedOfRegion, askedByCheck, checkOf, entryAsks}
+use Rattle.definitions.specs.Questions.{Asked, firstNo, checksum, shortEnough, laidOut, countsTrue, sumTrue, patientsWithin, regionOf, askedOfRegion, askedByCheck, checkOf, entryAsks, callAsks}
 use Rattle.definitions.specs.Outcomes.{unlessRefused}
-use Rattle.definitions.specs.Writer.{regionFrom, asHeld, writtenFile, roomForFile, askedByWrite, Made, madeBy, WriteOutcome, writeOutcomeOf, writeOutcome}
+use Rattle.definitions.specs.Writer.{regionFrom, asHeld, writtenFile, roomForFile, askedByWrite, Made, madeBy, outputAfter, writeOutcomeOf, writeOutcome}
+use Rattle.definitions.specs.Boundary.{roomForNumbers, resultAfter, lentRegion, lentWhole, askedByLentWrite, WriteCall, writeCallOf, writeCall}
 use Rattle.lists.specs.Tests.{both, join}
 use Rattle.lists.specs.Members.{_∈_}
-use Rattle.lists.specs.Every.{every-in, every-all}
-use Rattle.theorems.specs.Answers.{allYes, says, no-no, yes-then}
-use Rattle.theorems.specs.Refusals.{check-says}
+use Rattle.lists.specs.Every.{every-in, every-all, every-append, every-split}
+use Rattle.theorems.specs.Answers.{allYes, Says, says, no-no}
+use Rattle.theorems.specs.Refusals.{ResultZeroed, result-zeroed}
 use Rattle.theorems.specs.Accepted.{Accepted, asked-accepted, accepted-asked, accepted, at-most, counts-within, patients-few, parent-known, entries-some, table-right, region-said}
 use Rattle.theorems.specs.Spelling.{layout-spelling, laid-out-spelt, body-spelt}
 use Rattle.theorems.specs.Lengths.{mostWritten, spelling-most}
@@ -55,8 +56,9 @@ passes-accepted r well = asked-accepted (asHeld r) (held-counts r) (says (askedO
 
 -- ---- what passes questions 5 to 10 can be spelled
 
-spellable-below : (n : ℕ) → n < 10 ^ limits digitCount .highest → spellable n ≡ true
-spellable-below n h = lt-ltb n (10 ^ limits digitCount .highest) h
+-- A number that is no higher than a field's highest, where that can be spelled.
+spellable-most : (field : Field) → spellable (limits field .highest) ≡ true → (n : ℕ) → n ≤ limits field .highest → spellable n ≡ true
+spellable-most field most n h = lt-ltb n _ (omega (arith, ltb-true (limits field .highest) _ most))
 
 none-or : {test : ℕ → Bool} (o : Option ℕ) → ((n : ℕ) → o ≡ some n → test n ≡ true) → noneOr test o ≡ true
 none-or none each = refl
@@ -67,42 +69,40 @@ filled [] h = absurd (omega arith)
 filled (x ∷ l) h = refl
 
 module _ (r : Region) (a : Accepted r) where
-  counts-spellable : every spellable (r .patientCount ∷ r .tableCount ∷ r .plansWanted ∷ []) ≡ true
+  -- A patient's number is below V.
+  known-spellable : (s : ℕ) → s < length (r .patients) → spellable s ≡ true
   unfolding limits
-  counts-spellable =
-      let (v, t, m) = counts-within r a in
-      join (spellable-below (r .patientCount) (omega (arith, at-most patientCount (r .patientCount) v)))
-      (join (spellable-below (r .tableCount) (omega (arith, at-most tableCount (r .tableCount) t)))
-      (join (spellable-below (r .plansWanted) (omega (arith, at-most plansWanted (r .plansWanted) m))) refl))
+  known-spellable s h = spellable-most patientCount refl s (omega (arith, patients-few r a))
 
   patient-spellable : (p : Patient) → p ∈ r .patients → (spellable (p .clinic) && spellable (p .bedCount) && noneOr spellable (p .parent)) ≡ true
   unfolding patientsWithin limits
   patient-spellable p k =
       let (c, d) = both (within clinic (p .clinic)) (every-in _ (r .patients) (a .patientsFit) k) in
-      join (join (spellable-below (p .clinic) (omega (arith, at-most clinic (p .clinic) c))) (spellable-below (p .bedCount) (omega (arith, at-most bedCount (p .bedCount) d))))
-      (none-or (p .parent) (λ q e. spellable-below q (omega (arith, parent-known r a k q e, patients-few r a))))
+      join (join (spellable-most clinic refl (p .clinic) (at-most clinic (p .clinic) c)) (spellable-most bedCount refl (p .bedCount) (at-most bedCount (p .bedCount) d)))
+      (none-or (p .parent) (λ q e. known-spellable q (parent-known r a k q e)))
 
   members-spellable : (t : Table) → t ∈ r .tables → (not (isEmpty (t .members)) && every spellable (t .members)) ≡ true
-  unfolding limits
   members-spellable t k =
       let right = table-right r a k in
-      join (filled (t .members) (right .some)) (every-all spellable (t .members) (λ s i. spellable-below s (omega (arith, right .known i, patients-few r a))))
+      join (filled (t .members) (right .some)) (every-all spellable (t .members) (λ s i. known-spellable s (right .known i)))
 
   entries-spellable : (t : Table) → t ∈ r .tables → (not (isEmpty (t .entries)) && every (noneOr spellable) (t .entries)) ≡ true
   unfolding limits
   entries-spellable t k =
       join (filled (t .entries) (entries-some r a k))
-      (every-all (noneOr spellable) (t .entries) (λ o i. none-or o (λ n e. spellable-below n (omega (arith, at-most entry n (ap (noneOr (within entry)) (sym e) ∙ every-in _ (t .entries) (table-right r a k .within) i))))))
+      (every-all (noneOr spellable) (t .entries) (λ o i. none-or o (λ n e.
+      spellable-most entry refl n (at-most entry n (ap (noneOr (within entry)) (sym e) ∙ every-in _ (t .entries) (table-right r a k .within) i)))))
 
-  formed : r .statedSum ≤ 65_520 → wellFormed r ≡ true
+  formed : spellable (r .statedSum) ≡ true → wellFormed r ≡ true
   unfolding wellFormed limits
-  formed few =
-      let counts = counts-spellable in
-      let (v, rest) = both (spellable (r .patientCount)) counts in
-      let (t, last) = both (spellable (r .tableCount)) rest in
-      let (m, tail) = both (spellable (r .plansWanted)) last in
-      join (join (join (join v (join t (join m (join (spellable-below (r .statedSum) (omega arith)) refl)))) (every-all _ (r .patients) patient-spellable))
-      (every-all _ (r .tables) members-spellable)) (every-all _ (r .tables) entries-spellable)
+  formed sum =
+      let (v, t, m) = counts-within r a in
+      let counts =
+          join (spellable-most patientCount refl (r .patientCount) (at-most patientCount (r .patientCount) v))
+          (join (spellable-most tableCount refl (r .tableCount) (at-most tableCount (r .tableCount) t))
+          (join (spellable-most plansWanted refl (r .plansWanted) (at-most plansWanted (r .plansWanted) m)) (join sum refl)))
+      in
+      join (join (join counts (every-all _ (r .patients) patient-spellable)) (every-all _ (r .tables) members-spellable)) (every-all _ (r .tables) entries-spellable)
 
 -- ---- a region that passes questions 5 to 10
 
@@ -116,7 +116,8 @@ module _ (r : Region) (a : Accepted (asHeld r)) where
   written-short = spelling-most (asHeld r) a (sum-few r)
 
   pub written-formed : wellFormed (asHeld r) ≡ true
-  written-formed = formed (asHeld r) a (sum-few r)
+  unfolding limits
+  written-formed = formed (asHeld r) a (lt-ltb (asHeld r .statedSum) _ (omega (arith, sum-few r)))
 
   -- .. reading it restores the same counts, patients, tables and entries, ..
   pub written-read : layout (writtenFile r) ≡ some (asHeld r)
@@ -142,3 +143,144 @@ module _ (r : Region) (a : Accepted (asHeld r)) where
   pub written-accepted : checkOf (writtenFile r) ≡ 0
   unfolding checkOf askedByCheck
   written-accepted = no-no (askedByCheck (writtenFile r)) (join short (join laid (rw written-region (join (held-counts r) (join summed (accepted-asked (asHeld r) a))))))
+
+-- Put together: what the file of a region that passes questions 5 to 10 is, and what reading it restores.
+pub record ReadBack (r : Region) : Type 0 where
+  pub short : length (writtenFile r) ≤ mostWritten
+  pub accepted : checkOf (writtenFile r) ≡ 0
+  pub read : layout (writtenFile r) ≡ some (asHeld r)
+  pub patientCount : regionOf (writtenFile r) .patientCount ≡ length (r .patients)
+  pub tableCount : regionOf (writtenFile r) .tableCount ≡ length (r .tables)
+  pub plansWanted : regionOf (writtenFile r) .plansWanted ≡ r .plansWanted
+  pub patients : regionOf (writtenFile r) .patients ≡ r .patients
+  pub tables : regionOf (writtenFile r) .tables ≡ r .tables
+
+pub read-back : (r : Region) → Passes r → ReadBack r
+unfolding asHeld regionFrom
+read-back r passes =
+    let a = passes-accepted r passes in
+    let same = written-region r a in
+    record {
+      short = written-short r a;
+      accepted = written-accepted r a;
+      read = written-read r a;
+      patientCount = ap (λ (x : Region). x .patientCount) same;
+      tableCount = ap (λ (x : Region). x .tableCount) same;
+      plansWanted = ap (λ (x : Region). x .plansWanted) same;
+      patients = ap (λ (x : Region). x .patients) same;
+      tables = ap (λ (x : Region). x .tables) same;
+    }
+
+-- ---- a region that was read from an accepted file
+
+module _ (file : List ℕ) (fine : checkOf file ≡ 0) where
+  -- It is as it is held, ..
+  pub read-held : asHeld (regionOf file) ≡ regionOf file
+  unfolding sumTrue
+  read-held =
+      let all = accepted file fine in
+      as-held (regionOf file) (all .region .counted)
+      (eqb-true _ _ (all .summed) ∙ ap checksum (body-spelt file (regionOf file) (region-said file (all .laid))))
+
+  -- .. and writing it restores its bytes.
+  pub read-written : writtenFile (regionOf file) ≡ file
+  unfolding writtenFile
+  read-written = ap spell read-held ∙ sym (laid-out-spelt file (accepted file fine .laid) .1)
+
+-- ---- what a writer's number says, and what it leaves
+
+-- Number 0: the file stands at the beginning of the area, which is as it was beyond it, and its length is the count.
+pub record Wrote (file before after : List ℕ) (count : ℕ) : Type 0 where
+  pub counted : count ≡ length file
+  pub fits : length file ≤ length before
+  pub output : after ≡ file ++ drop (length file) before
+
+-- A refusal: nothing is written, and the count is 0.
+pub record Unwritten (before after : List ℕ) (count : ℕ) : Type 0 where
+  pub counted : count ≡ 0
+  pub output : after ≡ before
+
+-- Once for all writers, which ask 15 last.
+module _ (early : Asked) (file output : List ℕ) where
+  abbrev made : Made
+  made = madeBy (early ++ (15, roomForFile file output) ∷ []) file
+
+  made-wrote : allYes (early ++ (15, roomForFile file output) ∷ []) ≡ true → Wrote file output (outputAfter made output) (length (made .bytes))
+  unfolding roomForFile
+  made-wrote all =
+      let e = no-no (early ++ (15, roomForFile file output) ∷ []) all in
+      let room = both (leb (length file) (length output)) (every-split _ early ((15, roomForFile file output) ∷ []) all .1) .0 in
+      let bytes = ap (λ n. unlessRefused n file) e in
+      let few = leb-true (length file) (length output) room in
+      let start : 0 + length file ≡ length file = omega arith in
+      record { counted = ap length bytes; fits = few; output = ap (sets output 0) bytes ∙ sets-eq file output 0 (omega arith) ∙ ap (λ k. file ++ drop k output) start }
+
+pub made-refused : (asked : Asked) (file output : List ℕ) (q : ℕ) → firstNo asked ≡ suc q
+    → Unwritten output (outputAfter (madeBy asked file) output) (length (madeBy asked file .bytes))
+made-refused asked file output q e =
+    let bytes = ap (λ n. unlessRefused n file) e in
+    record { counted = ap length bytes; output = ap (sets output 0) bytes }
+
+module _ (r : Region) (output : List ℕ) where
+  pub write-says : Says (entryAsks (askedByWrite r output)) (writeOutcome r output .number)
+  unfolding writeOutcome writeOutcomeOf askedByWrite
+  write-says = says (entryAsks (askedByWrite r output)) tt
+
+  pub write-wrote : writeOutcome r output .number ≡ 0 → Wrote (writtenFile r) output (writeOutcome r output .output) (writeOutcome r output .count)
+  unfolding writeOutcome writeOutcomeOf askedByWrite
+  write-wrote e = made-wrote (askedOfRegion (asHeld r)) (writtenFile r) output (write-says .accepted .0 e)
+
+  pub write-refused : (q : ℕ) → writeOutcome r output .number ≡ suc q → Unwritten output (writeOutcome r output .output) (writeOutcome r output .count)
+  unfolding writeOutcome writeOutcomeOf
+  write-refused q e = made-refused (entryAsks (askedByWrite r output)) (writtenFile r) output q e
+
+-- Writing what was read of an accepted file, into an area that is long enough, gives the file.
+pub read-then-write : (file output : List ℕ) → checkOf file ≡ 0 → length file ≤ length output
+    → writeOutcome (regionOf file) output ≡ record { number = 0; count = length file; output = file ++ drop (length file) output }
+unfolding writeOutcome writeOutcomeOf askedByWrite roomForFile
+read-then-write file output fine few =
+    let wrote = write-wrote (regionOf file) output zero-number in
+    let same = read-written file fine in
+    λ i. record { number = zero-number i; count = (wrote .counted ∙ ap length same) i; output = (wrote .output ∙ ap (λ f. f ++ drop (length f) output) same) i }
+  where
+    room : allYes ((15, roomForFile (writtenFile (regionOf file)) output) ∷ []) ≡ true
+    room = rw (read-written file fine, le-leb (length file) (length output) few) refl
+
+    early : allYes (askedOfRegion (asHeld (regionOf file))) ≡ true
+    early = rw (read-held file fine) (accepted-asked (regionOf file) (accepted file fine .region))
+
+    all : allYes (entryAsks (askedByWrite (regionOf file) output)) ≡ true
+    all = every-append (λ (a : ℕ × Bool). a .1) (askedOfRegion (asHeld (regionOf file))) ((15, roomForFile (writtenFile (regionOf file)) output) ∷ []) early room
+
+    zero-number : writeOutcome (regionOf file) output .number ≡ 0
+    zero-number = write-says (regionOf file) output .accepted .1 all
+
+-- ---- the call from C
+
+module _ (patients tables entries : List ℕ) (m : ℕ) (output result : List ℕ) where
+  abbrev call : WriteCall
+  call = writeCall patients tables entries m output result
+
+  abbrev asked : Asked
+  asked = callAsks (askedByLentWrite patients tables entries m output) (roomForNumbers 1 result)
+
+  abbrev file : List ℕ
+  file = writtenFile (lentRegion patients tables entries m)
+
+  pub write-call-says : Says asked (call .number)
+  unfolding writeCall writeCallOf askedByLentWrite askedByWrite
+  write-call-says = says asked tt
+
+  -- Number 0: the file is written, and its length is the result.
+  pub write-call-wrote : call .number ≡ 0 → (Wrote file output (call .output) (length file)) × (call .result ≡ resultAfter (length file ∷ []) result)
+  unfolding writeCall writeCallOf askedByLentWrite askedByWrite
+  write-call-wrote e =
+      let before = (2, lentWhole patients tables entries) ∷ askedOfRegion (asHeld (lentRegion patients tables entries m)) ++ (12, roomForNumbers 1 result) ∷ [] in
+      let wrote = made-wrote before file output (write-call-says .accepted .0 e) in
+      (record { counted = refl; fits = wrote .fits; output = wrote .output }, ap (λ n. resultAfter (n ∷ []) result) (wrote .counted))
+
+  pub write-call-refused : (q : ℕ) → call .number ≡ suc q → (call .output ≡ output) × ResultZeroed 1 result (call .result)
+  unfolding writeCall writeCallOf
+  write-call-refused q e =
+      let left = made-refused asked file output q e in
+      (left .output, rw (left .counted) (result-zeroed 1 result))

@@ -1,4 +1,4 @@
-//! The four calls from C over the baseline reader and search.
+//! The four calls of a file over the baseline reader and search; the fifth is in `writer`.
 
 use crate::areas::Areas;
 use crate::baseline::held::{Held, Table, HYPHEN};

@@ -1,5 +1,5 @@
 //! The same product as an engineer would write it for speed, without proofs: a reader into fixed
-//! arrays, a branch and bound search, and the calls from C over them. The benchmark measures it
+//! arrays, a branch and bound search, a writer, and the calls from C over them. The benchmark measures it
 //! beside the proved library, and the tests use it as a second route.
 
 pub mod calls;
@@ -7,3 +7,4 @@ pub mod held;
 pub mod reader;
 pub mod rows;
 pub mod search;
+pub mod writer;

@@ -124,7 +124,7 @@ fn entries(cursor: &mut Cursor, store: &mut [u32]) -> Option<usize> {
     }
 }
 
-fn questions_6_to_10(held: &Held) -> Result<(), u64> {
+pub fn questions_6_to_10(held: &Held) -> Result<(), u64> {
     let patient_fits = |(number, patient): (usize, &Patient)| {
         patient.clinic <= 15
             && (1..=16).contains(&patient.beds)
@@ -134,7 +134,7 @@ fn questions_6_to_10(held: &Held) -> Result<(), u64> {
         return Err(6);
     }
     let members_fit = held.tables().iter().all(|table| {
-        table.member_count <= MOST_MEMBERS
+        (1..=MOST_MEMBERS).contains(&table.member_count)
             && table.members().windows(2).all(|two| two[0] < two[1])
             && (table.members()[table.member_count - 1] as usize) < held.patient_count
     });

@@ -1,9 +1,10 @@
 //! The proved library on memory blocks of exactly the lent lengths, without guard bytes: a memory
 //! checker then sees every read or write beside a file, a plan or an area.
 
-use crate::areas::Areas;
+use crate::areas::{Areas, Outputs};
 use crate::boundary;
 use crate::compare::{Calls, Tested};
+use crate::lent::Lent;
 
 pub const BARE: Calls = Calls {
     name: "few, every call",
@@ -11,6 +12,7 @@ pub const BARE: Calls = Calls {
     price: Tested { name: "few, price", call: price },
     list: Tested { name: "few, list", call: list },
     sheet: Tested { name: "few, sheet", call: sheet },
+    write: Tested { name: "few, write", call: write },
 };
 
 /// Calls with a copy of some bytes that are only to be read, and sees that they stay as they were.
@@ -42,6 +44,15 @@ fn list(file: &[u8], areas: &mut Areas) -> u64 {
 fn sheet(file: &[u8], clinic: u64, areas: &mut Areas) -> u64 {
     let mut blocks = areas.bare();
     let number = lending(file, |file| boundary::sheet(file, clinic, &mut blocks));
+    areas.take(&blocks);
+    number
+}
+
+fn write(lent: &Lent, areas: &mut Outputs) -> u64 {
+    let mut blocks = areas.bare();
+    let block = lent.bare();
+    let number = boundary::write(&block, &mut blocks);
+    assert!(block == lent.bare(), "a call wrote into a region that it may only read");
     areas.take(&blocks);
     number
 }

@@ -11,10 +11,12 @@ pub mod price;
 pub mod printing;
 pub mod report;
 pub mod sheet;
+pub mod write;
 pub mod wrong;
 
-use crate::areas::Areas;
+use crate::areas::{Areas, Outputs};
 use crate::generate::small;
+use crate::lent::Lent;
 use crate::{baseline, boundary};
 use bare::BARE;
 use report::{Difference, Tally};
@@ -32,8 +34,9 @@ pub type CheckCall = fn(&[u8]) -> u64;
 pub type PriceCall = fn(&[u8], &[u8], &mut [u8]) -> u64;
 pub type ListCall = fn(&[u8], &mut Areas) -> u64;
 pub type SheetCall = fn(&[u8], u64, &mut Areas) -> u64;
+pub type WriteCall = fn(&Lent, &mut Outputs) -> u64;
 
-/// The four calls of one program.
+/// The five calls of one program.
 #[derive(Clone, Copy)]
 pub struct Calls {
     pub name: &'static str,
@@ -41,6 +44,7 @@ pub struct Calls {
     pub price: Tested<PriceCall>,
     pub list: Tested<ListCall>,
     pub sheet: Tested<SheetCall>,
+    pub write: Tested<WriteCall>,
 }
 
 pub const LIBRARY: Calls = Calls {
@@ -49,6 +53,7 @@ pub const LIBRARY: Calls = Calls {
     price: Tested { name: "price", call: boundary::price },
     list: Tested { name: "list", call: boundary::list },
     sheet: Tested { name: "sheet", call: boundary::sheet },
+    write: Tested { name: "write", call: boundary::write },
 };
 
 pub const BASELINE: Calls = Calls {
@@ -57,6 +62,7 @@ pub const BASELINE: Calls = Calls {
     price: Tested { name: "baseline price", call: baseline::calls::price },
     list: Tested { name: "baseline list", call: baseline::calls::list },
     sheet: Tested { name: "baseline sheet", call: baseline::calls::sheet },
+    write: Tested { name: "baseline write", call: baseline::writer::write },
 };
 
 /// Runs every comparison up to the first difference: the library's, each line printed as soon as it
@@ -91,7 +97,7 @@ fn run_beside(seed: u64, count: usize, printer: Option<&Path>) -> Result<Vec<Tal
     Ok(tallies)
 }
 
-/// Every comparison of the four calls of one program.
+/// Every comparison of the five calls of one program.
 fn run_calls(calls: Calls, seed: u64, count: usize, done: fn(&Tally)) -> Result<Vec<Tally>, Difference> {
     let mut all = Vec::new();
     let mut add = |tallies: Vec<Tally>| {
@@ -105,10 +111,11 @@ fn run_calls(calls: Calls, seed: u64, count: usize, done: fn(&Tally)) -> Result<
     add(list::run(calls.list, seed, count)?);
     add(sheet::run(calls.sheet, seed, count)?);
     add(clinic_pairs::run(calls.sheet, seed, count)?);
+    add(write::run(calls.write, seed, count)?);
     Ok(all)
 }
 
-/// Some dozens of regions and files through all four calls, for a run under a memory checker.
+/// Some dozens of regions and files through all five calls, for a run under a memory checker.
 pub fn run_few(seed: u64) -> Result<(), Difference> {
     paper::run(BARE)?.print();
     print_all(check::run(BARE.check, seed, 20)?);
@@ -125,6 +132,18 @@ pub fn run_few(seed: u64) -> Result<(), Difference> {
     clinic_pairs::apart(BARE.sheet, seed, 24)?.print();
     large::lists(BARE.list, seed, 4)?.print();
     large::sheets(BARE.sheet, seed, 2)?.print();
+    run_few_writes(seed)
+}
+
+/// Some of the comparisons of write; those of all counts and lengths have thousands of cases.
+fn run_few_writes(seed: u64) -> Result<(), Difference> {
+    write::good_regions(BARE.write, seed, 36)?.print();
+    write::single_faults(BARE.write, seed, 6)?.print();
+    write::double_faults(BARE.write, seed, 20)?.print();
+    write::not_whole(BARE.write, seed, 48)?.print();
+    write::large_numbers(BARE.write, seed, 96)?.print();
+    write::limits(BARE.write, seed, 24)?.print();
+    write::round_trips(BARE.write, seed, 12)?.print();
     Ok(())
 }
 

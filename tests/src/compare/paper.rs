@@ -3,7 +3,7 @@
 
 use crate::areas::{Areas, Lengths};
 use crate::compare::report::{Difference, Tally};
-use crate::compare::{check, every_call, list, sheet, Calls};
+use crate::compare::{check, every_call, list, sheet, write, Calls};
 use crate::files::describe::{chain, flat_table, one_patient, paper, region, root, table};
 use crate::files::trial;
 use crate::generate::spelling::file_of;
@@ -51,6 +51,7 @@ pub fn run(calls: Calls) -> Result<Tally, Difference> {
         let areas = Areas::patterned(Lengths::asked(region.m, region.patients.len()), random.number());
         list::compare(&mut tally, calls.list, (&file, &outcomes), areas.clone())?;
         sheet::compare(&mut tally, calls.sheet, (&file, &outcomes), 0, areas)?;
+        write::compare_back(&mut tally, calls.write, &file, &mut random)?;
     }
     let spelled = file_of(&paper());
     expect(PRINTED.as_bytes(), spelled == PRINTED.as_bytes(), PRINTED, String::from_utf8_lossy(&spelled))?;

@@ -21,18 +21,30 @@ pub fn sound_region(random: &mut Random) -> Region {
 
 /// A file of which the question, 3 to 10, is answered "no" and every earlier one "yes".
 pub fn file_with_fault(question: u64, random: &mut Random) -> Vec<u8> {
-    let mut draft = Draft::of(&sound_region(random));
-    put_fault(question, &mut draft, random);
+    let draft = with_faults(&[question], random);
     written(question == 4, &draft, random)
 }
 
 /// A file with faults of two questions; the smaller number is its answer.
 pub fn file_with_faults(one: u64, other: u64, random: &mut Random) -> Vec<u8> {
-    let mut draft = Draft::of(&sound_region(random));
-    // Counts are stated last, of what the file then holds.
-    put_fault(one.max(other), &mut draft, random);
-    put_fault(one.min(other), &mut draft, random);
+    let draft = with_faults(&[one, other], random);
     written(one == 4 || other == 4, &draft, random)
+}
+
+/// A region with faults of these questions, as far as they are 5 to 10; the smallest is its answer.
+pub fn region_with_faults(questions: &[u64], random: &mut Random) -> Region {
+    with_faults(questions, random).region
+}
+
+fn with_faults(questions: &[u64], random: &mut Random) -> Draft {
+    let mut draft = Draft::of(&sound_region(random));
+    let mut falling = questions.to_vec();
+    // Counts are stated last, of what the file then holds.
+    falling.sort_by(|one, other| other.cmp(one));
+    for question in falling {
+        put_fault(question, &mut draft, random);
+    }
+    draft
 }
 
 fn written(wrong_sum: bool, draft: &Draft, random: &mut Random) -> Vec<u8> {
@@ -197,7 +209,7 @@ fn high_entry(region: &mut Region, random: &mut Random) {
     entries[place] = Some(random.pick(&[low, low + 1, low.next_power_of_two(), HIGHEST_ENTRY * 2, HIGHEST_NUMBER]));
 }
 
-/// Question 10: a table over two patients of which neither is the other's ancestor.
+/// Question 10: a table over two to four patients, of two of which neither is the other's ancestor.
 fn joined_trees(draft: &mut Draft, random: &mut Random) {
     let region = &mut draft.region;
     if region.tables.len() == 64 {
@@ -207,7 +219,11 @@ fn joined_trees(draft: &mut Draft, random: &mut Random) {
     let first = random.between(0, second - 1);
     // The second patient and those below it become a tree of their own.
     region.patients[second as usize].parent = None;
-    let members = vec![first, second];
+    let others = random.below(3);
+    let mut members = small::some_of((0..region.patients.len() as u64).collect(), others, random);
+    members.extend([first, second]);
+    members.sort();
+    members.dedup();
     let entries = vec![Some(7); region.entries_over(&members) as usize];
     let place = random.below(region.tables.len() + 1);
     region.tables.insert(place, Table { members, entries });

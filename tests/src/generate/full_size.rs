@@ -20,6 +20,15 @@ pub fn region(random: &mut Random) -> Region {
     region
 }
 
+/// A region whose file is about as long as one can be: the most of everything, numbers of the most digits,
+/// and 64 tables over four patients of two digits.
+pub fn longest_region() -> Region {
+    let beds_of = |number: u64| if number < 28 { 16 } else { [2, 2, 4, 4][number as usize - 28] };
+    let patients = (0..32u64).map(|number| Patient::of(15, beds_of(number), number.checked_sub(1))).collect();
+    let table = Table { members: vec![28, 29, 30, 31], entries: vec![Some(HIGHEST_ENTRY); 64] };
+    Region { patients, tables: vec![table; 64], m: 64 }
+}
+
 /// A good file of full size.
 pub fn good_file(random: &mut Random) -> Vec<u8> {
     file_of(&region(random))

@@ -7,6 +7,7 @@ pub mod faulty;
 pub mod full_size;
 pub mod large;
 pub mod layout_faults;
+pub mod lent_faults;
 pub mod pairs;
 pub mod parents;
 pub mod small;

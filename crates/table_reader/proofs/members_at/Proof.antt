@@ -7,7 +7,7 @@ use lib.ListN.{length, set}
 use Rattle.definitions.specs.Layout.{number}
 use Rattle.scanner.specs.Answers.{numberRead, stepRead}
 use Rattle.scanner.specs.Bounds.{number-bounded}
-use Rattle.table_reader.specs.FirstHeld.{set-full}
+use Rattle.held_region.specs.FirstHeld.{set-full}
 use Rattle.table_reader.specs.TableReading.{ItemsSoFar, MembersHeld}
 use Rattle.table_reader.proofs.HeldTables.{found, not-found, list-start, list-missing, list-no-item, list-no-separator, list-on, list-more, list-closed, members-none, members-more}
 use Rattle.table_reader.proofs.members_at.Statement.{statement}

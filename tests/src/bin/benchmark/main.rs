@@ -6,6 +6,7 @@ mod check_times;
 mod list_times;
 mod small_times;
 mod timing;
+mod write_times;
 
 use std::process::ExitCode;
 use std::time::Duration;
@@ -39,6 +40,7 @@ fn run(mut arguments: impl Iterator<Item = String>) -> Result<(), String> {
     }
     small_times::print();
     check_times::print(&given);
+    write_times::print(&given);
     list_times::print(&given, limit);
     Ok(())
 }

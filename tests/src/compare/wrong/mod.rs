@@ -6,17 +6,18 @@ mod lists;
 mod prices;
 mod sheets;
 mod texts;
+mod writes;
 
 use crate::compare::printing::{self, Text};
 use crate::compare::report::{Difference, Tally};
-use crate::compare::{check, clinic_pairs, every_call, large, list, price, sheet};
-use crate::compare::{Calls, CheckCall, ListCall, PriceCall, SheetCall, Tested, LIBRARY};
+use crate::compare::{check, clinic_pairs, every_call, large, list, price, sheet, write};
+use crate::compare::{Calls, CheckCall, ListCall, PriceCall, SheetCall, Tested, WriteCall, LIBRARY};
 use crate::generate::small::{Kind, KINDS};
 
 /// A comparison of one call, with a seed and a count.
 type Comparison<Call> = fn(Tested<Call>, u64, usize) -> Result<Tally, Difference>;
 
-/// A comparison of all four calls.
+/// A comparison of the four calls of a file.
 type ComparisonOfAll = fn(Calls, u64, usize) -> Result<Tally, Difference>;
 
 /// A printing program's text of a file.
@@ -39,6 +40,9 @@ pub fn run() -> Result<Tally, Difference> {
         found(&mut tally, name, comparison(Tested { name, call }, SEED, COUNT))?;
     }
     for (name, comparison, call) in wrong_sheets() {
+        found(&mut tally, name, comparison(Tested { name, call }, SEED, COUNT))?;
+    }
+    for (name, comparison, call) in wrong_writes().into_iter().chain(unlike_writes()) {
         found(&mut tally, name, comparison(Tested { name, call }, SEED, COUNT))?;
     }
     for (name, comparison, calls) in wrong_calls() {
@@ -145,7 +149,68 @@ fn wrong_sheets() -> Vec<(&'static str, Comparison<SheetCall>, SheetCall)> {
     ]
 }
 
-/// One wrong call among the four.
+/// Writes that judge otherwise.
+fn wrong_writes() -> Vec<(&'static str, Comparison<WriteCall>, WriteCall)> {
+    vec![
+        ("a clinic is cut to 32 bits", write::large_numbers, writes::patient_field_cut::<0, 32>),
+        ("a clinic is cut to 8 bits", write::large_numbers, writes::patient_field_cut::<0, 8>),
+        ("a bed count is cut to 32 bits", write::large_numbers, writes::patient_field_cut::<1, 32>),
+        ("a parent is cut to 32 bits", write::large_numbers, writes::patient_field_cut::<2, 32>),
+        ("a member count is cut to 32 bits", write::large_numbers, writes::table_field_cut::<0, 32>),
+        ("a member is cut to 32 bits", write::large_numbers, writes::table_field_cut::<1, 32>),
+        ("an entry is cut to 32 bits", write::large_numbers, writes::entries_cut::<32>),
+        ("m is cut to 32 bits", write::large_numbers, writes::m_cut::<32>),
+        ("m is cut to 8 bits", write::large_numbers, writes::m_cut::<8>),
+        ("an entry 2^32 - 1 is forbidden", write::large_numbers, writes::mark_forbidden),
+        ("a parent 2^32 - 1 is none", write::large_numbers, writes::mark_as_root),
+        ("the sum of counts wraps at 2^64", write::not_whole, writes::sum_wrapping::<64>),
+        ("the bytes of entries wrap at 2^64", write::not_whole, writes::sum_wrapping::<61>),
+        ("the sum of counts wraps at 2^32", write::not_whole, writes::sum_wrapping::<32>),
+        ("question 2 is not asked", write::not_whole, writes::without::<2>),
+        ("question 5 is not asked", write::single_faults, writes::without::<5>),
+        ("question 6 is not asked", write::single_faults, writes::without::<6>),
+        ("question 7 is not asked", write::single_faults, writes::without::<7>),
+        ("question 8 is not asked", write::single_faults, writes::without::<8>),
+        ("question 9 is not asked", write::single_faults, writes::without::<9>),
+        ("question 10 is not asked", write::single_faults, writes::without::<10>),
+        ("question 7 is put before 6", write::double_faults, writes::members_first),
+        ("15 before 10", write::double_faults, writes::room_before::<10>),
+        ("15 before 12", write::double_faults, writes::room_before::<12>),
+        ("12 before the region's", write::double_faults, writes::twelve_first),
+        ("a table without members is taken", write::limits, writes::no_members_taken),
+        ("32 patients are too many", write::counts, writes::refusing_the_most::<32, 0>),
+        ("64 tables are too many", write::counts, writes::refusing_the_most::<0, 64>),
+        ("patients are counted in 8 bits", write::counts, writes::patients_counted_in::<8>),
+        ("patients are counted in 16 bits", write::counts, writes::patients_counted_in::<16>),
+        ("members that are not there are judged", write::good_regions, writes::unused_judged),
+    ]
+}
+
+/// Writes that leave other bytes.
+fn unlike_writes() -> Vec<(&'static str, Comparison<WriteCall>, WriteCall)> {
+    vec![
+        ("the end line's sum is one higher", write::good_regions, writes::sum_one_higher),
+        ("the end line is missing", write::good_regions, writes::end_line_missing),
+        ("m is not written", write::good_regions, writes::m_always_64),
+        ("a byte after the file is written", write::good_regions, writes::byte_behind),
+        ("a byte after the output area is written", write::good_regions, writes::spilling),
+        ("the byte count is written highest byte first", write::good_regions, writes::count_turned),
+        ("the last entry is left out", write::good_regions, writes::last_entry_left_out),
+        ("output is written on 15", write::all_lengths, writes::written_on_15),
+        ("15 before 12", write::all_lengths, writes::room_before::<12>),
+        ("a byte too few is enough", write::all_lengths, writes::room_one_byte_short),
+        ("a byte more is needed", write::all_lengths, writes::room_one_byte_more),
+        ("a short result area is written", write::all_lengths, writes::short_result_written),
+        ("a refusal leaves the result area", write::single_faults, writes::result_left),
+        ("a refusal leaves the result area", write::large_numbers, writes::result_left),
+        ("parents are shifted", write::round_trips, writes::parents_shifted),
+        ("the end line's sum is one higher", write::round_trips, writes::sum_one_higher),
+        ("a forbidden entry is a large price", write::round_trips, writes::hyphen_as_price),
+        ("tables in falling order", write::round_trips, writes::tables_turned),
+    ]
+}
+
+/// One wrong call among the four of a file.
 fn wrong_calls() -> Vec<(&'static str, ComparisonOfAll, Calls)> {
     let check = |call| Calls { check: Tested { call, ..LIBRARY.check }, ..LIBRARY };
     let price = |call| Calls { price: Tested { call, ..LIBRARY.price }, ..LIBRARY };

@@ -5,7 +5,7 @@ use mathlib.Core.Logic.{inl, inr}
 use Prim.Native.Nat.{_-_}
 use lib.ListN.{length}
 use Rattle.held_region.specs.declared.Patient.{Patient}
-use Rattle.table_reader.specs.FirstHeld.{set-full}
+use Rattle.held_region.specs.FirstHeld.{set-full}
 use Rattle.layout.specs.Reading.{PatientsSoFar}
 use Rattle.layout.proofs.HeldLines.{patients-none, patients-more, patient-said, patients-other, patients-all}
 use Rattle.layout.proofs.patients.read_patients.Statement.{statement}

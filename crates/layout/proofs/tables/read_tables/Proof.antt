@@ -5,7 +5,7 @@ use mathlib.Core.Path.{_∙_}
 use mathlib.Core.Logic.{inl, inr}
 use Prim.Native.Nat.{_-_}
 use lib.ListN.{length}
-use Rattle.table_reader.specs.FirstHeld.{set-full}
+use Rattle.held_region.specs.FirstHeld.{set-full}
 use Rattle.layout.specs.TableLines.{TablesSoFar}
 use Rattle.layout.proofs.HeldTables.{tables-none, used-few, tables-more, tables-other, tables-all}
 use Rattle.layout.proofs.tables.read_tables.Statement.{statement}

@@ -1,0 +1,3 @@
+pub mod CutOff
+pub mod CutStands
+pub mod Lent

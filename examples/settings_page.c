@@ -1,0 +1,89 @@
+/*
+ * A settings page in small: it holds a ward in arrays, saves it as a region file, and shows that file and its plans.
+ * Then it makes mistakes, and says in words why each is not saved. Ends with 1 where a call answers something else.
+ */
+#include <inttypes.h>
+#include <stdio.h>
+
+#include "on_screen.h"
+#include "region_file.h"
+#include "rigbasen.h"
+
+enum { PATIENTS = 3, TABLES = 3, ENTRIES = 9 };
+
+/* What the fields of the page hold. */
+struct ward {
+    struct rigbasen_patient patients[PATIENTS];
+    struct rigbasen_table tables[TABLES];
+    uint64_t entries[ENTRIES];
+    uint64_t m;
+};
+
+/* Patients 0 and 1 are of clinic 0, and not both in bed 1; patient 2 is of clinic 1, and never in bed 1. */
+static const struct ward three_patients = {
+    {{0, 2, RIGBASEN_NONE}, {0, 2, 0}, {1, 3, RIGBASEN_NONE}},
+    {{1, {0, 0, 0, 0}, 2}, {2, {0, 1, 0, 0}, 4}, {1, {2, 0, 0, 0}, 3}},
+    {3, 1, 0, 2, 1, RIGBASEN_NONE, 5, RIGBASEN_NONE, 4},
+    4,
+};
+
+/* Saves a ward in an area of so many bytes. On a refusal the file has no bytes. */
+static uint64_t save(const struct ward *ward, struct region_file *file, size_t room)
+{
+    uint8_t result[RIGBASEN_WRITE_RESULT_BYTES];
+    uint64_t number = rigbasen_write((const uint8_t *)ward->patients, sizeof ward->patients,
+                                     (const uint8_t *)ward->tables, sizeof ward->tables,
+                                     (const uint8_t *)ward->entries, sizeof ward->entries, ward->m,
+                                     file->bytes, room, result, sizeof result);
+    file->length = (size_t)number_at(result);
+    return number;
+}
+
+/* Of a lent region question 2 asks something else than of a file. */
+static const char *why(uint64_t number)
+{
+    return number == RIGBASEN_LAYOUT ? "there are not as many entries as the tables count" : meaning(number);
+}
+
+/* Saves what a mistake has made of the ward; 1 where the refusal is another than this. */
+static int mistaken(const char *mistake, const struct ward *ward, size_t room, uint64_t refusal)
+{
+    static struct region_file file;
+    uint64_t number = save(ward, &file, room);
+    printf("%s: not saved, %" PRIu64 ": %s\n", mistake, number, why(number));
+    return number != refusal || file.length != 0;
+}
+
+static int show_mistakes(size_t needed)
+{
+    struct ward ward = three_patients;
+    int wrong = mistaken("an area one byte shorter", &ward, needed - 1, RIGBASEN_SHORT_OUTPUT);
+    ward.entries[0] = 1000001;
+    wrong += mistaken("a price of 1000001", &ward, needed, RIGBASEN_ENTRIES);
+    ward.patients[0].parent = 1;
+    wrong += mistaken("then a parent who comes later", &ward, needed, RIGBASEN_PATIENTS);
+    ward.m = 0;
+    wrong += mistaken("then no plans wanted", &ward, needed, RIGBASEN_LIMITS);
+    ward.tables[2].entry_count = 4;
+    wrong += mistaken("then an entry that is counted and not there", &ward, needed, RIGBASEN_LAYOUT);
+    return wrong;
+}
+
+int main(void)
+{
+    static struct region_file file;
+    static struct areas areas;
+    uint64_t number = save(&three_patients, &file, RIGBASEN_WRITTEN_BYTES);
+    if (number != RIGBASEN_FINE) {
+        printf("not saved, %" PRIu64 ": %s\n", number, why(number));
+        return 1;
+    }
+    printf("saved, %zu bytes:\n%.*s", file.length, (int)file.length, (const char *)file.bytes);
+    if (rigbasen_check(file.bytes, file.length) != RIGBASEN_FINE || list_region(&file, &areas) != RIGBASEN_FINE) {
+        printf("the saved file is refused\n");
+        return 1;
+    }
+    printf("list: ");
+    show_rows(&areas, PATIENTS);
+    return show_mistakes(file.length) == 0 ? 0 : 1;
+}
