@@ -1,5 +1,4 @@
 -- Loops over places that write one line, or one code, after the other.
-use mathlib.Core.Path.{ap}
 use native.Mathlib.Omega.{arith}
 use Prim.Native.Nat.{_≤_}
 use Rattle.definitions.specs.Basics.{ℕ, _+_, _<_, List, [], _∷_, map, getD, below}

@@ -3,12 +3,12 @@ use mathlib.Core.Path.{_≡_, refl, sym, ap, ap₂, _∙_}
 use Prim.Native.Nat.{_≤_}
 use native.Mathlib.Omega.{arith}
 use borrow.Author.Tests.{le-leb, lt-leb}
-use Rattle.definitions.specs.Basics.{ℕ, suc, _<_, true, false, List, [], _∷_, _++_, length, take, sets}
+use Rattle.definitions.specs.Basics.{ℕ, _<_, true, List, [], _∷_, _++_, length, take, sets}
 use Rattle.definitions.specs.Spelling.{spell}
-use Rattle.definitions.specs.Questions.{Asked, firstNo, askedOfRegion, entryAsks}
+use Rattle.definitions.specs.Questions.{Asked, firstNo, askedOfRegion}
 use Rattle.definitions.specs.Outcomes.{unlessRefused}
-use Rattle.definitions.specs.Writer.{asHeld, writtenFile, roomForFile, askedByWrite, WriteOutcome, writeOutcomeOf, writeOutcome}
-use Rattle.theorems.specs.Answers.{says, yes-then, no-then}
+use Rattle.definitions.specs.Writer.{roomForFile, askedByWrite, madeBy, WriteOutcome, writeOutcomeOf, writeOutcome}
+use Rattle.theorems.specs.Answers.{yes-then, no-then}
 use Rattle.theorems.specs.Accepted.{Accepted, accepted-asked}
 use Rattle.theorems.specs.Writer.{passes-accepted}
 use Rattle.held_region.specs.declared.Refusal.{Refusal}
@@ -35,13 +35,14 @@ module _ (h : Region) (store output : List ℕ) where
 
   asked-outcome : {number : ℕ} → firstNo allAsked ≡ number → outcomeWith number ≡ writeOutcome (said h store) output
   unfolding writeOutcome writeOutcomeOf askedByWrite
-  asked-outcome e = ap outcomeWith (sym e) ∙ sym (ap₂ (λ r f. writeOutcomeOf (record { number = firstNo (askedOfRegion r ++ (15, roomForFile f output) ∷ []); bytes = unlessRefused (firstNo (askedOfRegion r ++ (15, roomForFile f output) ∷ [])) f }) output) (said-held h store) (file-said h store))
+  asked-outcome e = ap outcomeWith (sym e) ∙ sym (ap₂ (λ r f. writeOutcomeOf (madeBy (askedOfRegion r ++ (15, roomForFile f output) ∷ []) f) output) (said-held h store) (file-said h store))
 
   -- They are those that the judge asks.
   judged : firstNo (asked true (said h store)) ≡ firstNo (askedOfRegion (said h store))
   unfolding asked lastAsked
   judged = refl
 
+  -- A no to one of them; a yes to all.
   pub write-refused : (refusal : Refusal) → refusalNumber refusal ≡ firstNo (asked true (said h store)) → writtenOutcome (Refused refusal) output ≡ writeOutcome (said h store) output
   write-refused refusal e =
       let no = no-then (askedOfRegion (said h store)) ((15, roomForFile file output) ∷ []) _ (sym judged ∙ sym e ∙ refusal-number refusal) in
@@ -51,6 +52,7 @@ module _ (h : Region) (store output : List ℕ) where
   pub write-accepted : 0 ≡ firstNo (asked true (said h store)) → Accepted (said h store)
   write-accepted e = rw (said-held h store) at (passes-accepted (said h store) (rw (said-held h store) (sym judged ∙ sym e)))
 
+  -- Then the answer to 15 counts.
   module _ (a : Accepted (said h store)) where
     by-room : firstNo allAsked ≡ firstNo ((15, roomForFile file output) ∷ [])
     by-room = yes-then (askedOfRegion (said h store)) ((15, roomForFile file output) ∷ []) (accepted-asked (said h store) a)
@@ -63,7 +65,7 @@ module _ (h : Region) (store output : List ℕ) where
     unfolding roomForFile
     write-bytes l = asked-outcome (by-room ∙ ap (λ b. firstNo ((15, b) ∷ [])) (le-leb _ _ l))
 
-    -- The file was made in a text, and what was made is copied from there.
+    -- The file was made in an area of its own, and is copied from there.
     module _ {area text : List ℕ} {n : ℕ} (made : Wrote file 0 area text n) (room : Room file 0 area) where
       pub made-short : length output < n → writtenOutcome Short output ≡ writeOutcome (said h store) output
       made-short l = write-short (omega (arith, made .next))

@@ -2,14 +2,14 @@
 use mathlib.Core.Path.{_≡_, refl, sym, ap, ap₂, _∙_}
 use mathlib.Core.List.{append-assoc, append-nil, map-map}
 use native.Mathlib.Omega.{arith}
-use Rattle.definitions.specs.Basics.{ℕ, _+_, Bool, true, _&&_, Option, none, some, noneOr, List, [], _∷_, _++_, map, flatMap, flatten, getD, below, text, every}
+use Rattle.definitions.specs.Basics.{ℕ, _+_, true, _&&_, Option, none, some, noneOr, List, [], _∷_, _++_, map, flatMap, flatten, getD, below, text, every}
 use Rattle.definitions.specs.Syntax as Said
 use Rattle.definitions.specs.Spelling.{decimal, hyphenOrDecimal, bracketed, line, spellPatient, spellTable, spellBody, spell, spellable}
 use Rattle.definitions.specs.Questions.{checksum}
 use Rattle.lists.specs.Tests.{both}
 use Rattle.lists.specs.Every.{every-in}
 use Rattle.lists.specs.Maps.{map-same}
-use Rattle.theorems.specs.Forms.{fromLeft, line-spelt, okHead, okPatient}
+use Rattle.theorems.specs.Forms.{line-spelt, okHead, okPatient}
 use Rattle.held_region.specs.declared.Patient.{Patient}
 use Rattle.held_region.specs.declared.Table.{Table}
 use Rattle.held_region.specs.declared.Region.{Region}

@@ -1,4 +1,4 @@
--- What the writers of an accepted region rely on.
+-- What the functions that write an accepted region's lines rely on.
 use mathlib.Core.Path.{_≡_, refl, sym, ap, _∙_}
 use native.Mathlib.Omega.{arith}
 use Prim.Native.Nat.{_≤_}
@@ -23,11 +23,11 @@ use Rattle.held_region.specs.Meaning.{patientOf, patientIn, membersOf, tableIn,
 use Rattle.held_region.specs.Asked.{patients-said, tables-by-places, tables-said, starts-said}
 use Rattle.held_region.specs.Stores.{start-most}
 use Rattle.held_region.specs.Entries.{total-most}
-use Rattle.held_region.specs.Sound.{HasPlaces, has-places, accepted-sound, members-held}
+use Rattle.held_region.specs.Sound.{has-places, accepted-sound, members-held}
 use Rattle.text_writer.specs.Wrote.{Room}
 use Rattle.writer.specs.Spelled.{patientsSaid, sum-said}
 
--- Of the patients.
+-- Patients that have their places and can be spelled.
 pub record PatientsFit (h : Region) : Type 0 where
   pub places : h .v ≤ 32
   pub lines : every okPatient (patientsSaid h) ≡ true
@@ -35,7 +35,7 @@ pub record PatientsFit (h : Region) : Type 0 where
 pub patient-fits : (h : Region) → PatientsFit h → (s : ℕ) → s < h .v → okPatient (patientOf (patientIn h s)) ≡ true
 patient-fits h fit s l = every-place _ (h .v) s (sym (every-map okPatient (λ q. patientOf (patientIn h q)) (below (h .v))) ∙ fit .lines) l
 
--- Of a table whose entries begin at a place of the store.
+-- A table that has its places, whose entries lie in the store from a place on, and whose members can be spelled.
 pub record TableFits (t : Table) (start : ℕ) : Type 0 where
   pub few : t .members ≤ 4
   pub inside : start + t .entries ≤ 4096
@@ -45,7 +45,7 @@ pub record TableFits (t : Table) (start : ℕ) : Type 0 where
 pub members-taken : (t : Table) → t .members ≤ length (t .first) → take (t .members) (t .first) ≡ membersOf t
 members-taken t h = sym (below-take (λ j. getD (t .first) j 0) (t .first) (t .members) h (λ j l. refl))
 
--- Of all.
+-- Of a whole region.
 pub record Writable (h : Region) (store : List ℕ) : Type 0 where
   pub head : okHead (h .v, h .t, h .m) ≡ true
   pub wanted : h .m ≤ 64
@@ -74,11 +74,10 @@ module _ (h : Region) (store : List ℕ) where
     file-short : length (spell (said h store)) ≤ mostWritten
     file-short = rw file-said at (written-short (said h store) held-accepted)
 
-    -- It has room in an area of so many bytes.
+    -- The file has room in an area of so many bytes, and the lines before the end line are no longer than a file may be.
     pub file-room : Room (spell (said h store)) 0 (replicate mostWritten 0)
     file-room = omega (arith, file-short, length-replicate {A = ℕ} mostWritten 0)
 
-    -- So are the lines before the end line.
     pub body-short : length (spellBody (said h store)) ≤ limits fileLength .highest
     unfolding spell limits
     body-short =

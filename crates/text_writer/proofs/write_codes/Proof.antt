@@ -1,5 +1,4 @@
 use borrow.Author.Needs.{needs}
-use native.Mathlib.Omega.{arith}
 use mathlib.Core.List.{[], _∷_, map}
 use Prim.Native.Nat.{_-_}
 use lib.ListN.{length}

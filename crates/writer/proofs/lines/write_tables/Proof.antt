@@ -1,15 +1,15 @@
 use borrow.Author.Needs.{needs}
 use native.Mathlib.Omega.{arith}
-use mathlib.Core.Path.{_≡_, refl, ap, _∙_}
+use mathlib.Core.Path.{_≡_, refl, ap}
 use mathlib.Core.List.{[], _∷_, map}
 use native.Mathlib.Numerals.{add-one}
 use Prim.Native.Nat.{_-_}
 use Rattle.definitions.specs.Basics.{below}
 use Rattle.definitions.specs.Spelling.{spellTable}
-use Rattle.held_region.specs.Meaning.{tableIn, startIn, tableSaid}
+use Rattle.held_region.specs.Meaning.{startIn, tableSaid}
 use Rattle.text_writer.specs.Wrote.{Left, room-for, then-left}
 use Rattle.text_writer.specs.Parts.{linesFrom, lines-yet}
-use Rattle.writer.specs.Spelled.{tableLines, tableFrom}
+use Rattle.writer.specs.Spelled.{tableLines}
 use Rattle.writer.proofs.Turns.{place-left, places-written}
 use Rattle.writer.proofs.lines.write_tables.Statement.{statement}
 use Rattle.writer.proofs.lines.write_tables.Tie as tie
