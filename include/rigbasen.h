@@ -147,10 +147,10 @@ uint64_t rigbasen_write(const uint8_t *patients, size_t patients_length,
  * What the caller sees to:
  * - Each pointer points to as many bytes as its length says, readable, and writable where it is not const.
  *   None is null; for a length of 0 any other pointer will do.
- * - The areas of one call do not overlap each other, the file or the plan, and nobody else writes to any of them meanwhile.
+ * - The areas that a call writes overlap none of its other areas, and nobody else writes to any of them meanwhile.
  *   (The library has no variables of its own, so threads may call at once, each with its own areas.)
- * - RIGBASEN_STACK_BYTES of stack are free: the work area is there. By measure, check takes about 33,000 bytes,
- *   price 39,000, write (NOT MEASURED YET), list up to 108,000 and sheet up to 115,000, the most where 32 patients are one tree.
+ * - RIGBASEN_STACK_BYTES of stack are free: the work area is there. By measure, check takes about 36,000 bytes,
+ *   price 44,000, write 65,000, list up to 110,000 and sheet up to 116,000, the most where 32 patients are one tree.
  * - Time. A call always ends, but where one tree holds many patients under many tables it can take very long.
  */
 

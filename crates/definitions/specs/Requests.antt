@@ -1,12 +1,12 @@
 -- For each landed request of document 02, in one statement: each of its numbers, each bound, and what a builder gets wrong.
-use Rattle.definitions.specs.Basics.{ℕ, _+_, _-_, _^_, _≡_, refl, Option, none, some, List, [], _∷_, _++_, map, flatten, flatMap, length, replicate}
+use Rattle.definitions.specs.Basics.{ℕ, _+_, _-_, _^_, _≡_, refl, none, some, List, [], _∷_, _++_, map, flatten, flatMap, length, replicate}
 use Rattle.definitions.specs.Syntax.{Patient, Table, Region}
 use Rattle.definitions.specs.Layout.{layout}
 use Rattle.definitions.specs.Questions.{regionOf}
 use Rattle.definitions.specs.Writer.{writtenFile, WriteOutcome, writeOutcome}
 use Rattle.definitions.specs.Boundary.{bytesOf, WriteCall, writeCall}
 use Rattle.definitions.specs.Computing.{everything}
-use Rattle.definitions.specs.Examples.{paperFile, patient, table, region, lent}
+use Rattle.definitions.specs.Examples.{paperFile, patient, table, lent}
 use Rattle.definitions.specs.Cases.{paperRegion, eight}
 
 -- ---- #101: the writer

@@ -1,10 +1,10 @@
 -- How long the lines of an accepted region are: a file that is written has at most `mostWritten` bytes.
-use mathlib.Core.Path.{_≡_, refl, sym, ap, _∙_}
-use native.Mathlib.Nat.{le-trans, mul-le-mul-right}
+use mathlib.Core.Path.{_≡_, refl}
+use native.Mathlib.Nat.{mul-le-mul-right}
 use native.Mathlib.Omega.{arith}
 use Prim.Native.Nat.{_≤_}
 use lib.ListN.{length-append}
-use Rattle.definitions.specs.Basics.{ℕ, zero, suc, _+_, _*_, _<_, true, Option, none, some, noneOr, List, [], _∷_, _++_, map, flatMap, length, replicate}
+use Rattle.definitions.specs.Basics.{ℕ, suc, _+_, _*_, _<_, true, Option, none, some, noneOr, List, [], _∷_, _++_, map, flatMap, length, replicate}
 use Rattle.definitions.specs.Basics.{text, sum}
 use Rattle.definitions.specs.Limits.{Field, patientCount, tableCount, plansWanted, clinic, bedCount, memberCount, entryCount, entry, limits, within}
 use Rattle.definitions.specs.Syntax.{Patient, Table, Region}

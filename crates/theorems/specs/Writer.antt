@@ -6,11 +6,11 @@ use Prim.Native.Nat.{_≤_}
 use lib.ListN.{drop}
 use lib.Seq.{sets-eq}
 use borrow.Author.Tests.{lt-ltb, ltb-true, le-leb, leb-true, eqb-true, eq-eqb}
-use Rattle.definitions.specs.Basics.{ℕ, suc, _+_, _%_, _^_, _<_, Bool, true, _&&_, not, Option, none, some, noneOr, Option·getD, List, [], _∷_, _++_, length}
-use Rattle.definitions.specs.Basics.{map, flatten, dropLast, leb, eqb, every, isEmpty, isSome, sets, sum}
-use Rattle.definitions.specs.Limits.{Field, fileLength, digitCount, patientCount, tableCount, plansWanted, clinic, bedCount, entry, limits, within}
-use Rattle.definitions.specs.Syntax.{Patient, Table, Region, patientNumbers}
-use Rattle.definitions.specs.Layout.{lines, layout}
+use Rattle.definitions.specs.Basics.{ℕ, suc, _+_, _<_, Bool, true, _&&_, not, Option, none, some, noneOr, List, [], _∷_, _++_, length, take}
+use Rattle.definitions.specs.Basics.{leb, eqb, every, isEmpty, isSome, sets}
+use Rattle.definitions.specs.Limits.{Field, patientCount, tableCount, plansWanted, clinic, bedCount, entry, limits, within}
+use Rattle.definitions.specs.Syntax.{Patient, Table, Region}
+use Rattle.definitions.specs.Layout.{layout}
 use Rattle.definitions.specs.Spelling.{spellable, spellBody, spell, wellFormed}
 use Rattle.definitions.specs.Questions.{Asked, firstNo, checksum, shortEnough, laidOut, countsTrue, sumTrue, patientsWithin, regionOf, askedOfRegion, askedByCheck, checkOf, entryAsks, callAsks}
 use Rattle.definitions.specs.Outcomes.{unlessRefused}
@@ -21,6 +21,8 @@ use Rattle.lists.specs.Members.{_∈_}
 use Rattle.lists.specs.Every.{every-in, every-all, every-append, every-split}
 use Rattle.theorems.specs.Answers.{allYes, Says, says, no-no}
 use Rattle.theorems.specs.Refusals.{ResultZeroed, result-zeroed}
+use Rattle.theorems.specs.Refused.{Refused}
+use Rattle.theorems.specs.Cuts.{cut-refused}
 use Rattle.theorems.specs.Accepted.{Accepted, asked-accepted, accepted-asked, accepted, at-most, counts-within, patients-few, parent-known, entries-some, table-right, region-said}
 use Rattle.theorems.specs.Spelling.{layout-spelling, laid-out-spelt, body-spelt}
 use Rattle.theorems.specs.Lengths.{mostWritten, spelling-most}
@@ -95,12 +97,12 @@ module _ (r : Region) (a : Accepted r) where
 
   formed : spellable (r .statedSum) ≡ true → wellFormed r ≡ true
   unfolding wellFormed limits
-  formed sum =
+  formed stated =
       let (v, t, m) = counts-within r a in
       let counts =
       join (spellable-most patientCount refl (r .patientCount) (at-most patientCount (r .patientCount) v))
       (join (spellable-most tableCount refl (r .tableCount) (at-most tableCount (r .tableCount) t))
-      (join (spellable-most plansWanted refl (r .plansWanted) (at-most plansWanted (r .plansWanted) m)) (join sum refl)))
+      (join (spellable-most plansWanted refl (r .plansWanted) (at-most plansWanted (r .plansWanted) m)) (join stated refl)))
       in
       join (join (join counts (every-all _ (r .patients) patient-spellable)) (every-all _ (r .tables) members-spellable)) (every-all _ (r .tables) entries-spellable)
 
@@ -124,9 +126,9 @@ module _ (r : Region) (a : Accepted (asHeld r)) where
   unfolding writtenFile
   written-read = layout-spelling (spell (asHeld r)) (asHeld r) .1 (written-formed, refl)
 
-  short : shortEnough (writtenFile r) ≡ true
+  fits-file : shortEnough (writtenFile r) ≡ true
   unfolding shortEnough within limits
-  short = join (le-leb 0 (length (writtenFile r)) (omega arith)) (le-leb (length (writtenFile r)) 65_535 (omega (arith, written-short)))
+  fits-file = join (le-leb 0 (length (writtenFile r)) (omega arith)) (le-leb (length (writtenFile r)) 65_535 (omega (arith, written-short)))
 
   laid : laidOut (writtenFile r) ≡ true
   unfolding laidOut
@@ -142,12 +144,13 @@ module _ (r : Region) (a : Accepted (asHeld r)) where
   -- .. and it is accepted.
   pub written-accepted : checkOf (writtenFile r) ≡ 0
   unfolding checkOf askedByCheck
-  written-accepted = no-no (askedByCheck (writtenFile r)) (join short (join laid (rw written-region (join (held-counts r) (join summed (accepted-asked (asHeld r) a))))))
+  written-accepted = no-no (askedByCheck (writtenFile r)) (join fits-file (join laid (rw written-region (join (held-counts r) (join summed (accepted-asked (asHeld r) a))))))
 
 -- Put together: what the file of a region that passes questions 5 to 10 is, and what reading it restores.
 pub record ReadBack (r : Region) : Type 0 where
   pub short : length (writtenFile r) ≤ mostWritten
   pub accepted : checkOf (writtenFile r) ≡ 0
+  pub cuts : (n : ℕ) → n < length (writtenFile r) → Refused 2 (take n (writtenFile r))
   pub read : layout (writtenFile r) ≡ some (asHeld r)
   pub patientCount : regionOf (writtenFile r) .patientCount ≡ length (r .patients)
   pub tableCount : regionOf (writtenFile r) .tableCount ≡ length (r .tables)
@@ -163,6 +166,7 @@ read-back r passes =
     record {
       short = written-short r a;
       accepted = written-accepted r a;
+      cuts = λ n h. cut-refused (writtenFile r) n (fits-file r a) (laid r a) h;
       read = written-read r a;
       patientCount = ap (λ (x : Region). x .patientCount) same;
       tableCount = ap (λ (x : Region). x .tableCount) same;
