@@ -13,3 +13,4 @@ pub mod FirstHeld
 pub mod HeldFrom
 pub mod StandsFor
 pub mod Faithful
+pub mod AsHeld

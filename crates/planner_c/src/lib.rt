@@ -7,18 +7,13 @@ ghost use Rattle.definitions.specs.Outcomes.{priceFound};
 ghost use Rattle.definitions.specs.Boundary.{checkCall, listCall, sheetCall, priceCall, writeCall};
 ghost use Rattle.answers.specs.Answers.{notAllowed};
 use answers::checked_number;
-use answers::list_values;
 use answers::price_values;
-use answers::sheet_values;
-use byte_areas::cost_room;
 use byte_areas::store_price;
-use byte_areas::store_rows;
 use lent_writer::write_lent;
 use planner::check;
-use planner::list;
 use planner::price;
-use planner::sheet;
-use row_writer::WORK;
+use row_calls::list_call;
+use row_calls::sheet_call;
 
 #[no_mangle]
 pub extern "C" fn rigbasen_check(file: &[u8]) -> u64
@@ -38,13 +33,7 @@ pub extern "C" fn rigbasen_list(
 ) -> u64
     ensures { λ n. ⌜ record { number = n; beds = now (beds .exit); costs = now (costs .exit); result = now (result .exit) } ≡ listCall (now (file .entry)) (now (beds .entry)) (now (costs .entry)) (now (result .entry)) ⌝ }
 {
-    let room = cost_room(costs.len(), result.len());
-    let mut held = [0u32; 64];
-    let mut work = [0u32; WORK];
-    let answer = list(file, beds, &mut held[0..room], &mut work);
-    let listed = list_values(answer);
-    store_rows(costs, result, &held, listed.rows);
-    listed.number
+    list_call(file, beds, costs, result)
 }
 
 // As for list, of the clinic's sheet.
@@ -58,13 +47,7 @@ pub extern "C" fn rigbasen_sheet(
 ) -> u64
     ensures { λ n. ⌜ record { number = n; beds = now (beds .exit); costs = now (costs .exit); result = now (result .exit) } ≡ sheetCall (now (file .entry)) clinic (now (beds .entry)) (now (costs .entry)) (now (result .entry)) ⌝ }
 {
-    let room = cost_room(costs.len(), result.len());
-    let mut held = [0u32; 64];
-    let mut work = [0u32; WORK];
-    let answer = sheet(file, clinic, beds, &mut held[0..room], &mut work);
-    let sheeted = sheet_values(answer);
-    store_rows(costs, result, &held, sheeted.rows);
-    sheeted.number
+    sheet_call(file, clinic, beds, costs, result)
 }
 
 // Price's number where the result area is too short: 12, unless one of the questions before it is answered no.

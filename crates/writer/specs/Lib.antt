@@ -1,4 +1,2 @@
--- A held region as it is written, and what write gives back.
-pub mod Spelled
-pub mod Writable
+-- What write gives back.
 pub mod Outcomes

@@ -19,7 +19,7 @@ use Rattle.answers.specs.declared.Written.the-variants.{Refused, Short, Bytes}
 use Rattle.answers.specs.Answers.{refusalNumber, writtenOutcome}
 use Rattle.answers.specs.Numbers.{refusal-number}
 use Rattle.text_writer.specs.Wrote.{Room, Wrote, taken-back}
-use Rattle.writer.specs.Writable.{said-held, file-said}
+use Rattle.held_region.specs.AsHeld.{said-held, file-said}
 
 module _ (h : Region) (store output : List ℕ) where
   abbrev file : List ℕ

@@ -1,12 +1,10 @@
 // The writer: a held region as its file.
-pub mod lines;
-
 use answers::Written;
 use held_region::Judged;
 use held_region::Region;
 use line_reader::checksum_of;
-use lines::write_body;
 use questions::judge;
+use region_lines::write_body;
 use text_writer::write_form;
 use text_writer::write_text;
 ghost use mathlib.Core.Path.{_≡_};

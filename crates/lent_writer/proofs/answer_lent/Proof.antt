@@ -3,7 +3,7 @@ use mathlib.Core.Path.{sym, ap, _∙_}
 use denote.Ref.{now}
 use borrow.Author.Tests.{not-true, not-false}
 use Rattle.lists.specs.Tests.{answered-no, answered-yes}
-use Rattle.writer.specs.Writable.{said-held}
+use Rattle.held_region.specs.AsHeld.{said-held}
 use Rattle.lent_writer.specs.Answered.{lentOutcome, given-values, not-whole, with-room, without-room}
 use Rattle.lent_writer.proofs.answer_lent.Statement.{statement}
 use Rattle.lent_writer.proofs.answer_lent.Tie as tie

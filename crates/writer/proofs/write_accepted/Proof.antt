@@ -3,7 +3,7 @@ use native.Mathlib.Omega.{arith}
 use mathlib.Core.Path.{sym}
 use lib.Seq.{length-take-le}
 use Rattle.text_writer.specs.Wrote.{ends-inside}
-use Rattle.writer.specs.Writable.{file-room}
+use Rattle.region_lines.specs.Writable.{file-room}
 use Rattle.writer.specs.Outcomes.{made-short, made-copied}
 use Rattle.writer.proofs.write_accepted.Statement.{statement}
 use Rattle.writer.proofs.write_accepted.Tie as tie

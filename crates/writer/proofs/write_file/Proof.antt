@@ -3,8 +3,8 @@ use mathlib.Core.Path.{refl, sym, ap, _∙_}
 use lib.Seq.{length-take-le}
 use Rattle.definitions.specs.Questions.{checksum}
 use Rattle.text_writer.specs.Wrote.{none-yet, room-for, then-left, none-left, ends-inside, taken-back}
-use Rattle.writer.specs.Spelled.{file-parts}
-use Rattle.writer.specs.Writable.{writable, body-short}
+use Rattle.region_lines.specs.Spelled.{file-parts}
+use Rattle.region_lines.specs.Writable.{writable, body-short}
 use Rattle.writer.proofs.write_file.Statement.{statement}
 use Rattle.writer.proofs.write_file.Tie as tie
 

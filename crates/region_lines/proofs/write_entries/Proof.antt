@@ -3,10 +3,10 @@ use mathlib.Core.List.{[], _∷_, map}
 use Prim.Native.Nat.{_-_}
 use Rattle.text_writer.specs.Wrote.{Left, room-for, then-left}
 use Rattle.text_writer.specs.Parts.{apart, spellCode, from-zero, apartFrom, parts-yet}
-use Rattle.writer.specs.Spelled.{codesFrom}
-use Rattle.writer.proofs.Turns.{code-left, codes-written}
-use Rattle.writer.proofs.lines.write_entries.Statement.{statement}
-use Rattle.writer.proofs.lines.write_entries.Tie as tie
+use Rattle.region_lines.specs.Spelled.{codesFrom}
+use Rattle.region_lines.proofs.Turns.{code-left, codes-written}
+use Rattle.region_lines.proofs.write_entries.Statement.{statement}
+use Rattle.region_lines.proofs.write_entries.Tie as tie
 
 abbrev Inv-loop : tie.InvT-loop
 Inv-loop out₀ at store start count next₀ k₀ out next k = Left (apart 0 (map spellCode (codesFrom store start count))) at out₀ (apartFrom spellCode from-zero (codesFrom store start count) k ∷ []) out next

@@ -1,8 +1,8 @@
 use borrow.Author.Needs.{needs}
 use Rattle.text_writer.specs.Wrote.{none-yet, room-for, then-left, none-left}
-use Rattle.writer.specs.Spelled.{body-parts}
-use Rattle.writer.proofs.lines.write_body.Statement.{statement}
-use Rattle.writer.proofs.lines.write_body.Tie as tie
+use Rattle.region_lines.specs.Spelled.{body-parts}
+use Rattle.region_lines.proofs.write_body.Statement.{statement}
+use Rattle.region_lines.proofs.write_body.Tie as tie
 
 slice-aggregate-write-form : tie.Need-slice-aggregate-write-form
 slice-aggregate-write-form c = search needs

@@ -1,8 +1,8 @@
 use borrow.Author.Needs.{needs}
 use Rattle.text_writer.specs.Wrote.{none-yet, room-for, then-left, none-left}
-use Rattle.writer.specs.Spelled.{table-parts}
-use Rattle.writer.proofs.lines.write_table.Statement.{statement}
-use Rattle.writer.proofs.lines.write_table.Tie as tie
+use Rattle.region_lines.specs.Spelled.{table-parts}
+use Rattle.region_lines.proofs.write_table.Statement.{statement}
+use Rattle.region_lines.proofs.write_table.Tie as tie
 
 slice-aggregate-write-text : tie.Need-slice-aggregate-write-text
 slice-aggregate-write-text c = search needs

@@ -7,9 +7,9 @@ use Rattle.definitions.specs.Outcomes.{sheetFound, sheetOutcome}
 use Rattle.definitions.specs.Questions.{entryAsks, askedBySheet}
 use Rattle.byte_areas.specs.Room.{room-most}
 use Rattle.clinic_sheet.specs.Sheets.{sheet-twelve}
-use Rattle.planner_c.proofs.RowCalls.{values-room, values-called, sheet-call}
-use Rattle.planner_c.proofs.rigbasen_sheet.Statement.{statement}
-use Rattle.planner_c.proofs.rigbasen_sheet.Tie as tie
+use Rattle.row_calls.proofs.RowCalls.{values-room, values-called, sheet-call}
+use Rattle.row_calls.proofs.sheet_call.Statement.{statement}
+use Rattle.row_calls.proofs.sheet_call.Tie as tie
 
 cost-room-requires : tie.Need-cost-room-requires
 cost-room-requires c κs = search needs
@@ -62,8 +62,8 @@ returns c =
     (c .before .before .before .before .before .before .before .before .before .before .before .before .before .sheet .ensures) (c .before .before .before .before .before .before .before .before .sheet-values .ensures) _ (c .before .before .before .before .store-rows .ensures)
     ∙ sheet-call (now (a .file)) (now (a .beds)) (now (a .costs)) (now (a .result)) (a .clinic)
 
-pub rigbasen-sheet-spec : {M : Type 1} → statement M
-rigbasen-sheet-spec =
+pub sheet-call-spec : {M : Type 1} → statement M
+sheet-call-spec =
     tie.close
     (tie.spec
     cost-room-requires

@@ -5,7 +5,7 @@ use Rattle.definitions.specs.Basics.{ℕ, _+_, _<_, List, [], _∷_, map, getD,
 use Rattle.lists.specs.Below.{length-by-places, at-place}
 use Rattle.text_writer.specs.Wrote.{Wrote, Left}
 use Rattle.text_writer.specs.Parts.{gap, spellCode, from-zero, apartFrom, part-left, parts-done, linesFrom, line-left, lines-done}
-use Rattle.writer.specs.Spelled.{codesFrom}
+use Rattle.region_lines.specs.Spelled.{codesFrom}
 
 module _ {A : Type 0} (spell : A → List ℕ) (f : ℕ → A) (n i : ℕ) {whole out now : List ℕ} {at place : ℕ}
     (left : Left whole at out (linesFrom spell (map f (below n)) i ∷ []) now place) where

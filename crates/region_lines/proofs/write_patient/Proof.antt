@@ -1,7 +1,7 @@
 use borrow.Author.Needs.{needs}
-use Rattle.writer.specs.Spelled.{patient-codes}
-use Rattle.writer.proofs.lines.write_patient.Statement.{statement}
-use Rattle.writer.proofs.lines.write_patient.Tie as tie
+use Rattle.region_lines.specs.Spelled.{patient-codes}
+use Rattle.region_lines.proofs.write_patient.Statement.{statement}
+use Rattle.region_lines.proofs.write_patient.Tie as tie
 
 parent-code-requires : tie.Need-parent-code-requires
 parent-code-requires c κs = search needs

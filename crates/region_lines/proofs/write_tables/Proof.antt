@@ -9,10 +9,10 @@ use Rattle.definitions.specs.Spelling.{spellTable}
 use Rattle.held_region.specs.Meaning.{startIn, tableSaid}
 use Rattle.text_writer.specs.Wrote.{Left, room-for, then-left}
 use Rattle.text_writer.specs.Parts.{linesFrom, lines-yet}
-use Rattle.writer.specs.Spelled.{tableLines}
-use Rattle.writer.proofs.Turns.{place-left, places-written}
-use Rattle.writer.proofs.lines.write_tables.Statement.{statement}
-use Rattle.writer.proofs.lines.write_tables.Tie as tie
+use Rattle.region_lines.specs.Spelled.{tableLines}
+use Rattle.region_lines.proofs.Turns.{place-left, places-written}
+use Rattle.region_lines.proofs.write_tables.Statement.{statement}
+use Rattle.region_lines.proofs.write_tables.Tie as tie
 
 abbrev Inv-loop : tie.InvT-loop
 Inv-loop out₀ at store region next₀ start₀ i₀ out next start i = (start ≡ startIn region i) × (Left (tableLines region store) at out₀ (linesFrom spellTable (map (tableSaid region store) (below (region .t))) i ∷ []) out next)

@@ -4,9 +4,9 @@ use mathlib.Core.Path.{_≡_, sym}
 use Prim.Native.Nat.{_≤_}
 use lib.ListN.{length}
 use lib.Seq.{length-take-le}
-use Rattle.writer.specs.Writable.{members-taken}
-use Rattle.writer.proofs.lines.write_members.Statement.{statement}
-use Rattle.writer.proofs.lines.write_members.Tie as tie
+use Rattle.region_lines.specs.Writable.{members-taken}
+use Rattle.region_lines.proofs.write_members.Statement.{statement}
+use Rattle.region_lines.proofs.write_members.Tie as tie
 
 array-share-prefix-first : tie.Need-array-share-prefix-first
 array-share-prefix-first c =

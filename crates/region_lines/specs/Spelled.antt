@@ -13,6 +13,7 @@ use Rattle.theorems.specs.Forms.{line-spelt, okHead, okPatient}
 use Rattle.held_region.specs.declared.Patient.{Patient}
 use Rattle.held_region.specs.declared.Table.{Table}
 use Rattle.held_region.specs.declared.Region.{Region}
+use Rattle.held_region.specs.AsHeld.{sum-said}
 use Rattle.held_region.specs.Meaning.{mark, entryOf, codeOf, parentOf, patientOf, patientIn, membersOf, tableSaid, said}
 use Rattle.line_reader.specs.Forms.{number-unmarked}
 use Rattle.text_writer.specs.Parts.{apart, bracketed-apart, spellCode, mark-spelled, number-spelled}
@@ -93,16 +94,11 @@ module _ (h : Region) (store : List ℕ) where
   body-parts ok =
       ap₂ (λ (head tables : List ℕ). head ++ (patientLines h ++ tables)) (head-codes (h .v) (h .t) (h .m) ok) (sym (append-nil (tableLines h store)))
 
-  -- Its sum goes over what stands before the end line.
-  pub sum-said : said h store .statedSum ≡ checksum (spellBody (said h store))
-  unfolding said spellBody
-  sum-said = refl
-
   pub file-parts : (sum : ℕ) → sum ≡ checksum (spellBody (said h store)) → spellable (said h store .statedSum) ≡ true
       → spell (said h store) ≡ flatten (spellBody (said h store) ∷ line (text "end" ∷ map spellCode (sum ∷ [])) ∷ [])
   unfolding spell flatten
   file-parts sum is ok =
-      let same : said h store .statedSum ≡ sum = sum-said ∙ sym is in
+      let same : said h store .statedSum ≡ sum = sum-said h store ∙ sym is in
       let digits : decimal (said h store .statedSum) ≡ spellCode sum = number-code (said h store .statedSum) ok ∙ ap spellCode same in
       ap (λ (d : List ℕ). spellBody (said h store) ++ line (text "end" ∷ d ∷ [])) digits
       ∙ ap (λ (l : List ℕ). spellBody (said h store) ++ l) (sym (append-nil (line (text "end" ∷ spellCode sum ∷ []))))

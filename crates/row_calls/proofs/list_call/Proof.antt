@@ -7,9 +7,9 @@ use Rattle.definitions.specs.Outcomes.{listFound, listOutcome}
 use Rattle.definitions.specs.Questions.{entryAsks, askedByList}
 use Rattle.byte_areas.specs.Room.{room-most}
 use Rattle.region_answers.specs.Lists.{list-twelve}
-use Rattle.planner_c.proofs.RowCalls.{values-room, values-called, list-call}
-use Rattle.planner_c.proofs.rigbasen_list.Statement.{statement}
-use Rattle.planner_c.proofs.rigbasen_list.Tie as tie
+use Rattle.row_calls.proofs.RowCalls.{values-room, values-called, list-call}
+use Rattle.row_calls.proofs.list_call.Statement.{statement}
+use Rattle.row_calls.proofs.list_call.Tie as tie
 
 cost-room-requires : tie.Need-cost-room-requires
 cost-room-requires c κs = search needs
@@ -62,8 +62,8 @@ returns c =
     (c .before .before .before .before .before .before .before .before .before .before .before .before .before .list .ensures) (c .before .before .before .before .before .before .before .before .list-values .ensures) _ (c .before .before .before .before .store-rows .ensures)
     ∙ list-call (now (a .file)) (now (a .beds)) (now (a .costs)) (now (a .result))
 
-pub rigbasen-list-spec : {M : Type 1} → statement M
-rigbasen-list-spec =
+pub list-call-spec : {M : Type 1} → statement M
+list-call-spec =
     tie.close
     (tie.spec
     cost-room-requires

@@ -17,8 +17,8 @@ ghost use Rattle.theorems.specs.Forms.{okPatient};
 ghost use Rattle.held_region.specs.Meaning.{codeOf, parentOf, patientOf, membersOf, said};
 ghost use Rattle.text_writer.specs.Wrote.{Room, Wrote};
 ghost use Rattle.text_writer.specs.Parts.{apart, spellCode};
-ghost use Rattle.writer.specs.Spelled.{codesFrom, tableFrom, patientLines, tableLines};
-ghost use Rattle.writer.specs.Writable.{PatientsFit, TableFits, Writable};
+ghost use Rattle.region_lines.specs.Spelled.{codesFrom, tableFrom, patientLines, tableLines};
+ghost use Rattle.region_lines.specs.Writable.{PatientsFit, TableFits, Writable};
 
 // A parent as a field is written: the mark at a root.
 fn parent_code(parent: Parent) -> u32

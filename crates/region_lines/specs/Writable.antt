@@ -2,30 +2,29 @@
 use mathlib.Core.Path.{_≡_, refl, sym, ap, _∙_}
 use native.Mathlib.Omega.{arith}
 use Prim.Native.Nat.{_≤_}
-use borrow.Author.Tests.{eq-eqb}
 use lib.ListN.{length-append, length-replicate}
 use Rattle.definitions.specs.Basics.{ℕ, suc, _+_, _<_, true, not, _&&_, List, [], _∷_, length, getD, take, replicate, below, text, every, isEmpty}
 use Rattle.definitions.specs.Limits.{fileLength, limits}
 use Rattle.definitions.specs.Spelling.{decimal, line, spellable, spellBody, spell}
-use Rattle.definitions.specs.Questions.{countsTrue}
-use Rattle.definitions.specs.Writer.{asHeld, writtenFile}
-use Rattle.lists.specs.Tests.{both, join}
+use Rattle.definitions.specs.Writer.{asHeld}
+use Rattle.lists.specs.Tests.{both}
 use Rattle.lists.specs.Every.{every-map}
 use Rattle.lists.specs.Below.{every-place, below-take}
 use Rattle.theorems.specs.Accepted.{Accepted, plans-wanted}
 use Rattle.theorems.specs.Forms.{okHead, okPatient, okTable}
 use Rattle.theorems.specs.Files.{LinesOk, well-formed-lines}
 use Rattle.theorems.specs.Lengths.{mostWritten}
-use Rattle.theorems.specs.Writer.{as-held, written-short, written-formed}
+use Rattle.theorems.specs.Writer.{written-short, written-formed}
 use Rattle.held_region.specs.declared.Table.{Table}
 use Rattle.held_region.specs.declared.Region.{Region}
 use Rattle.held_region.specs.Meaning.{patientOf, patientIn, membersOf, tableIn, startIn, tableSaid, said}
-use Rattle.held_region.specs.Asked.{patients-said, tables-by-places, tables-said, starts-said}
+use Rattle.held_region.specs.Asked.{tables-by-places, starts-said}
+use Rattle.held_region.specs.AsHeld.{said-held, file-said}
 use Rattle.held_region.specs.Stores.{start-most}
 use Rattle.held_region.specs.Entries.{total-most}
 use Rattle.held_region.specs.Sound.{has-places, accepted-sound, members-held}
 use Rattle.text_writer.specs.Wrote.{Room}
-use Rattle.writer.specs.Spelled.{patientsSaid, sum-said}
+use Rattle.region_lines.specs.Spelled.{patientsSaid}
 
 -- Patients that have their places and can be spelled.
 pub record PatientsFit (h : Region) : Type 0 where
@@ -55,24 +54,12 @@ pub record Writable (h : Region) (store : List ℕ) : Type 0 where
   pub end : spellable (said h store .statedSum) ≡ true
 
 module _ (h : Region) (store : List ℕ) where
-  -- What is said has true counts and its true sum, so it is as it is held.
-  counts-said : countsTrue (said h store) ≡ true
-  unfolding countsTrue said
-  counts-said = join (eq-eqb _ _ (patients-said h store)) (eq-eqb _ _ (tables-said h store))
-
-  pub said-held : asHeld (said h store) ≡ said h store
-  said-held = as-held (said h store) counts-said (sum-said h store)
-
-  pub file-said : writtenFile (said h store) ≡ spell (said h store)
-  unfolding writtenFile
-  file-said = ap spell said-held
-
   module _ (a : Accepted (said h store)) where
     held-accepted : Accepted (asHeld (said h store))
-    held-accepted = rw said-held a
+    held-accepted = rw (said-held h store) a
 
     file-short : length (spell (said h store)) ≤ mostWritten
-    file-short = rw file-said at (written-short (said h store) held-accepted)
+    file-short = rw (file-said h store) at (written-short (said h store) held-accepted)
 
     -- The file has room in an area of so many bytes, and the lines before the end line are no longer than a file may be.
     pub file-room : Room (spell (said h store)) 0 (replicate mostWritten 0)
@@ -85,7 +72,7 @@ module _ (h : Region) (store : List ℕ) where
         omega (arith, file-short, length-append (spellBody (said h store)) end)
 
     lines-ok : LinesOk (said h store)
-    lines-ok = well-formed-lines (said h store) (rw said-held at (written-formed (said h store) held-accepted))
+    lines-ok = well-formed-lines (said h store) (rw (said-held h store) at (written-formed (said h store) held-accepted))
 
     -- The entries of a table end where the next begins, and all within the store.
     start-inside : (i : ℕ) → i < h .t → startIn h i + tableIn h i .entries ≤ 4096

@@ -5,11 +5,11 @@ use Rattle.definitions.specs.Spelling.{spellPatient}
 use Rattle.held_region.specs.Meaning.{patientOf, patientIn}
 use Rattle.text_writer.specs.Wrote.{Left, room-for, then-left}
 use Rattle.text_writer.specs.Parts.{linesFrom, lines-yet}
-use Rattle.writer.specs.Spelled.{patientsSaid, patientLines}
-use Rattle.writer.specs.Writable.{patient-fits}
-use Rattle.writer.proofs.Turns.{place-left, places-written}
-use Rattle.writer.proofs.lines.write_patients.Statement.{statement}
-use Rattle.writer.proofs.lines.write_patients.Tie as tie
+use Rattle.region_lines.specs.Spelled.{patientsSaid, patientLines}
+use Rattle.region_lines.specs.Writable.{patient-fits}
+use Rattle.region_lines.proofs.Turns.{place-left, places-written}
+use Rattle.region_lines.proofs.write_patients.Statement.{statement}
+use Rattle.region_lines.proofs.write_patients.Tie as tie
 
 abbrev Inv-loop : tie.InvT-loop
 Inv-loop out₀ at region patients next₀ s₀ out next s = Left (patientLines region) at out₀ (linesFrom spellPatient (patientsSaid region) s ∷ []) out next

@@ -1,0 +1,3 @@
+-- The lines of a held region as they are written, and what that relies on.
+pub mod Spelled
+pub mod Writable
