@@ -4,7 +4,7 @@ use Rattle.definitions.specs.Syntax.{Patient, Table, Region}
 use Rattle.definitions.specs.Layout.{layout}
 use Rattle.definitions.specs.Questions.{regionOf}
 use Rattle.definitions.specs.Writer.{writtenFile, WriteOutcome, writeOutcome}
-use Rattle.definitions.specs.Boundary.{bytesOf, WriteCall, writeCall}
+use Rattle.definitions.specs.Boundary.{bytesOf, lentTableCount, WriteCall, writeCall}
 use Rattle.definitions.specs.Computing.{everything}
 use Rattle.definitions.specs.Examples.{paperFile, patient, table, lent}
 use Rattle.definitions.specs.Cases.{paperRegion, eight}
@@ -75,7 +75,7 @@ pub record Saving : Type 0 where
   pub countsDoNotWrap : callNumber one (1 ∷ 0 ∷ 0 ∷ 0 ∷ 0 ∷ (2 ^ 63) ∷ 1 ∷ 0 ∷ 0 ∷ 0 ∷ 0 ∷ (2 ^ 63) ∷ []) [] 1 ≡ 2
   pub secondTable : callNumber (0 ∷ 2 ∷ absent ∷ []) (1 ∷ 0 ∷ 0 ∷ 0 ∷ 0 ∷ 2 ∷ 1 ∷ 0 ∷ 0 ∷ 0 ∷ 0 ∷ 2 ∷ []) (1 ∷ 2 ∷ 3 ∷ 4 ∷ []) 1 ≡ 0
   pub mostPatients : map (λ n. callNumber (flatten (replicate n one)) [] [] 1) (32 ∷ 33 ∷ []) ≡ 15 ∷ 5 ∷ []
-  pub mostTables : map (λ n. callNumber one (flatten (replicate n over)) (replicate n 5) 1) (64 ∷ 65 ∷ []) ≡ 15 ∷ 5 ∷ []
+  pub tableCounts : map (λ n. lentTableCount (lent n)) (2255 ∷ 2256 ∷ []) ≡ 46 ∷ 47 ∷ []
   pub fiveMembers : callNumber one (5 ∷ 0 ∷ 0 ∷ 0 ∷ 0 ∷ 1 ∷ []) (5 ∷ []) 1 ≡ 7
   pub largePlans : map (callNumber one [] []) ((2 ^ 32 + 1) ∷ absent ∷ []) ≡ 5 ∷ 5 ∷ []
   pub largeClinic : map (λ n. callNumber (n ∷ 1 ∷ absent ∷ []) [] [] 1) ((2 ^ 32) ∷ absent ∷ []) ≡ 6 ∷ 6 ∷ []
@@ -113,7 +113,7 @@ saving = record {
   countsDoNotWrap = refl;
   secondTable = refl;
   mostPatients = refl;
-  mostTables = refl;
+  tableCounts = refl;
   fiveMembers = refl;
   largePlans = refl;
   largeClinic = refl;

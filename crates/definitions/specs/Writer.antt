@@ -24,6 +24,7 @@ regionFrom m patients tables = withSum (record { patientCount = length patients;
 unfoldable pub asHeld : Region → Region
 asHeld r = regionFrom (r .plansWanted) (r .patients) (r .tables)
 
+-- The file that is written of it.
 unfoldable pub writtenFile : Region → List ℕ
 writtenFile r = spell (asHeld r)
 

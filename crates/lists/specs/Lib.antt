@@ -7,3 +7,4 @@ pub mod Maps
 pub mod Below
 pub mod Rising
 pub mod Loops
+pub mod Rows

@@ -7,8 +7,8 @@ use native.Mathlib.Nat.{mul-le-mul, mul-le-mul-right, pow-zero, pow-succ'}
 use native.Mathlib.Omega.{arith}
 use borrow.Author.Tests.{leb-true}
 use Prim.Native.Nat.{_≤_}
-use Rattle.definitions.specs.Basics.{ℕ, _*_, _^_, _≡_, refl, true, Option, none, some, Option·elim}
-use Rattle.definitions.specs.Basics.{List, [], _∷_, _++_, map, length, leb, product, flatten, flatMap, filterMap, dropLast, onAll, every}
+use Rattle.definitions.specs.Basics.{ℕ, zero, suc, _<_, _*_, _^_, _≡_, refl, true, Option, none, some, Option·elim}
+use Rattle.definitions.specs.Basics.{List, [], _∷_, _++_, map, length, getD, leb, product, flatten, flatMap, filterMap, dropLast, onAll, every}
 use Rattle.lists.specs.Tests.{both}
 use Rattle.lists.specs.Members.{_∈_, here, there, here-or-there, none-in-nil, in-cast, Distinct}
 
@@ -17,6 +17,12 @@ module _ {A B : Type 0} where
   pub map-same : (f g : A → B) (l : List A) → ((x : A) → x ∈ l → f x ≡ g x) → map f l ≡ map g l
   map-same f g [] h = refl
   map-same f g (x ∷ l) h = ap₂ {C = List B} (λ y ys. y ∷ ys) (h x (here refl)) (map-same f g l (λ y k. h y (there k)))
+
+  -- What stands at a place, whatever stands in for what is past the end.
+  pub map-at : (f : A → B) (l : List A) (i : ℕ) (d : A) (e : B) → i < length l → getD (map f l) i e ≡ f (getD l i d)
+  map-at f [] i d e h = absurd (omega arith)
+  map-at f (x ∷ l) zero d e h = refl
+  map-at f (x ∷ l) (suc i) d e h = map-at f l i d e (omega arith)
 
   pub on-all-same : (f g : A → Option B) (l : List A) → ((x : A) → x ∈ l → f x ≡ g x) → onAll f l ≡ onAll g l
   on-all-same f g [] h = refl

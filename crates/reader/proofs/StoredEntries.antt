@@ -4,8 +4,9 @@ use Prim.Native.Nat.{_≤_}
 use native.Mathlib.Omega.{arith}
 use lib.ListN.{length-append, length-map, List·getD-append}
 use lib.Seq.{getD-append-add}
-use Rattle.definitions.specs.Basics.{ℕ, zero, suc, _+_, _<_, Option, none, List, [], _∷_, map, flatMap, length, getD}
+use Rattle.definitions.specs.Basics.{ℕ, zero, suc, _+_, _<_, none, List, [], _∷_, map, flatMap, length, getD}
 use Rattle.definitions.specs.Syntax.{Table}
+use Rattle.lists.specs.Maps.{map-at}
 use Rattle.held_region.specs.Meaning.{codeOf}
 use Rattle.held_region.specs.Stores.{startOf, entriesOf, at, start-next, start-first, start-most, HasEntries}
 use Rattle.table_reader.specs.TableReading.{Holding}
@@ -16,11 +17,6 @@ unfolding flatMap
 length-stored [] = refl
 length-stored (t ∷ tables) = length-append (map codeOf (t .entries)) (storedEntries tables) ∙ ap₂ (λ a b. a + b) (length-map (t .entries) codeOf) (length-stored tables)
 
-code-of : (es : List (Option ℕ)) (q : ℕ) → q < length es → getD (map codeOf es) q 0 ≡ codeOf (getD es q none)
-code-of [] q h = absurd (omega arith)
-code-of (e ∷ es) zero h = refl
-code-of (e ∷ es) (suc q) h = code-of es q (omega arith)
-
 code-at : (tables : List Table) (i q : ℕ) → i < length tables → q < length (at tables i .entries)
     → getD (storedEntries tables) (startOf tables i + q) 0 ≡ codeOf (getD (at tables i .entries) q none)
 unfolding flatMap
@@ -28,7 +24,7 @@ code-at [] i q h l = absurd (omega arith)
 code-at (t ∷ tables) zero q h l =
     let from : startOf (t ∷ tables) 0 + q ≡ q = unfold startOf in omega arith in
     ap (λ n. getD (storedEntries (t ∷ tables)) n 0) from
-    ∙ List·getD-append (map codeOf (t .entries)) (storedEntries tables) 0 q (omega (arith, length-map (t .entries) codeOf)) ∙ code-of (t .entries) q l
+    ∙ List·getD-append (map codeOf (t .entries)) (storedEntries tables) 0 q (omega (arith, length-map (t .entries) codeOf)) ∙ map-at codeOf (t .entries) q none 0 l
 code-at (t ∷ tables) (suc i) q h l =
     let from : startOf (t ∷ tables) (suc i) + q ≡ length (map codeOf (t .entries)) + (startOf tables i + q) = omega (arith, start-first t tables i, length-map (t .entries) codeOf) in
     ap (λ n. getD (storedEntries (t ∷ tables)) n 0) from

@@ -13,6 +13,7 @@ use Rattle.definitions.specs.Questions.{patientsWithin}
 use Rattle.lists.specs.Tests.{both}
 use Rattle.lists.specs.Members.{_∈_, here, there}
 use Rattle.lists.specs.Every.{every-in}
+use Rattle.lists.specs.Rows.{sum-each}
 use Rattle.theorems.specs.Numbers.{decimal-leads, decimal-longer}
 use Rattle.theorems.specs.Accepted.{Accepted, TableRight, at-most, counts-within, patients-counted, tables-counted, parent-known, entries-few, entries-some, table-right}
 
@@ -51,10 +52,6 @@ unfolding flatMap
 lines-most f most [] each = omega arith
 lines-most f most (x ∷ xs) each =
     omega (arith, length-append (f x) (flatMap f xs), each x (here refl), lines-most f most xs (λ y i. each y (there i)))
-
-sum-each : {A : Type 0} (k : ℕ) (xs : List A) → sum (map (λ x. k) xs) ≡ length xs * k
-sum-each k [] = omega arith
-sum-each k (x ∷ xs) = omega (arith, sum-each k xs)
 
 sum-both : {A : Type 0} (j k : ℕ) (f : A → ℕ) (xs : List A) → sum (map (λ x. j + f x * k) xs) ≡ length xs * j + sum (map f xs) * k
 sum-both j k f [] = omega arith

@@ -28,3 +28,4 @@ pub mod IsolationExamples
 pub mod PlanAllowed
 pub mod Lengths
 pub mod Writer
+pub mod Lending

@@ -62,7 +62,7 @@ passes-accepted r well = asked-accepted (asHeld r) (held-counts r) (says (askedO
 spellable-most : (field : Field) → spellable (limits field .highest) ≡ true → (n : ℕ) → n ≤ limits field .highest → spellable n ≡ true
 spellable-most field most n h = lt-ltb n _ (omega (arith, ltb-true (limits field .highest) _ most))
 
-none-or : {test : ℕ → Bool} (o : Option ℕ) → ((n : ℕ) → o ≡ some n → test n ≡ true) → noneOr test o ≡ true
+pub none-or : {test : ℕ → Bool} (o : Option ℕ) → ((n : ℕ) → o ≡ some n → test n ≡ true) → noneOr test o ≡ true
 none-or none each = refl
 none-or (some n) each = each n refl
 
