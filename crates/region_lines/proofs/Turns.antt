@@ -4,7 +4,8 @@ use Prim.Native.Nat.{_≤_}
 use Rattle.definitions.specs.Basics.{ℕ, _+_, _<_, List, [], _∷_, map, getD, below}
 use Rattle.lists.specs.Below.{length-by-places, at-place}
 use Rattle.text_writer.specs.Wrote.{Wrote, Left}
-use Rattle.text_writer.specs.Parts.{gap, spellCode, from-zero, apartFrom, part-left, parts-done, linesFrom, line-left, lines-done}
+use Rattle.text_writer.specs.Parts.{gap, from-zero, apartFrom, part-left, parts-done, linesFrom, line-left, lines-done}
+use Rattle.region_lines.specs.Codes.{spellCode}
 use Rattle.region_lines.specs.Spelled.{codesFrom}
 
 module _ {A : Type 0} (spell : A → List ℕ) (f : ℕ → A) (n i : ℕ) {whole out now : List ℕ} {at place : ℕ}

@@ -16,7 +16,8 @@ use Rattle.held_region.specs.declared.Region.{Region}
 use Rattle.held_region.specs.AsHeld.{sum-said}
 use Rattle.held_region.specs.Meaning.{mark, entryOf, codeOf, parentOf, patientOf, patientIn, membersOf, tableSaid, said}
 use Rattle.line_reader.specs.Forms.{number-unmarked}
-use Rattle.text_writer.specs.Parts.{apart, bracketed-apart, spellCode, mark-spelled, number-spelled}
+use Rattle.text_writer.specs.Parts.{apart, bracketed-apart}
+use Rattle.region_lines.specs.Codes.{spellCode, mark-spelled, number-spelled}
 
 -- ---- numbers and codes
 

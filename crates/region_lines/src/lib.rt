@@ -1,12 +1,14 @@
 // The lines of a held region before the end line.
+pub mod forms;
+
+use forms::write_code;
+use forms::write_codes;
+use forms::write_form;
 use held_region::FORBIDDEN;
 use held_region::Parent;
 use held_region::Patient;
 use held_region::Region;
 use held_region::Table;
-use text_writer::write_code;
-use text_writer::write_codes;
-use text_writer::write_form;
 use text_writer::write_gap;
 use text_writer::write_text;
 ghost use mathlib.Core.Path.{_≡_};
@@ -16,7 +18,8 @@ ghost use Rattle.definitions.specs.Spelling.{spellPatient, spellTable, spellBod
 ghost use Rattle.theorems.specs.Forms.{okPatient};
 ghost use Rattle.held_region.specs.Meaning.{codeOf, parentOf, patientOf, membersOf, said};
 ghost use Rattle.text_writer.specs.Wrote.{Room, Wrote};
-ghost use Rattle.text_writer.specs.Parts.{apart, spellCode};
+ghost use Rattle.text_writer.specs.Parts.{apart};
+ghost use Rattle.region_lines.specs.Codes.{spellCode};
 ghost use Rattle.region_lines.specs.Spelled.{codesFrom, tableFrom, patientLines, tableLines};
 ghost use Rattle.region_lines.specs.Writable.{PatientsFit, TableFits, Writable};
 

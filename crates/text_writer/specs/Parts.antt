@@ -4,12 +4,10 @@ use mathlib.Core.List.{append-assoc, append-nil}
 use native.Mathlib.Numerals.{add-one}
 use native.Mathlib.Omega.{arith}
 use Prim.Native.Nat.{_≤_}
-use borrow.Author.Tests.{eq-eqb, ne-eqb}
 use lib.ListN.{drop, drop-of-length-le}
 use lib.Seq.{drop-cons}
 use Rattle.definitions.specs.Basics.{ℕ, zero, suc, _+_, _<_, List, [], _∷_, _++_, map, flatMap, flatten, length, getD, text}
-use Rattle.definitions.specs.Spelling.{decimal, hyphenOrDecimal, bracketed, line}
-use Rattle.held_region.specs.Meaning.{mark, entryOf}
+use Rattle.definitions.specs.Spelling.{bracketed, line}
 use Rattle.text_writer.specs.Wrote.{Wrote, Left, none-yet, none-left, other-parts}
 
 -- What stands before part i; the parts from part i on, each with what stands before it.
@@ -40,16 +38,6 @@ form-apart word ps =
     let fields = flatMap (λ (q : List ℕ). 32 ∷ q) ps in
     ap (λ (l : List ℕ). 40 ∷ l) (append-assoc word (fields ++ text ")") (text "\n")
     ∙ ap (λ (l : List ℕ). word ++ l) (append-assoc fields (text ")") (text "\n") ∙ ap (λ (l : List ℕ). l ++ text ")\n") (sym (later-apart 0 ps))))
-
--- The spelling of a number that stands for itself, or of the mark, which stands for a hyphen.
-abbrev pub spellCode : ℕ → List ℕ
-spellCode code = hyphenOrDecimal (entryOf code)
-
-pub mark-spelled : (code : ℕ) → code ≡ mark → spellCode code ≡ text "-"
-mark-spelled code e = rw (eq-eqb code mark e)
-
-pub number-spelled : (code : ℕ) → (code ≡ mark → ⊥) → spellCode code ≡ decimal code
-number-spelled code other = rw (ne-eqb code mark other)
 
 -- The numbers that a loop gives to parts: b to the first, one more to each next.
 pub record Numbering (b : ℕ) (number : ℕ → ℕ) : Type 0 where

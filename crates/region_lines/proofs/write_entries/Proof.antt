@@ -2,7 +2,8 @@ use borrow.Author.Needs.{needs}
 use mathlib.Core.List.{[], _∷_, map}
 use Prim.Native.Nat.{_-_}
 use Rattle.text_writer.specs.Wrote.{Left, room-for, then-left}
-use Rattle.text_writer.specs.Parts.{apart, spellCode, from-zero, apartFrom, parts-yet}
+use Rattle.text_writer.specs.Parts.{apart, from-zero, apartFrom, parts-yet}
+use Rattle.region_lines.specs.Codes.{spellCode}
 use Rattle.region_lines.specs.Spelled.{codesFrom}
 use Rattle.region_lines.proofs.Turns.{code-left, codes-written}
 use Rattle.region_lines.proofs.write_entries.Statement.{statement}

@@ -1,9 +1,10 @@
 use borrow.Author.Needs.{needs}
 use mathlib.Core.List.{map}
 use Rattle.text_writer.specs.Wrote.{none-yet, room-for, then-left, none-left}
-use Rattle.text_writer.specs.Parts.{spellCode, form-apart}
-use Rattle.text_writer.proofs.write_form.Statement.{statement}
-use Rattle.text_writer.proofs.write_form.Tie as tie
+use Rattle.text_writer.specs.Parts.{form-apart}
+use Rattle.region_lines.specs.Codes.{spellCode}
+use Rattle.region_lines.proofs.forms.write_form.Statement.{statement}
+use Rattle.region_lines.proofs.forms.write_form.Tie as tie
 
 write-byte-requires : tie.Need-write-byte-requires
 write-byte-requires c κs = search needs

@@ -1,7 +1,7 @@
 use borrow.Author.Needs.{needs}
-use Rattle.text_writer.specs.Parts.{mark-spelled, number-spelled}
-use Rattle.text_writer.proofs.write_code.Statement.{statement}
-use Rattle.text_writer.proofs.write_code.Tie as tie
+use Rattle.region_lines.specs.Codes.{mark-spelled, number-spelled}
+use Rattle.region_lines.proofs.forms.write_code.Statement.{statement}
+use Rattle.region_lines.proofs.forms.write_code.Tie as tie
 
 write-byte-requires : tie.Need-write-byte-requires
 write-byte-requires c κs = rw (mark-spelled _ (c .before .if1 .taken)) at (c .before .before .before .pre)

@@ -2,10 +2,11 @@ use borrow.Author.Needs.{needs}
 use mathlib.Core.List.{[], _∷_, map}
 use Prim.Native.Nat.{_-_}
 use lib.ListN.{length}
 use Rattle.text_writer.specs.Wrote.{Left, room-for, then-left}
-use Rattle.text_writer.specs.Parts.{apart, spellCode, from-part, apartFrom, parts-yet, part-left, parts-done}
-use Rattle.text_writer.proofs.write_codes.Statement.{statement}
-use Rattle.text_writer.proofs.write_codes.Tie as tie
+use Rattle.text_writer.specs.Parts.{apart, from-part, apartFrom, parts-yet, part-left, parts-done}
+use Rattle.region_lines.specs.Codes.{spellCode}
+use Rattle.region_lines.proofs.forms.write_codes.Statement.{statement}
+use Rattle.region_lines.proofs.forms.write_codes.Tie as tie
 
 abbrev Inv-loop : tie.InvT-loop
 Inv-loop out₀ at codes before next₀ i₀ out next i = Left (apart before (map spellCode codes)) at out₀ (apartFrom spellCode (from-part before) codes i ∷ []) out next
