@@ -3,10 +3,10 @@ use mathlib.Core.Path.{_≡_, refl, sym, ap, _∙_}
 use Rattle.definitions.specs.Basics.{ℕ, zero, suc, Bool, true, false, List, [], _∷_, _++_}
 use Rattle.definitions.specs.Syntax as Said
 use Rattle.definitions.specs.Questions.{Asked, firstNo, askedOfRegion, callAsks}
-use Rattle.definitions.specs.Outcomes.{unlessRefused}
 use Rattle.definitions.specs.Writer.{regionFrom, asHeld, writtenFile, roomForFile, askedByWrite, madeBy, WriteOutcome, writeOutcomeOf, writeOutcome}
 use Rattle.definitions.specs.Boundary.{roomForNumbers, resultAfter, lentRegion, lentWhole, askedByLentWrite, WriteCall, writeCallOf, writeCall}
 use Rattle.theorems.specs.Answers.{says, yes-then, no-then, yes-between}
+use Rattle.theorems.specs.Writer.{made-with}
 use Rattle.held_region.specs.Refusals.{asked, lastAsked}
 use Rattle.held_region.specs.StandsFor.{StandsFor}
 
@@ -27,15 +27,6 @@ pub given-values : {given number counted count : ℕ} (output : List ℕ) → gi
     → _≡_ {A = WriteOutcome} (record { number = given; count = counted; output = output }) (record { number = number; count = count; output = output })
 given-values output e f = λ i. record { number = e i; count = f i; output = output }
 
--- What is made by questions that give one number.
-module _ (file output : List ℕ) where
-  made-by : (asked other : Asked) → firstNo asked ≡ firstNo other → writeOutcomeOf (madeBy asked file) output ≡ writeOutcomeOf (madeBy other file) output
-  made-by asked other e = ap (λ n. writeOutcomeOf (record { number = n; bytes = unlessRefused n file }) output) e
-
-  made-refused : (asked : Asked) (q : ℕ) → firstNo asked ≡ suc q → writeOutcomeOf (madeBy asked file) output ≡ nothingWritten (suc q) output
-  unfolding writeOutcomeOf
-  made-refused asked q e = ap (λ n. writeOutcomeOf (record { number = n; bytes = unlessRefused n file }) output) e
-
 -- A region that stands for another is written as the other would be.
 module _ (held region : Said.Region) (output : List ℕ) (stands : StandsFor true held region) (as-held : asHeld held ≡ held) (as-said : asHeld region ≡ region) where
   same-asked : firstNo (asked true held) ≡ firstNo (askedOfRegion region)
@@ -49,9 +40,9 @@ module _ (held region : Said.Region) (output : List ℕ) (stands : StandsFor tru
       go : (n : ℕ) → firstNo (askedOfRegion region) ≡ n → writeOutcome held output ≡ writeOutcome region output
       go zero e = ap (λ r. writeOutcome r output) (stands .says e)
       go (suc q) e =
-          made-refused (writtenFile held) output (askedOfRegion (asHeld held) ++ (15, roomForFile (writtenFile held) output) ∷ []) q
+          made-with (askedOfRegion (asHeld held) ++ (15, roomForFile (writtenFile held) output) ∷ []) (writtenFile held) output
           (no-then (askedOfRegion (asHeld held)) ((15, roomForFile (writtenFile held) output) ∷ []) q (ap (λ r. firstNo (askedOfRegion r)) as-held ∙ same-asked ∙ e))
-          ∙ sym (made-refused (writtenFile region) output (askedOfRegion (asHeld region) ++ (15, roomForFile (writtenFile region) output) ∷ []) q
+          ∙ sym (made-with (askedOfRegion (asHeld region) ++ (15, roomForFile (writtenFile region) output) ∷ []) (writtenFile region) output
           (no-then (askedOfRegion (asHeld region)) ((15, roomForFile (writtenFile region) output) ∷ []) q (ap (λ r. firstNo (askedOfRegion r)) as-said ∙ e)))
 
 module _ (patients tables entries : List ℕ) (m : ℕ) (output : List ℕ) where
@@ -70,7 +61,7 @@ module _ (patients tables entries : List ℕ) (m : ℕ) (output : List ℕ) wher
   pub not-whole : (room : Bool) → lentWhole patients tables entries ≡ false → nothingWritten 2 output ≡ lentOutcome room
   unfolding lentOutcome askedByLentWrite
   not-whole room no-two =
-      sym (made-refused (writtenFile region) output (callAsks (askedByLentWrite patients tables entries m output) room) 1 (ap (λ b. firstNo ((2, b) ∷ early ++ (12, room) ∷ later)) no-two))
+      sym (made-with (callAsks (askedByLentWrite patients tables entries m output) room) (writtenFile region) output (ap (λ b. firstNo ((2, b) ∷ early ++ (12, room) ∷ later)) no-two))
     where
       early : Asked
       early = askedByWrite region output .first
@@ -88,14 +79,16 @@ module _ (patients tables entries : List ℕ) (m : ℕ) (output : List ℕ) wher
 
     asks-these : (room : Bool) → lentOutcome room ≡ writeOutcomeOf (madeBy (early ++ (12, room) ∷ later) (writtenFile region)) output
     unfolding lentOutcome askedByLentWrite askedByWrite
-    asks-these room = made-by (writtenFile region) output (callAsks (askedByLentWrite patients tables entries m output) room) (early ++ (12, room) ∷ later) (ap (λ b. firstNo ((2, b) ∷ early ++ (12, room) ∷ later)) whole)
+    asks-these room =
+        made-with (callAsks (askedByLentWrite patients tables entries m output) room) (writtenFile region) output (ap (λ b. firstNo ((2, b) ∷ early ++ (12, room) ∷ later)) whole)
+        ∙ sym (made-with (early ++ (12, room) ∷ later) (writtenFile region) output refl)
 
     -- With room for the result, the writer answers.
     pub with-room : writeOutcome held output ≡ lentOutcome true
     unfolding writeOutcome askedByWrite
     with-room =
         stands-outcome held region output stands as-held lent-held
-        ∙ sym (asks-these true ∙ made-by (writtenFile region) output (early ++ (12, true) ∷ later) (early ++ later) (yes-between early later 12))
+        ∙ sym (asks-these true ∙ made-with (early ++ (12, true) ∷ later) (writtenFile region) output (yes-between early later 12) ∙ sym (made-with (early ++ later) (writtenFile region) output refl))
 
     -- Without it, nothing is written.
     pub without-room : nothingWritten (orTwelve (firstNo (asked true held))) output ≡ lentOutcome false
@@ -106,10 +99,10 @@ module _ (patients tables entries : List ℕ) (m : ℕ) (output : List ℕ) wher
 
         go : (n : ℕ) → firstNo early ≡ n → writeOutcomeOf (madeBy (early ++ (12, false) ∷ later) (writtenFile region)) output ≡ nothingWritten (orTwelve (firstNo early)) output
         go zero e =
-            made-refused (writtenFile region) output (early ++ (12, false) ∷ later) 11 (yes-then early ((12, false) ∷ later) (says early tt .accepted .0 e))
+            made-with (early ++ (12, false) ∷ later) (writtenFile region) output (yes-then early ((12, false) ∷ later) (says early tt .accepted .0 e))
             ∙ ap (λ n. nothingWritten (orTwelve n) output) (sym e)
         go (suc q) e =
-            made-refused (writtenFile region) output (early ++ (12, false) ∷ later) q (no-then early ((12, false) ∷ later) q e)
+            made-with (early ++ (12, false) ∷ later) (writtenFile region) output (no-then early ((12, false) ∷ later) q e)
             ∙ ap (λ n. nothingWritten (orTwelve n) output) (sym e)
 
   -- With the result area, it is the call.

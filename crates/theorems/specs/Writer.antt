@@ -14,7 +14,7 @@ use Rattle.definitions.specs.Layout.{layout}
 use Rattle.definitions.specs.Spelling.{spellable, spellBody, spell, wellFormed}
 use Rattle.definitions.specs.Questions.{Asked, firstNo, checksum, shortEnough, laidOut, countsTrue, sumTrue, patientsWithin, regionOf, askedOfRegion, askedByCheck, checkOf, entryAsks, callAsks}
 use Rattle.definitions.specs.Outcomes.{unlessRefused}
-use Rattle.definitions.specs.Writer.{regionFrom, asHeld, writtenFile, roomForFile, askedByWrite, Made, madeBy, outputAfter, writeOutcomeOf, writeOutcome}
+use Rattle.definitions.specs.Writer.{regionFrom, asHeld, writtenFile, roomForFile, askedByWrite, Made, madeBy, outputAfter, WriteOutcome, writeOutcomeOf, writeOutcome}
 use Rattle.definitions.specs.Boundary.{roomForNumbers, resultAfter, lentRegion, lentWhole, askedByLentWrite, WriteCall, writeCallOf, writeCall}
 use Rattle.lists.specs.Tests.{both, join}
 use Rattle.lists.specs.Members.{_∈_}
@@ -204,7 +204,15 @@ pub record Unwritten (before after : List ℕ) (count : ℕ) : Type 0 where
   pub counted : count ≡ 0
   pub output : after ≡ before
 
--- Once for all writers, which ask 15 last.
+-- What is given back with a number, by every writer.
+abbrev pub outcomeWith : List ℕ → List ℕ → ℕ → WriteOutcome
+outcomeWith file output number = record { number = number; count = length (unlessRefused number file); output = sets output 0 (unlessRefused number file) }
+
+pub made-with : (asked : Asked) (file output : List ℕ) {number : ℕ} → firstNo asked ≡ number → writeOutcomeOf (madeBy asked file) output ≡ outcomeWith file output number
+unfolding writeOutcomeOf
+made-with asked file output e = ap (outcomeWith file output) e
+
+-- Writers ask 15 last.
 module _ (early : Asked) (file output : List ℕ) where
   abbrev made : Made
   made = madeBy (early ++ (15, roomForFile file output) ∷ []) file

@@ -7,10 +7,10 @@ use Rattle.definitions.specs.Basics.{ℕ, _<_, true, List, [], _∷_, _++_, len
 use Rattle.definitions.specs.Spelling.{spell}
 use Rattle.definitions.specs.Questions.{Asked, firstNo, askedOfRegion}
 use Rattle.definitions.specs.Outcomes.{unlessRefused}
-use Rattle.definitions.specs.Writer.{roomForFile, askedByWrite, madeBy, WriteOutcome, writeOutcomeOf, writeOutcome}
+use Rattle.definitions.specs.Writer.{roomForFile, askedByWrite, madeBy, writeOutcomeOf, writeOutcome}
 use Rattle.theorems.specs.Answers.{yes-then, no-then}
 use Rattle.theorems.specs.Accepted.{Accepted, accepted-asked}
-use Rattle.theorems.specs.Writer.{passes-accepted}
+use Rattle.theorems.specs.Writer.{passes-accepted, outcomeWith, made-with}
 use Rattle.held_region.specs.declared.Refusal.{Refusal}
 use Rattle.held_region.specs.declared.Region.{Region}
 use Rattle.held_region.specs.Meaning.{said}
@@ -25,17 +25,13 @@ module _ (h : Region) (store output : List ℕ) where
   abbrev file : List ℕ
   file = spell (said h store)
 
-  -- What is given back with a number.
-  abbrev outcomeWith : ℕ → WriteOutcome
-  outcomeWith number = record { number = number; count = length (unlessRefused number file); output = sets output 0 (unlessRefused number file) }
-
   -- The questions that are asked: those of the held region, and 15.
   abbrev allAsked : Asked
   allAsked = askedOfRegion (said h store) ++ (15, roomForFile file output) ∷ []
 
-  asked-outcome : {number : ℕ} → firstNo allAsked ≡ number → outcomeWith number ≡ writeOutcome (said h store) output
+  asked-outcome : {number : ℕ} → firstNo allAsked ≡ number → outcomeWith file output number ≡ writeOutcome (said h store) output
   unfolding writeOutcome writeOutcomeOf askedByWrite
-  asked-outcome e = ap outcomeWith (sym e) ∙ sym (ap₂ (λ r f. writeOutcomeOf (madeBy (askedOfRegion r ++ (15, roomForFile f output) ∷ []) f) output) (said-held h store) (file-said h store))
+  asked-outcome e = sym (made-with allAsked file output e) ∙ sym (ap₂ (λ r f. writeOutcomeOf (madeBy (askedOfRegion r ++ (15, roomForFile f output) ∷ []) f) output) (said-held h store) (file-said h store))
 
   -- They are those that the judge asks.
   judged : firstNo (asked true (said h store)) ≡ firstNo (askedOfRegion (said h store))
