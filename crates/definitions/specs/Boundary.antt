@@ -73,12 +73,17 @@ numberAt area i = valueOf (take 8 (drop (i * 8) area))
 abbrev pub optionAt : List ℕ → ℕ → Option ℕ
 optionAt area i = let n = numberAt area i in cond (eqb n (2 ^ 64 - 1)) none (some n)
 
--- A region is lent in three areas of such numbers. A patient is three: clinic, count of beds, parent or none.
+-- A region is lent in three areas of such numbers. A patient is four: clinic, count of beds, parent or none, fixed bed or none.
 abbrev pub lentPatient : List ℕ → ℕ → Patient
-lentPatient patients s = record { clinic = numberAt patients (s * 3); bedCount = numberAt patients (s * 3 + 1); parent = optionAt patients (s * 3 + 2) }
+lentPatient patients s = record {
+  clinic = numberAt patients (s * 4);
+  bedCount = numberAt patients (s * 4 + 1);
+  parent = optionAt patients (s * 4 + 2);
+  fixedBed = optionAt patients (s * 4 + 3);
+}
 
 unfoldable pub lentPatients : List ℕ → List Patient
-lentPatients patients = map (lentPatient patients) (below (length patients / 24))
+lentPatients patients = map (lentPatient patients) (below (length patients / 32))
 
 -- A table is six: the count of members, four members, the count of entries. (A fifth member has no place, and question 7 refuses its count.)
 abbrev pub lentTableCount : List ℕ → ℕ
@@ -110,7 +115,7 @@ lentRegion patients tables entries m = regionFrom m (lentPatients patients) (len
 -- 2, of lent areas: are there whole patients, whole tables, and as many entries as the tables count?
 unfoldable pub lentWhole : List ℕ → List ℕ → List ℕ → Bool
 lentWhole patients tables entries =
-    eqb (length patients % 24) 0 && eqb (length tables % 48) 0 && eqb (length entries) (lentEntriesBefore tables (lentTableCount tables) * 8)
+    eqb (length patients % 32) 0 && eqb (length tables % 48) 0 && eqb (length entries) (lentEntriesBefore tables (lentTableCount tables) * 8)
 
 -- The call asks 2, then what the writer asks.
 unfoldable pub askedByLentWrite : List ℕ → List ℕ → List ℕ → ℕ → List ℕ → Asks

@@ -13,11 +13,11 @@ use Rattle.definitions.specs.Examples.{twoClinics, overOneAndTwo, oneEnt
 
 -- What the file in the paper says.
 abbrev pub paperRegion : Region
-paperRegion = region 3 (patient 0 2 none ∷ patient 0 2 (some 0) ∷ []) (table (0 ∷ []) (some 3 ∷ some 1 ∷ []) ∷ table (0 ∷ 1 ∷ []) (some 0 ∷ some 2 ∷ some 1 ∷ none ∷ []) ∷ []) 5272
+paperRegion = region 3 (patient 0 2 none ∷ patient 0 2 (some 0) ∷ []) (table (0 ∷ []) (some 3 ∷ some 1 ∷ []) ∷ table (0 ∷ 1 ∷ []) (some 0 ∷ some 2 ∷ some 1 ∷ none ∷ []) ∷ []) 5426
 
 -- The paper's first line says one patient more than there are.
 abbrev pub oneTooMany : List ℕ
-oneTooMany = spell (record { patientCount = 3; tableCount = 2; plansWanted = 3; patients = paperRegion .patients; tables = paperRegion .tables; statedSum = 5273 })
+oneTooMany = spell (record { patientCount = 3; tableCount = 2; plansWanted = 3; patients = paperRegion .patients; tables = paperRegion .tables; statedSum = 5427 })
 
 -- So many brackets.
 unfoldable pub brackets : ℕ → List ℕ
@@ -31,7 +31,7 @@ pub record NumbersAndText : Type 0 where
   pub number1 : checkOf (brackets 65_536) ≡ 1
   pub number2 : checkOf [] ≡ 2
   pub number3 : checkOf oneTooMany ≡ 3
-  pub number4 : checkOf (spell (region 3 (paperRegion .patients) (paperRegion .tables) 5273)) ≡ 4
+  pub number4 : checkOf (spell (region 3 (paperRegion .patients) (paperRegion .tables) 5427)) ≡ 4
   pub number5 : checkOf (fileOf 65 (patient 0 1 none ∷ []) []) ≡ 5
   pub number6 : checkOf (fileOf 1 (patient 0 1 (some 0) ∷ []) []) ≡ 6
   pub number7 : checkOf (fileOf 1 (patient 0 1 none ∷ patient 0 1 (some 0) ∷ []) (table (1 ∷ 0 ∷ []) (some 0 ∷ []) ∷ [])) ≡ 7

@@ -15,7 +15,7 @@ use Rattle.definitions.specs.Outcomes.{ListOutcome, listOutcome, sheetOu
 use Rattle.definitions.specs.Boundary.{listCall, sheetCall, priceCall}
 use Rattle.definitions.specs.Output.{printed}
 use Rattle.definitions.specs.Computing.{everything}
-use Rattle.definitions.specs.Examples.{textOf, paperFile, patient, table, region, fileOf, row, lent, cleared, twoClinics}
+use Rattle.definitions.specs.Examples.{textOf, paperFile, patient, fixed, table, region, fileOf, row, lent, cleared, twoClinics}
 use Rattle.definitions.specs.Examples.{overOneAndTwo, allForbidden}
 use Rattle.definitions.specs.Cases.{paperRegion, brackets}
 
@@ -23,7 +23,7 @@ use Rattle.definitions.specs.Cases.{paperRegion, brackets}
 
 -- The lines of the paper's file, with another in the place of the i-th; and without it.
 abbrev paperLines : List String
-paperLines = "(region 2 2 3)" ∷ "(patient 0 2 -)" ∷ "(patient 0 2 0)" ∷ "(cost (0) (3 1))" ∷ "(cost (0 1) (0 2 1 -))" ∷ "(end 5272)" ∷ []
+paperLines = "(region 2 2 3)" ∷ "(patient 0 2 - -)" ∷ "(patient 0 2 0 -)" ∷ "(cost (0) (3 1))" ∷ "(cost (0 1) (0 2 1 -))" ∷ "(end 5426)" ∷ []
 
 abbrev instead : ℕ → List String → List ℕ
 instead i ls = textOf (take i paperLines ++ ls ++ drop (suc i) paperLines)
@@ -31,20 +31,20 @@ instead i ls = textOf (take i paperLines ++ ls ++ drop (suc i) paperLines)
 abbrev misplaced : List (List ℕ)
 misplaced =
     dropLast paperFile ∷ (paperFile ++ 10 ∷ []) ∷ (10 ∷ paperFile) ∷ (32 ∷ paperFile) ∷ flatMap (λ l. text l ++ 13 ∷ 10 ∷ []) paperLines
-    ∷ instead 0 [] ∷ instead 5 [] ∷ instead 5 ("(end 5272)" ∷ "(end 5272)" ∷ []) ∷ instead 5 ("(end 5272)" ∷ "(patient 0 2 0)" ∷ [])
-    ∷ instead 0 ("(region 2 2 3)" ∷ "(region 2 2 3)" ∷ []) ∷ instead 2 ("(cost (0) (3 1))" ∷ "(patient 0 2 0)" ∷ []) ∷ instead 2 ("" ∷ []) ∷ []
+    ∷ instead 0 [] ∷ instead 5 [] ∷ instead 5 ("(end 5426)" ∷ "(end 5426)" ∷ []) ∷ instead 5 ("(end 5426)" ∷ "(patient 0 2 0 -)" ∷ [])
+    ∷ instead 0 ("(region 2 2 3)" ∷ "(region 2 2 3)" ∷ []) ∷ instead 2 ("(cost (0) (3 1))" ∷ "(patient 0 2 0 -)" ∷ []) ∷ instead 2 ("" ∷ []) ∷ []
 
 abbrev misspelt : List (List ℕ)
 misspelt =
     instead 0 ("(region 2 2)" ∷ []) ∷ instead 0 ("(region 2 2 3 4)" ∷ []) ∷ instead 0 ("(region 2 2 -)" ∷ []) ∷ instead 0 ("(region 2 2  3)" ∷ [])
     ∷ instead 0 ("(Region 2 2 3)" ∷ []) ∷ instead 0 ("region 2 2 3" ∷ []) ∷ instead 0 ("(region 2 2 3" ∷ []) ∷ instead 0 ("(region 2 2 3) " ∷ [])
-    ∷ instead 1 ("(patient 0 2)" ∷ []) ∷ instead 1 ("(patient 0 - -)" ∷ []) ∷ instead 1 ("(patient - 2 -)" ∷ []) ∷ instead 1 ("(patient 00 2 -)" ∷ [])
-    ∷ instead 1 ("(patient 0 02 -)" ∷ []) ∷ instead 1 ("(patient 0 2 --)" ∷ []) ∷ instead 1 ("(patient 0 2 -1)" ∷ []) ∷ instead 1 ("(patient 0 2 12345678)" ∷ [])
-    ∷ instead 1 ("(patient 0 : -)" ∷ []) ∷ instead 1 ("(patient 0 / -)" ∷ []) ∷ instead 1 ("(patient 0 2 )" ∷ []) ∷ instead 1 ("(patient 0\t2 -)" ∷ [])
+    ∷ instead 1 ("(patient 0 2 -)" ∷ []) ∷ instead 1 ("(patient 0 2)" ∷ []) ∷ instead 1 ("(patient 0 2 - - -)" ∷ []) ∷ instead 1 ("(patient 0 2 - 01)" ∷ []) ∷ instead 1 ("(patient 0 2 - )" ∷ []) ∷ instead 1 ("(patient 0 2 - 12345678)" ∷ []) ∷ instead 1 ("(patient 0 - - -)" ∷ []) ∷ instead 1 ("(patient - 2 - -)" ∷ []) ∷ instead 1 ("(patient 00 2 - -)" ∷ [])
+    ∷ instead 1 ("(patient 0 02 - -)" ∷ []) ∷ instead 1 ("(patient 0 2 -- -)" ∷ []) ∷ instead 1 ("(patient 0 2 -1 -)" ∷ []) ∷ instead 1 ("(patient 0 2 12345678 -)" ∷ [])
+    ∷ instead 1 ("(patient 0 : - -)" ∷ []) ∷ instead 1 ("(patient 0 / - -)" ∷ []) ∷ instead 1 ("(patient 0 2  -)" ∷ []) ∷ instead 1 ("(patient 0\t2 - -)" ∷ [])
     ∷ instead 3 ("(cost () (3 1))" ∷ []) ∷ instead 3 ("(cost (0) ())" ∷ []) ∷ instead 3 ("(cost (-) (3 1))" ∷ []) ∷ instead 3 ("(cost (0 ) (3 1))" ∷ [])
     ∷ instead 3 ("(cost ( 0) (3 1))" ∷ []) ∷ instead 3 ("(cost (0) (3  1))" ∷ []) ∷ instead 3 ("(cost (0) 3 1)" ∷ []) ∷ instead 3 ("(cost (0)(3 1))" ∷ [])
     ∷ instead 3 ("(cost (0) (3\t1))" ∷ []) ∷ instead 3 ("(cost (0) (3 1)" ∷ []) ∷ instead 3 ("(cost (0) (3 01))" ∷ []) ∷ instead 3 ("(cost (0) (3 (1)))" ∷ []) ∷ instead 3 ("(cost (0) (3 10000000))" ∷ [])
-    ∷ instead 5 ("(end 05272)" ∷ []) ∷ instead 5 ("(end -)" ∷ []) ∷ instead 5 ("(end)" ∷ []) ∷ instead 5 ("(end 5272 )" ∷ []) ∷ []
+    ∷ instead 5 ("(end 05426)" ∷ []) ∷ instead 5 ("(end -)" ∷ []) ∷ instead 5 ("(end)" ∷ []) ∷ instead 5 ("(end 5426 )" ∷ []) ∷ []
 
 -- ---- the questions: small regions on either side of each bound
 
@@ -103,7 +103,7 @@ sheetNumber file beds costs work = sheetOutcome file 0 (lent beds) (lent costs) 
 abbrev sheetCallNumber : List ℕ → ℕ → ℕ → ℕ → ℕ
 sheetCallNumber file beds costs result = sheetCall file 0 (lent beds) (lent costs) (lent result) .number
 
--- A region that says nine numbers, one in each kind of field; nine of the largest, and with a larger one at place i.
+-- A region that says ten numbers, one in each kind of field; ten of the largest, and with a larger one at place i.
 abbrev saying : List ℕ → Region
 saying ns =
     let n : ℕ → ℕ = λ i. getD ns i 0 in
@@ -111,13 +111,13 @@ saying ns =
       patientCount = n 0;
       tableCount = n 1;
       plansWanted = n 2;
-      patients = patient (n 3) (n 4) (some (n 5)) ∷ [];
-      tables = table (n 6 ∷ []) (some (n 7) ∷ []) ∷ [];
-      statedSum = n 8;
+      patients = fixed (n 3) (n 4) (some (n 5)) (n 6) ∷ [];
+      tables = table (n 7 ∷ []) (some (n 8) ∷ []) ∷ [];
+      statedSum = n 9;
     }
 
 abbrev largest : List ℕ
-largest = replicate 9 9_999_999
+largest = replicate 10 9_999_999
 
 abbrev tooLargeAt : ℕ → Region
 tooLargeAt i = saying (set largest i 10_000_000)
@@ -134,8 +134,8 @@ pub record Layouts : Type 0 where
   pub longest : shortEnough (brackets 65_535) ≡ true
   pub largestFormed : wellFormed (saying largest) ≡ true
   pub largestRead : layout (spell (saying largest)) ≡ some (saying largest)
-  pub tooLargeFormed : map (λ i. wellFormed (tooLargeAt i)) (below 9) ≡ replicate 9 false
-  pub tooLargeRead : map (λ i. checkOf (spell (tooLargeAt i))) (below 9) ≡ replicate 9 2
+  pub tooLargeFormed : map (λ i. wellFormed (tooLargeAt i)) (below 10) ≡ replicate 10 false
+  pub tooLargeRead : map (λ i. checkOf (spell (tooLargeAt i))) (below 10) ≡ replicate 10 2
   pub paperFormed : wellFormed paperRegion ≡ true
   pub noMembersFormed : wellFormed (region 1 (free 1) (table [] (zeros 1) ∷ []) 0) ≡ false
   pub noEntriesFormed : wellFormed (region 1 (free 1) (table (0 ∷ []) [] ∷ []) 0) ≡ false
@@ -158,14 +158,15 @@ layouts = record {
 
 -- Questions 3 to 10 on either side of each bound.
 pub record Bounds : Type 0 where
-  pub sumsWrap : checkOf (spell (region 1 (free 70) [] 11530)) ≡ 5
-  pub sumNotReduced : checkOf (spell (region 1 (free 70) [] 77051)) ≡ 4
+  pub sumsWrap : checkOf (spell (region 1 (free 70) [] 16920)) ≡ 5
+  pub sumNotReduced : checkOf (spell (region 1 (free 70) [] 82441)) ≡ 4
   pub counts : map (λ (c : ℕ × ℕ). checkOf (spell (stating (c .0) (c .1)))) ((1, 2) ∷ (3, 2) ∷ (2, 1) ∷ (2, 3) ∷ []) ≡ 3 ∷ 3 ∷ 3 ∷ 3 ∷ []
   pub patients : map (λ n. checkOf (fileOf 1 (free n) [])) (1 ∷ 32 ∷ 33 ∷ []) ≡ 0 ∷ 0 ∷ 5 ∷ []
   pub tables : map (λ n. checkOf (fileOf 1 (free 1) (replicate n (table (0 ∷ []) (some 0 ∷ []))))) (64 ∷ 65 ∷ []) ≡ 0 ∷ 5 ∷ []
   pub wanted : map (λ m. checkOf (fileOf m (free 1) [])) (0 ∷ 1 ∷ 64 ∷ 65 ∷ []) ≡ 5 ∷ 0 ∷ 0 ∷ 5 ∷ []
   pub clinics : map (λ c. checkOf (fileOf 1 (patient c 1 none ∷ []) [])) (15 ∷ 16 ∷ []) ≡ 0 ∷ 6 ∷ []
   pub bedCounts : map (λ d. checkOf (fileOf 1 (patient 0 d none ∷ []) [])) (0 ∷ 1 ∷ 16 ∷ 17 ∷ []) ≡ 6 ∷ 0 ∷ 0 ∷ 6 ∷ []
+  pub fixedBeds : map (λ b. checkOf (fileOf 1 (fixed 0 3 none b ∷ []) [])) (0 ∷ 2 ∷ 3 ∷ 4 ∷ []) ≡ 0 ∷ 0 ∷ 6 ∷ 6 ∷ []
   pub parents : map (λ p. checkOf (fileOf 1 (patient 0 1 none ∷ patient 0 1 (some p) ∷ []) [])) (0 ∷ 1 ∷ 2 ∷ []) ≡ 0 ∷ 6 ∷ 6 ∷ []
   pub memberCounts : map (λ ms. checkOf (over 5 ms)) ((4 ∷ []) ∷ (0 ∷ 1 ∷ 2 ∷ 3 ∷ []) ∷ (0 ∷ 1 ∷ 2 ∷ 3 ∷ 4 ∷ []) ∷ []) ≡ 0 ∷ 0 ∷ 7 ∷ []
   pub memberOrder : map (λ ms. checkOf (over 5 ms)) ((5 ∷ []) ∷ (0 ∷ 5 ∷ []) ∷ (0 ∷ 0 ∷ []) ∷ (0 ∷ 2 ∷ 1 ∷ []) ∷ (1 ∷ 0 ∷ []) ∷ []) ≡ 7 ∷ 7 ∷ 7 ∷ 7 ∷ 7 ∷ []
@@ -182,12 +183,13 @@ pub record Bounds : Type 0 where
       map checkOf (
       fileOf 1 (patient 0 1 none ∷ patient 16 1 none ∷ []) []
       ∷ fileOf 1 (patient 0 1 none ∷ patient 0 0 none ∷ []) []
+      ∷ fileOf 1 (patient 0 2 none ∷ fixed 0 1 none 1 ∷ []) []
       ∷ fileOf 1 (free 1) (table (0 ∷ []) (zeros 1) ∷ table (1 ∷ []) (zeros 1) ∷ [])
       ∷ fileOf 1 (free 1) (table (0 ∷ []) (zeros 1) ∷ table (0 ∷ []) (zeros 2) ∷ [])
       ∷ fileOf 1 (free 1) (table (0 ∷ []) (zeros 1) ∷ table (0 ∷ []) (some 1_000_001 ∷ []) ∷ [])
       ∷ fileOf 1 (patient 0 2 none ∷ []) (table (0 ∷ []) (some 0 ∷ some 1_000_001 ∷ []) ∷ [])
       ∷ fileOf 1 (free 2) (table (0 ∷ []) (zeros 1) ∷ table (0 ∷ 1 ∷ []) (zeros 1) ∷ []) ∷ []
-      ) ≡ 6 ∷ 6 ∷ 7 ∷ 8 ∷ 9 ∷ 9 ∷ 10 ∷ []
+      ) ≡ 6 ∷ 6 ∷ 6 ∷ 7 ∷ 8 ∷ 9 ∷ 9 ∷ 10 ∷ []
 
 pub bounds : Bounds
 unfolding everything lent cleared brackets zeros
@@ -200,6 +202,7 @@ bounds = record {
   wanted = refl;
   clinics = refl;
   bedCounts = refl;
+  fixedBeds = refl;
   parents = refl;
   memberCounts = refl;
   memberOrder = refl;
@@ -314,6 +317,6 @@ rows = record {
   otherEntry = refl;
   paperYields = refl;
   yields = refl;
-  sameClinic = record { beds = refl; tables = λ t. refl; apartInFirst = refl; apartInSecond = refl };
+  sameClinic = record { beds = refl; fixed = refl; tables = λ t. refl; apartInFirst = refl; apartInSecond = refl };
   sameBeginning = record { firstRow = omega arith; secondRow = omega arith; sameRows = refl };
 }

@@ -16,11 +16,14 @@ textOf ls = flatMap (λ l. text l ++ 10 ∷ []) ls
 
 -- The file in the paper, byte by byte.
 abbrev pub paperFile : List ℕ
-paperFile = textOf ("(region 2 2 3)" ∷ "(patient 0 2 -)" ∷ "(patient 0 2 0)" ∷ "(cost (0) (3 1))" ∷ "(cost (0 1) (0 2 1 -))" ∷ "(end 5272)" ∷ [])
+paperFile = textOf ("(region 2 2 3)" ∷ "(patient 0 2 - -)" ∷ "(patient 0 2 0 -)" ∷ "(cost (0) (3 1))" ∷ "(cost (0 1) (0 2 1 -))" ∷ "(end 5426)" ∷ [])
 
--- The other files are trees that are spelled.
+-- The other files are trees that are spelled. A patient is free; or has a fixed bed.
 abbrev pub patient : ℕ → ℕ → Option ℕ → Patient
-patient c d p = record { clinic = c; bedCount = d; parent = p }
+patient c d p = record { clinic = c; bedCount = d; parent = p; fixedBed = none }
+
+abbrev pub fixed : ℕ → ℕ → Option ℕ → ℕ → Patient
+fixed c d p b = record { clinic = c; bedCount = d; parent = p; fixedBed = some b }
 
 abbrev pub table : List ℕ → List (Option ℕ) → Table
 table ms es = record { members = ms; entries = es }

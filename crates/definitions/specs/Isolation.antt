@@ -1,7 +1,7 @@
 -- The words of demand 3: which files are compared, when a clinic is the same in both, and how the two sheets then agree.
 use Rattle.definitions.specs.Basics.{ℕ, suc, _<_, min, _≡_, Bool, true, false, not, _&&_, cond, Option, none, some, List, [], _∷_}
 use Rattle.definitions.specs.Basics.{map, length, take, eqb, any, keep, same, contains}
-use Rattle.definitions.specs.Syntax.{Table, Region, bedCounts, patientsOf}
+use Rattle.definitions.specs.Syntax.{Table, Region, bedCounts, fixedBeds, patientsOf}
 use Rattle.definitions.specs.Plans.{Row}
 use Rattle.definitions.specs.Sheets.{ownTables}
 use Rattle.definitions.specs.Questions.{firstNo, entryAsks, askedByList}
@@ -38,9 +38,10 @@ unfoldable pub joins : Region → ℕ → Table → Bool
 joins region clinic t =
     any (contains (patientsOf region clinic)) (t .members) && any (λ s. not (contains (patientsOf region clinic) s)) (t .members)
 
--- The same count of beds at each place, the same tables each as often, and in neither file a table that joins.
+-- The same count of beds and the same fixed bed at each place, the same tables each as often, and in neither file a table that joins.
 pub record SameClinic (clinic : ℕ) (first second : Region) : Type 0 where
   pub beds : bedCounts first (patientsOf first clinic) ≡ bedCounts second (patientsOf second clinic)
+  pub fixed : fixedBeds first (patientsOf first clinic) ≡ fixedBeds second (patientsOf second clinic)
   pub tables : (t : Table) → timesIn (tablesAmong first clinic) t ≡ timesIn (tablesAmong second clinic) t
   pub apartInFirst : any (joins first clinic) (first .tables) ≡ false
   pub apartInSecond : any (joins second clinic) (second .tables) ≡ false

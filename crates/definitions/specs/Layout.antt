@@ -100,7 +100,17 @@ unfoldable pub regionLine : Reader ℕ (ℕ × ℕ × ℕ)
 regionLine = do word "(region "; v ← number; word " "; t ← number; word " "; m ← number; word ")\n"; give (v, t, m)
 
 unfoldable pub patientLine : Reader ℕ Patient
-patientLine = do word "(patient "; c ← number; word " "; d ← number; word " "; p ← hyphenOrNumber; word ")\n"; give (record { clinic = c; bedCount = d; parent = p })
+patientLine = do
+  word "(patient "
+  c ← number
+  word " "
+  d ← number
+  word " "
+  p ← hyphenOrNumber
+  word " "
+  b ← hyphenOrNumber
+  word ")\n"
+  give (record { clinic = c; bedCount = d; parent = p; fixedBed = b })
 
 unfoldable pub tableLine : Reader ℕ Table
 tableLine = do word "(cost "; ss ← items number; word " "; es ← items hyphenOrNumber; word ")\n"; give (record { members = ss; entries = es })

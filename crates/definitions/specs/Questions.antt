@@ -31,9 +31,9 @@ sumTrue file r = eqb (r .statedSum) (checksum (flatten (dropLast (lines file))))
 unfoldable pub countsWithin : Region → Bool
 countsWithin r = within patientCount (r .patientCount) && within tableCount (r .tableCount) && within plansWanted (r .plansWanted)
 
--- 6. Is each clinic 0 to 15, each bed count 1 to 16; each parent `-` or a smaller patient number than the patient's own?
+-- 6. Is each clinic 0 to 15, each bed count 1 to 16, each fixed bed `-` or below the count; each parent `-` or a smaller patient number than the patient's own?
 unfoldable pub patientsWithin : Region → Bool
-patientsWithin r = every (λ p. within clinic (p .clinic) && within bedCount (p .bedCount)) (r .patients)
+patientsWithin r = every (λ p. within clinic (p .clinic) && within bedCount (p .bedCount) && noneOr (λ bed. ltb bed (p .bedCount)) (p .fixedBed)) (r .patients)
 
 unfoldable pub parentsSmaller : Region → Bool
 parentsSmaller r = every (λ s. noneOr (λ parent. ltb parent s) (patientAt r s .parent)) (patientNumbers r)

@@ -1,12 +1,15 @@
 -- For each landed request of document 02, in one statement: each of its numbers, each bound, and what a builder gets wrong.
-use Rattle.definitions.specs.Basics.{ℕ, _+_, _-_, _^_, _≡_, refl, none, some, List, [], _∷_, _++_, map, flatten, flatMap, length, replicate}
-use Rattle.definitions.specs.Syntax.{Patient, Table, Region}
+use Rattle.definitions.specs.Basics.{ℕ, _+_, _-_, _^_, _≡_, refl, true, false, Option, none, some, List, [], _∷_, _++_, map, flatten, flatMap, length, replicate}
+use Rattle.definitions.specs.Syntax.{Patient, Table, Region, fixedBeds, patientsOf}
 use Rattle.definitions.specs.Layout.{layout}
-use Rattle.definitions.specs.Questions.{regionOf}
+use Rattle.definitions.specs.Plans.{constraints, listOf}
+use Rattle.definitions.specs.Questions.{regionOf, checkOf}
+use Rattle.definitions.specs.Sheets.{sheetOf}
+use Rattle.definitions.specs.Outcomes.{priceOutcome}
 use Rattle.definitions.specs.Writer.{writtenFile, WriteOutcome, writeOutcome}
 use Rattle.definitions.specs.Boundary.{bytesOf, lentTableCount, WriteCall, writeCall}
 use Rattle.definitions.specs.Computing.{everything}
-use Rattle.definitions.specs.Examples.{paperFile, patient, table, lent}
+use Rattle.definitions.specs.Examples.{paperFile, patient, fixed, table, fileOf, row, lent, cleared, list, refusal}
 use Rattle.definitions.specs.Cases.{paperRegion, eight}
 
 -- ---- #101: the writer
@@ -34,27 +37,30 @@ absent = 2 ^ 64 - 1
 
 -- One patient with one bed, and a table with one entry over that patient, as they are lent.
 abbrev one : List ℕ
-one = 0 ∷ 1 ∷ absent ∷ []
+one = 0 ∷ 1 ∷ absent ∷ absent ∷ []
 
 abbrev over : List ℕ
 over = 1 ∷ 0 ∷ 0 ∷ 0 ∷ 0 ∷ 1 ∷ []
 
--- The paper's region, lent by a C program.
+-- The paper's region, lent by a C program, where these are the patients.
+abbrev lentWith : List ℕ → List ℕ → List ℕ → WriteCall
+lentWith patients output result =
+    writeCall (area patients) (area (1 ∷ 0 ∷ 9 ∷ 9 ∷ 9 ∷ 2 ∷ 2 ∷ 0 ∷ 1 ∷ 9 ∷ 9 ∷ 4 ∷ [])) (area (3 ∷ 1 ∷ 0 ∷ 2 ∷ 1 ∷ absent ∷ [])) 3 output result
+
 abbrev lentPaper : List ℕ → List ℕ → WriteCall
-lentPaper output result =
-    writeCall (area (0 ∷ 2 ∷ absent ∷ 0 ∷ 2 ∷ 0 ∷ [])) (area (1 ∷ 0 ∷ 9 ∷ 9 ∷ 9 ∷ 2 ∷ 2 ∷ 0 ∷ 1 ∷ 9 ∷ 9 ∷ 4 ∷ [])) (area (3 ∷ 1 ∷ 0 ∷ 2 ∷ 1 ∷ absent ∷ [])) 3 output result
+lentPaper = lentWith (0 ∷ 2 ∷ absent ∷ absent ∷ 0 ∷ 2 ∷ 0 ∷ absent ∷ [])
 
 -- The number of the call for areas that hold these numbers.
 abbrev callNumber : List ℕ → List ℕ → List ℕ → ℕ → ℕ
 callNumber ps ts es m = writeCall (area ps) (area ts) (area es) m (lent 200) (lent 8) .number
 
 pub record Saving : Type 0 where
-  pub paperWritten : writeOutcome paperRegion (lent 99) ≡ wrote paperFile 1
-  pub ownCounts : writeOutcome (toWrite 3 (paperRegion .patients) (paperRegion .tables)) (lent 99) ≡ wrote paperFile 1
+  pub paperWritten : writeOutcome paperRegion (lent 103) ≡ wrote paperFile 1
+  pub ownCounts : writeOutcome (toWrite 3 (paperRegion .patients) (paperRegion .tables)) (lent 103) ≡ wrote paperFile 1
   pub readBack : layout (writtenFile (toWrite 3 (paperRegion .patients) (paperRegion .tables))) ≡ some paperRegion
   pub writtenBack : writtenFile (regionOf paperFile) ≡ paperFile
-  pub justFits : writeOutcome paperRegion (lent 98) ≡ wrote paperFile 0
-  pub number15 : writeOutcome paperRegion (lent 97) ≡ record { number = 15; count = 0; output = lent 97 }
+  pub justFits : writeOutcome paperRegion (lent 102) ≡ wrote paperFile 0
+  pub number15 : writeOutcome paperRegion (lent 101) ≡ record { number = 15; count = 0; output = lent 101 }
   pub number5 : writeOutcome (toWrite 1 [] []) (lent 50) ≡ record { number = 5; count = 0; output = lent 50 }
   pub noPlans : map (λ m. writeNumber m (root ∷ []) []) (0 ∷ 1 ∷ 64 ∷ 65 ∷ []) ≡ 5 ∷ 0 ∷ 0 ∷ 5 ∷ []
   pub number6 : map (λ p. writeNumber 1 (p ∷ []) []) (patient 16 1 none ∷ patient 0 17 none ∷ patient 0 1 (some 0) ∷ []) ≡ 6 ∷ 6 ∷ 6 ∷ []
@@ -63,24 +69,24 @@ pub record Saving : Type 0 where
   pub number9 : map (λ e. writeNumber 1 (root ∷ []) (table (0 ∷ []) (e ∷ []) ∷ [])) (some 1_000_000 ∷ some 1_000_001 ∷ some 0xffff_ffff ∷ none ∷ []) ≡ 0 ∷ 9 ∷ 9 ∷ 0 ∷ []
   pub number10 : writeNumber 1 (root ∷ root ∷ []) (table (0 ∷ 1 ∷ []) (some 0 ∷ []) ∷ []) ≡ 10
   pub tenFirst : writeOutcome (toWrite 1 (root ∷ root ∷ []) (table (0 ∷ 1 ∷ []) (some 0 ∷ []) ∷ [])) [] .number ≡ 10
-  pub called : lentPaper (lent 99) (lent 9) ≡ record { number = 0; output = paperFile ++ lent 1; result = eight 98 ++ lent 1 }
-  pub calledShort : lentPaper (lent 97) (lent 9) ≡ record { number = 15; output = lent 97; result = eight 0 ++ lent 1 }
-  pub calledShortResult : lentPaper (lent 97) (lent 7) ≡ record { number = 12; output = lent 97; result = lent 7 }
-  pub calledTwoFirst : callNumber (0 ∷ 1 ∷ []) [] [] 0 ≡ 2
+  pub called : lentPaper (lent 103) (lent 9) ≡ record { number = 0; output = paperFile ++ lent 1; result = eight 102 ++ lent 1 }
+  pub calledShort : lentPaper (lent 101) (lent 9) ≡ record { number = 15; output = lent 101; result = eight 0 ++ lent 1 }
+  pub calledShortResult : lentPaper (lent 101) (lent 7) ≡ record { number = 12; output = lent 101; result = lent 7 }
+  pub calledTwoFirst : callNumber (0 ∷ 1 ∷ absent ∷ []) [] [] 0 ≡ 2
   pub calledTenFirst : writeCall (area (one ++ one)) (area (2 ∷ 0 ∷ 1 ∷ 0 ∷ 0 ∷ 1 ∷ [])) (area (0 ∷ [])) 1 [] [] .number ≡ 10
-  pub wholePatients : map (λ extra. writeCall (area one ++ lent extra) [] [] 1 (lent 200) (lent 8) .number) (0 ∷ 1 ∷ 8 ∷ 16 ∷ []) ≡ 0 ∷ 2 ∷ 2 ∷ 2 ∷ []
+  pub wholePatients : map (λ extra. writeCall (area one ++ lent extra) [] [] 1 (lent 200) (lent 8) .number) (0 ∷ 1 ∷ 8 ∷ 24 ∷ []) ≡ 0 ∷ 2 ∷ 2 ∷ 2 ∷ []
   pub wholeTables : map (λ extra. writeCall (area one) (lent extra) [] 1 (lent 200) (lent 8) .number) (0 ∷ 1 ∷ 8 ∷ 40 ∷ []) ≡ 0 ∷ 2 ∷ 2 ∷ 2 ∷ []
   pub wholeEntries : map (λ extra. writeCall (area one) (area over) (area (5 ∷ []) ++ lent extra) 1 (lent 200) (lent 8) .number) (0 ∷ 1 ∷ 8 ∷ []) ≡ 0 ∷ 2 ∷ 2 ∷ []
   pub noEntries : callNumber one over [] 1 ≡ 2
   pub countsDoNotWrap : callNumber one (1 ∷ 0 ∷ 0 ∷ 0 ∷ 0 ∷ (2 ^ 63) ∷ 1 ∷ 0 ∷ 0 ∷ 0 ∷ 0 ∷ (2 ^ 63) ∷ []) [] 1 ≡ 2
-  pub secondTable : callNumber (0 ∷ 2 ∷ absent ∷ []) (1 ∷ 0 ∷ 0 ∷ 0 ∷ 0 ∷ 2 ∷ 1 ∷ 0 ∷ 0 ∷ 0 ∷ 0 ∷ 2 ∷ []) (1 ∷ 2 ∷ 3 ∷ 4 ∷ []) 1 ≡ 0
+  pub secondTable : callNumber (0 ∷ 2 ∷ absent ∷ absent ∷ []) (1 ∷ 0 ∷ 0 ∷ 0 ∷ 0 ∷ 2 ∷ 1 ∷ 0 ∷ 0 ∷ 0 ∷ 0 ∷ 2 ∷ []) (1 ∷ 2 ∷ 3 ∷ 4 ∷ []) 1 ≡ 0
   pub mostPatients : map (λ n. callNumber (flatten (replicate n one)) [] [] 1) (32 ∷ 33 ∷ []) ≡ 15 ∷ 5 ∷ []
   pub tableCounts : map (λ n. lentTableCount (lent n)) (2255 ∷ 2256 ∷ []) ≡ 46 ∷ 47 ∷ []
   pub fiveMembers : callNumber one (5 ∷ 0 ∷ 0 ∷ 0 ∷ 0 ∷ 1 ∷ []) (5 ∷ []) 1 ≡ 7
   pub largePlans : map (callNumber one [] []) ((2 ^ 32 + 1) ∷ absent ∷ []) ≡ 5 ∷ 5 ∷ []
-  pub largeClinic : map (λ n. callNumber (n ∷ 1 ∷ absent ∷ []) [] [] 1) ((2 ^ 32) ∷ absent ∷ []) ≡ 6 ∷ 6 ∷ []
-  pub largeBedCount : map (λ n. callNumber (0 ∷ n ∷ absent ∷ []) [] [] 1) ((2 ^ 32 + 1) ∷ absent ∷ []) ≡ 6 ∷ 6 ∷ []
-  pub largeParent : map (λ n. callNumber (one ++ 0 ∷ 1 ∷ n ∷ []) [] [] 1) (0 ∷ (2 ^ 32 - 1) ∷ (2 ^ 32) ∷ (absent - 1) ∷ absent ∷ []) ≡ 0 ∷ 6 ∷ 6 ∷ 6 ∷ 0 ∷ []
+  pub largeClinic : map (λ n. callNumber (n ∷ 1 ∷ absent ∷ absent ∷ []) [] [] 1) ((2 ^ 32) ∷ absent ∷ []) ≡ 6 ∷ 6 ∷ []
+  pub largeBedCount : map (λ n. callNumber (0 ∷ n ∷ absent ∷ absent ∷ []) [] [] 1) ((2 ^ 32 + 1) ∷ absent ∷ []) ≡ 6 ∷ 6 ∷ []
+  pub largeParent : map (λ n. callNumber (one ++ 0 ∷ 1 ∷ n ∷ absent ∷ []) [] [] 1) (0 ∷ (2 ^ 32 - 1) ∷ (2 ^ 32) ∷ (absent - 1) ∷ absent ∷ []) ≡ 0 ∷ 6 ∷ 6 ∷ 6 ∷ 0 ∷ []
   pub largeMember : map (λ n. callNumber one (1 ∷ n ∷ 0 ∷ 0 ∷ 0 ∷ 1 ∷ []) (5 ∷ []) 1) (0 ∷ (2 ^ 32) ∷ absent ∷ []) ≡ 0 ∷ 7 ∷ 7 ∷ []
   pub largeEntry : map (λ n. callNumber one over (n ∷ []) 1) ((2 ^ 32 - 1) ∷ (2 ^ 32) ∷ (absent - 1) ∷ absent ∷ []) ≡ 9 ∷ 9 ∷ 9 ∷ 0 ∷ []
 
@@ -121,4 +127,63 @@ saving = record {
   largeParent = refl;
   largeMember = refl;
   largeEntry = refl;
+}
+
+-- ---- #102: a fixed bed
+
+-- The paper's file, where these are the patients.
+abbrev staying : List Patient → List ℕ
+staying ps = fileOf 3 ps (paperRegion .tables)
+
+abbrev child : Patient
+child = patient 0 2 (some 0)
+
+-- Patient 0 keeps bed 0, the dearer one; patient 1 keeps bed 1.
+abbrev firstStays : List ℕ
+firstStays = staying (fixed 0 2 none 0 ∷ child ∷ [])
+
+abbrev secondStays : List ℕ
+secondStays = staying (patient 0 2 none ∷ fixed 0 2 (some 0) 1 ∷ [])
+
+-- Two clinics with two patients each; these are the ones of clinic 0. Its fixed beds.
+abbrev fixedIn : Patient → Patient → List (Option ℕ)
+fixedIn a b = let r = regionOf (fileOf 1 (a ∷ patient 1 2 none ∷ b ∷ fixed 1 2 none 1 ∷ []) []) in fixedBeds r (patientsOf r 0)
+
+pub record FixedBeds : Type 0 where
+  pub written : writtenFile (regionOf firstStays) ≡ firstStays
+  pub firstList : listOf (regionOf firstStays) ≡ row 3 (0 ∷ 0 ∷ []) ∷ row 5 (0 ∷ 1 ∷ []) ∷ []
+  pub secondList : listOf (regionOf secondStays) ≡ row 5 (0 ∷ 1 ∷ []) ∷ []
+  pub bothList : listOf (regionOf (staying (fixed 0 2 none 0 ∷ fixed 0 2 (some 0) 0 ∷ []))) ≡ row 3 (0 ∷ 0 ∷ []) ∷ []
+  pub firstSheet : sheetOf (regionOf firstStays) 0 ≡ row 3 (0 ∷ 0 ∷ []) ∷ row 5 (0 ∷ 1 ∷ []) ∷ []
+  pub kept : priceOutcome firstStays (0 ∷ 1 ∷ []) ≡ record { number = 0; allowed = true; total = 5 }
+  pub moved : priceOutcome firstStays (1 ∷ 0 ∷ []) ≡ record { number = 0; allowed = false; total = 0 }
+  pub noSuchBed : priceOutcome firstStays (2 ∷ 0 ∷ []) ≡ record { number = 14; allowed = false; total = 0 }
+  pub onlyForbidden : list (staying (fixed 0 2 none 1 ∷ fixed 0 2 (some 0) 1 ∷ [])) ≡ refusal 13 (cleared 16_384)
+  pub noTable : listOf (regionOf (fileOf 9 (fixed 0 3 none 1 ∷ patient 0 2 none ∷ []) [])) ≡ row 0 (1 ∷ 0 ∷ []) ∷ row 0 (1 ∷ 1 ∷ []) ∷ []
+  pub number6 : map (λ b. checkOf (staying (fixed 0 2 none b ∷ child ∷ []))) (1 ∷ 2 ∷ []) ≡ 0 ∷ 6 ∷ []
+  pub ownTables : regionOf firstStays .tables ≡ paperRegion .tables
+  pub oneMore : constraints (regionOf firstStays) ≡ paperRegion .tables ++ table (0 ∷ []) (some 0 ∷ none ∷ []) ∷ []
+  pub fourthFields : fixedIn (patient 0 2 none) (fixed 0 2 none 1) ∷ fixedIn (fixed 0 2 none 0) (patient 0 2 none) ∷ [] ≡ (none ∷ some 1 ∷ []) ∷ (some 0 ∷ none ∷ []) ∷ []
+  pub lentFixed : lentWith (0 ∷ 2 ∷ absent ∷ 0 ∷ 0 ∷ 2 ∷ 0 ∷ absent ∷ []) (lent 102) (lent 8) .output ≡ firstStays
+  pub largeFixed : map (λ n. callNumber (0 ∷ 1 ∷ absent ∷ n ∷ []) [] [] 1) (0 ∷ 1 ∷ (2 ^ 32 - 1) ∷ (2 ^ 32) ∷ (absent - 1) ∷ absent ∷ []) ≡ 0 ∷ 6 ∷ 6 ∷ 6 ∷ 6 ∷ 0 ∷ []
+
+pub staysPut : FixedBeds
+unfolding everything lent cleared
+staysPut = record {
+  written = refl;
+  firstList = refl;
+  secondList = refl;
+  bothList = refl;
+  firstSheet = refl;
+  kept = refl;
+  moved = refl;
+  noSuchBed = refl;
+  onlyForbidden = refl;
+  noTable = refl;
+  number6 = refl;
+  ownTables = refl;
+  oneMore = refl;
+  fourthFields = refl;
+  lentFixed = refl;
+  largeFixed = refl;
 }

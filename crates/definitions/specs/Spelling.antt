@@ -28,7 +28,7 @@ line ps = bracketed ps ++ text "\n"
 
 -- The lines of a patient and of a table.
 unfoldable pub spellPatient : Patient → List ℕ
-spellPatient p = line (text "patient" ∷ decimal (p .clinic) ∷ decimal (p .bedCount) ∷ hyphenOrDecimal (p .parent) ∷ [])
+spellPatient p = line (text "patient" ∷ decimal (p .clinic) ∷ decimal (p .bedCount) ∷ hyphenOrDecimal (p .parent) ∷ hyphenOrDecimal (p .fixedBed) ∷ [])
 
 unfoldable pub spellTable : Table → List ℕ
 spellTable t = line (text "cost" ∷ bracketed (map decimal (t .members)) ∷ bracketed (map hyphenOrDecimal (t .entries)) ∷ [])
@@ -49,6 +49,6 @@ spellable n = ltb n (10 ^ limits digitCount .highest)
 unfoldable pub wellFormed : Region → Bool
 wellFormed r =
     every spellable (r .patientCount ∷ r .tableCount ∷ r .plansWanted ∷ r .statedSum ∷ [])
-    && every (λ p. spellable (p .clinic) && spellable (p .bedCount) && noneOr spellable (p .parent)) (r .patients)
+    && every (λ p. spellable (p .clinic) && spellable (p .bedCount) && noneOr spellable (p .parent) && noneOr spellable (p .fixedBed)) (r .patients)
     && every (λ t. not (isEmpty (t .members)) && every spellable (t .members)) (r .tables)
     && every (λ t. not (isEmpty (t .entries)) && every (noneOr spellable) (t .entries)) (r .tables)
