@@ -26,7 +26,7 @@ numbers-enumerate a (suc n) = let ih = numbers-enumerate (suc a) n in record {
 pub below-in : (n : ℕ) {s : ℕ} → s < n → s ∈ below n
 below-in n {s} h = numbers-enumerate 0 n .every s (omega arith, omega arith)
 
-below-out : (n s : ℕ) → s ∈ below n → s < n
+pub below-out : (n s : ℕ) → s ∈ below n → s < n
 below-out n s k = omega (arith, numbers-enumerate 0 n .only s k .1)
 
 pub contains-numbers : (k n q : ℕ) → k ≤ q → q < k + n → contains (numbersFrom k n) q ≡ true

@@ -4,7 +4,7 @@ use mathlib.Core.Logic.{_⊎_, inl, inr}
 use mathlib.Core.Bool.{true≢false}
 use native.Mathlib.Omega.{arith}
 use Prim.Native.Nat.{_≤_}
-use Rattle.definitions.specs.Basics.{ℕ, suc, _≡_, refl, Bool, true, false, not, _&&_, _||_, cond, List, [], _∷_, map, length, isEmpty, every, any, everyTwo, keep, contains}
+use Rattle.definitions.specs.Basics.{ℕ, suc, _≡_, refl, Bool, true, false, not, _&&_, _||_, cond, Option, none, some, Option·elim, List, [], _∷_, _++_, map, filterMap, length, isEmpty, every, any, everyTwo, keep, contains}
 use Rattle.lists.specs.Tests.{both, join, same-answer}
 use Rattle.lists.specs.Members.{_∈_, here, there, here-or-there, none-in-nil}
 use Rattle.lists.specs.Every.{every-in, every-all, contains-in, contains-out}
@@ -56,6 +56,28 @@ everyTwo-keep p f (x ∷ l) h = let (now, later) = both (every (p x) l) h in ste
     step : (b : Bool) → every (p x) l ≡ true → everyTwo p (keep f l) ≡ true → everyTwo p (cond b (x ∷ keep f l) (keep f l)) ≡ true
     step true now e = join (every-keep (p x) f l now) e
     step false now e = e
+
+-- Parts of a list; and what a partial function gives: it is kept where what it is given of is.
+pub keep-append : {A : Type 0} (f : A → Bool) (l k : List A) → keep f (l ++ k) ≡ keep f l ++ keep f k
+keep-append f [] k = refl
+keep-append {A} f (x ∷ l) k = go (f x) (keep-append f l k)
+  where
+    go : (b : Bool) → keep f (l ++ k) ≡ keep f l ++ keep f k → cond b (x ∷ keep f (l ++ k)) (keep f (l ++ k)) ≡ cond b (x ∷ keep f l) (keep f l) ++ keep f k
+    go true e = ap (λ (m : List A). x ∷ m) e
+    go false e = e
+
+pub keep-filterMap : {A B : Type 0} (g : A → Option B) (f : B → Bool) (h : A → Bool) → ((a : A) (b : B) → g a ≡ some b → f b ≡ h a)
+    → (l : List A) → keep f (filterMap g l) ≡ filterMap g (keep h l)
+unfolding filterMap Option·elim
+keep-filterMap g f h same [] = refl
+keep-filterMap {A} {B} g f h same (x ∷ l) = go (g x) refl (h x) refl (keep-filterMap g f h same l)
+  where
+    go : (o : Option B) → g x ≡ o → (b : Bool) → h x ≡ b → keep f (filterMap g l) ≡ filterMap g (keep h l)
+        → keep f (Option·elim o (filterMap g l) (λ y. y ∷ filterMap g l)) ≡ filterMap g (cond b (x ∷ keep h l) (keep h l))
+    go none e true q ih = ih ∙ rw e refl
+    go none e false q ih = ih
+    go (some y) e true q ih = rw (same x y e, q, e) (ap (λ (m : List B). y ∷ m) ih)
+    go (some y) e false q ih = rw (same x y e, q) ih
 
 -- Two tests: in a row they are one; where they agree, they keep the same.
 module _ {A : Type 0} (f g : A → Bool) where

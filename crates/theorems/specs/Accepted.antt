@@ -19,7 +19,7 @@ use Rattle.definitions.specs.Sheets.{ownTables, ownCost}
 use Rattle.definitions.specs.Questions.{shortEnough, laidOut, countsTrue, sumTrue, countsWithin, patientsWithin, parentsSmaller, membersRight, entryCountsRight, entriesWithin, membersRelated}
 use Rattle.definitions.specs.Questions.{ancestors, regionOf, askedOfRegion, askedByCheck, checkOf}
 use Rattle.lists.specs.Tests.{both, join}
-use Rattle.lists.specs.Members.{_∈_, getD-in, here, there, in-map-cases}
+use Rattle.lists.specs.Members.{_∈_, getD-in, here, there, here-or-there, none-in-nil, in-map-cases}
 use Rattle.lists.specs.Every.{every-in, every-all, every-two-in, every-some, contains-out}
 use Rattle.lists.specs.Keep.{keep-out, keep-all, keep-short}
 use Rattle.lists.specs.Maps.{product-some}
@@ -27,6 +27,7 @@ use Rattle.lists.specs.Below.{below-in, by-number}
 use Rattle.theorems.specs.Answers.{allYes}
 use Rattle.theorems.specs.Refusals.{check-says}
 use Rattle.theorems.specs.Sums.{halves, sumOver, sum-cons}
+use Rattle.theorems.specs.Fixed.{total-tables, part-tables, constraint-cases}
 
 -- Questions 3 and 5 to 10 of a region are answered yes.
 pub record Accepted (r : Region) : Type 0 where
@@ -107,6 +108,23 @@ module _ (field : Field) (n : ℕ) (h : within field n ≡ true) where
 
 -- ---- counts, patients and tables
 
+-- What question 6 says of a patient, but for its parent.
+pub record PatientRight (p : Patient) : Type 0 where
+  pub clinicFits : within clinic (p .clinic) ≡ true
+  pub bedsFit : within bedCount (p .bedCount) ≡ true
+  pub fixedFits : (bed : ℕ) → p .fixedBed ≡ some bed → bed < p .bedCount
+
+pub patient-right : (r : Region) → patientsWithin r ≡ true → {p : Patient} → p ∈ r .patients → PatientRight p
+unfolding patientsWithin
+patient-right r fits {p} k =
+    let (two, fixed) = both (within clinic (p .clinic) && within bedCount (p .bedCount)) (every-in _ (r .patients) fits k) in
+    let (first, second) = both (within clinic (p .clinic)) two in
+    record {
+      clinicFits = first;
+      bedsFit = second;
+      fixedFits = λ bed e. ltb-true bed (p .bedCount) (ap (noneOr (λ b. ltb b (p .bedCount))) (sym e) ∙ fixed);
+    }
+
 -- What questions 7 to 9 say of a table.
 pub record TableRight (r : Region) (t : Table) : Type 0 where
   pub some : 0 < length (t .members)
@@ -158,9 +176,9 @@ module _ (r : Region) (a : Accepted r) where
 
   -- A patient has from 1 to 16 beds.
   pub beds-within : {p : Patient} → p ∈ r .patients → (1 ≤ p .bedCount) × (p .bedCount ≤ 16)
-  unfolding patientsWithin limits
+  unfolding limits
   beds-within {p} k =
-      let fits = both (within clinic (p .clinic)) (every-in _ (r .patients) (a .patientsFit) k) .1 in
+      let fits = patient-right r (a .patientsFit) k .bedsFit in
       (at-least bedCount (p .bedCount) fits, at-most bedCount (p .bedCount) fits)
 
   pub beds-some : (s : ℕ) → s < length (r .patients) → 1 ≤ patientAt r s .bedCount
@@ -220,24 +238,30 @@ cost-most region plan (t ∷ tables) small n e =
     let later = cost-most region plan tables (λ u k. small u (there k)) (parts .y) (parts .right) in
     omega (arith, parts .whole, small t (here refl) (parts .x) (parts .left), later)
 
-module _ (r : Region) (a : Accepted r) where
-  constraint-table : (t : Table) → t ∈ constraints r → t ∈ r .tables
-  unfolding constraints
-  constraint-table t k = k
+-- A list of one holds that one.
+only-one : {l : List ℕ} {s q : ℕ} → l ≡ s ∷ [] → q ∈ l → q ≡ s
+only-one {s = s} {q} e k = elim (here-or-there (subst (λ (m : List ℕ). q ∈ m) e k)) [ inl h ↦ h | inr h ↦ absurd (none-in-nil h) ]
 
+module _ (r : Region) (a : Accepted r) where
   -- Each constraint has a member, its members are patients, and any two are the same or one is an ancestor of the other.
   pub constraint-held : (t : Table) → t ∈ constraints r → (s : ℕ) × (s ∈ t .members)
-  constraint-held t k = (getD (t .members) 0 0, getD-in (t .members) 0 0 (table-right r a (constraint-table t k) .some))
+  constraint-held t k = elim (constraint-cases r t k) [
+    | inl h ↦ (getD (t .members) 0 0, getD-in (t .members) 0 0 (table-right r a h .some))
+    | inr h ↦ (h .0, subst (λ (l : List ℕ). h .0 ∈ l) (sym (h .2)) (here refl))
+  ]
 
   pub constraint-known : (t : Table) → t ∈ constraints r → (s : ℕ) → s ∈ t .members → s < length (r .patients)
-  constraint-known t k s i = table-right r a (constraint-table t k) .known i
+  constraint-known t k s i = elim (constraint-cases r t k) [
+    | inl h ↦ table-right r a h .known i
+    | inr h ↦ omega (arith, only-one (h .2) i, h .1)
+  ]
 
   pub constraint-related : (t : Table) → t ∈ constraints r → (s q : ℕ) → s ∈ t .members → q ∈ t .members
       → (s ≡ q) ⊎ ((q ∈ ancestors r s) ⊎ (s ∈ ancestors r q))
   unfolding membersRelated
-  constraint-related t k s q i j = elim (every-two-in _ (t .members) (every-in _ (r .tables) (a .related) (constraint-table t k)) i j) [
-    | inl e ↦ inl e
-    | inr e ↦ inr (elim e [ inl h ↦ above s q h | inr h ↦ swap (above q s h) ])
+  constraint-related t k s q i j = elim (constraint-cases r t k) [
+    | inl h ↦ table-related h
+    | inr h ↦ inl (only-one (h .2) i ∙ sym (only-one (h .2) j))
   ]
     where
       either : (b : Bool) {c : Bool} → (b || c) ≡ true → (b ≡ true) ⊎ (c ≡ true)
@@ -254,6 +278,12 @@ module _ (r : Region) (a : Accepted r) where
       swap (inl x) = inr x
       swap (inr y) = inl y
 
+      table-related : t ∈ r .tables → (s ≡ q) ⊎ ((q ∈ ancestors r s) ⊎ (s ∈ ancestors r q))
+      table-related h = elim (every-two-in _ (t .members) (every-in _ (r .tables) (a .related) h) i j) [
+        | inl e ↦ inl e
+        | inr e ↦ inr (elim e [ inl f ↦ above s q f | inr f ↦ swap (above q s f) ])
+      ]
+
   -- Some of the tables cost at most `mostTotal`, ..
   pub tables-small : (test : Table → Bool) (plan : Plan) (n : ℕ) → costOver (keep test (r .tables)) r plan ≡ some n → n ≤ mostTotal
   tables-small test plan n e =
@@ -269,14 +299,13 @@ module _ (r : Region) (a : Accepted r) where
       go none h = omega arith
       go (some n) h = h n refl
 
-  -- .. and so do some of the constraints, or all.
-  pub part-small : (test : Table → Bool) (plan : Plan) (n : ℕ) → costOver (keep test (constraints r)) r plan ≡ some n → n ≤ mostTotal
-  unfolding constraints
-  part-small = tables-small
+  -- .. and so do the constraints whose members pass a test, and a plan.
+  pub part-small : (test : List ℕ → Bool) (plan : Plan) (n : ℕ) → costOver (keep (λ t. test (t .members)) (constraints r)) r plan ≡ some n → n ≤ mostTotal
+  part-small test plan n e = tables-small (λ t. test (t .members)) plan n (part-tables r plan test n e)
 
   pub total-small : (plan : Plan) (n : ℕ) → total r plan ≡ some n → n ≤ mostTotal
-  unfolding total
-  total-small plan n e = part-small (λ t. true) plan n (ap (λ l. costOver l r plan) (keep-all (λ t. true) (constraints r) (every-all (λ t. true) (constraints r) (λ t k. refl))) ∙ e)
+  total-small plan n e =
+      tables-small (λ t. true) plan n (ap (λ l. costOver l r plan) (keep-all (λ t. true) (r .tables) (every-all (λ t. true) (r .tables) (λ t k. refl))) ∙ total-tables r plan n e)
 
 -- So it is for every plan of an accepted file.
 pub accepted-total : (file : List ℕ) (plan : Plan) (t : ℕ) → checkOf file ≡ 0 → total (regionOf file) plan ≡ some t → t ≤ mostTotal

@@ -4,7 +4,7 @@ use native.Mathlib.Omega.{arith}
 use lib.ListN.{drop, length-map}
 use lib.Seq.{getD-take, getD-drop}
 use Rattle.definitions.specs.Basics.{ℕ, _+_, _*_, _<_, min, _≡_, List, [], length, getD, take}
-use Rattle.definitions.specs.Syntax.{Table, Region, patientAt, patientsOf}
+use Rattle.definitions.specs.Syntax.{Patient, Table, Region, patientNumbers, patientAt, patientsOf}
 use Rattle.definitions.specs.Plans.{Plan, entryFor, costOver, total, Row}
 use Rattle.definitions.specs.Sheets.{sheetOf}
 use Rattle.definitions.specs.Questions.{regionOf}
@@ -14,24 +14,26 @@ use Rattle.definitions.specs.Isolation.{YieldsList, timesIn, SameClinic, SameBe
 use Rattle.lists.specs.Members.{_⊆_}
 use Rattle.ranking.specs.First.{first-iff, first-take, first-unique}
 use Rattle.theorems.specs.List.{Allowed}
-use Rattle.theorems.specs.Sums.{sum-same}
+use Rattle.theorems.specs.Sums.{plus, sumOver, sum-same}
+use Rattle.theorems.specs.Fixed.{fixedCost, total-parts}
 use Rattle.theorems.specs.Sameness.{table-tests}
-use Rattle.theorems.specs.Places.{alone, alone-fits, alone-allowed}
-use Rattle.theorems.specs.Isolation.{MembersPatients, clinicAlone, total-alone, sheet-first}
+use Rattle.theorems.specs.Places.{alone, patientsAlone, same-alone}
+use Rattle.theorems.specs.Isolation.{MembersPatients, clinicAlone, sheet-first}
 use Rattle.theorems.specs.Yields.{yielding, sheet-some}
-use Rattle.theorems.specs.Accepted.{constraint-known}
+use Rattle.theorems.specs.Accepted.{table-right}
 use Rattle.theorems.specs.SheetAreas.{rowAt, Printed, outcome-rows, outcome-printed, call-rows, call-printed}
 
--- The same counts of beds and the same tables, each as often, allow the same rows at the same costs.
-module _ (m : ℕ) (ds es : List ℕ) (ts us : List Table) (beds : ds ≡ es) (tables : (t : Table) → timesIn ts t ≡ timesIn us t) where
-  same-total : (plan : Plan) → total (alone m ds ts) plan ≡ total (alone m es us) plan
+-- The same patients and the same tables, each as often, allow the same rows at the same costs.
+module _ (m : ℕ) (ps qs : List Patient) (ts us : List Table) (patients : ps ≡ qs) (tables : (t : Table) → timesIn ts t ≡ timesIn us t) where
+  same-total : (plan : Plan) → total (alone m ps ts) plan ≡ total (alone m qs us) plan
   unfolding costOver entryFor patientAt timesIn
   same-total plan =
-      ap (λ (counts : List ℕ). total (alone m counts ts) plan) beds ∙ total-alone m es ts plan
-      ∙ sum-same table-tests (entryFor (alone m es us) plan) ts us tables ∙ sym (total-alone m es us plan)
+      ap (λ (l : List Patient). total (alone m l ts) plan) patients ∙ total-parts (alone m qs ts) plan
+      ∙ ap (λ o. plus o (sumOver (fixedCost (alone m qs us) plan) (patientNumbers (alone m qs us)))) (sum-same table-tests (entryFor (alone m qs us) plan) ts us tables)
+      ∙ sym (total-parts (alone m qs us) plan)
 
-  same-allowed : Allowed (alone m ds ts) ⊆ Allowed (alone m es us)
-  same-allowed w a = alone-allowed m es us w (rw (← beds) (alone-fits m ds ts w a)) (sym (same-total (w .beds)) ∙ a .priced)
+  same-allowed : Allowed (alone m ps ts) ⊆ Allowed (alone m qs us)
+  same-allowed w a = record { fits = rw (← patients) (a .fits); priced = sym (same-total (w .beds)) ∙ a .priced }
 
 -- So the two clinics alone have one ranked list, which both sheets begin.
 pub sheets-agree : (first second : Region) (c : ℕ) → MembersPatients first → MembersPatients second → SameClinic c first second
@@ -41,19 +43,25 @@ sheets-agree first second c inFirst inSecond same = first-unique {m = min (lengt
     (first-take (omega arith) (first-iff there back (sheet-first first c 0 inFirst (same .apartInFirst))))
     (first-take (omega arith) (sheet-first second c 0 inSecond (same .apartInSecond)))
   where
+    patients : patientsAlone first (patientsOf first c) ≡ patientsAlone second (patientsOf second c)
+    patients = same-alone first second (patientsOf first c) (patientsOf second c) (same .beds) (same .fixed)
+
     there : Allowed (clinicAlone 0 first c) ⊆ Allowed (clinicAlone 0 second c)
-    there = same-allowed 0 _ _ _ _ (same .beds) (same .tables)
+    there = same-allowed 0 _ _ _ _ patients (same .tables)
 
     back : Allowed (clinicAlone 0 second c) ⊆ Allowed (clinicAlone 0 first c)
-    back = same-allowed 0 _ _ _ _ (sym (same .beds)) (λ t. sym (same .tables t))
+    back = same-allowed 0 _ _ _ _ (sym patients) (λ t. sym (same .tables t))
 
 -- Demand 3, of the sheets of any two files.
+members-known : (file : List ℕ) → YieldsList file → MembersPatients (regionOf file)
+members-known file yields t k s i = table-right (regionOf file) (yielding file yields) k .known i
+
 pub same-beginning : (f g : List ℕ) (c : ℕ) → YieldsList f → YieldsList g → SameClinic c (regionOf f) (regionOf g)
     → SameBeginning (sheetOf (regionOf f) c) (sheetOf (regionOf g) c)
 same-beginning f g c inF inG same = record {
   firstRow = sheet-some f inF c;
   secondRow = sheet-some g inG c;
-  sameRows = sheets-agree (regionOf f) (regionOf g) c (constraint-known (regionOf f) (yielding f inF)) (constraint-known (regionOf g) (yielding g inG)) same;
+  sameRows = sheets-agree (regionOf f) (regionOf g) c (members-known f inF) (members-known g inG) same;
 }
 
 -- ---- demand 3 of what is printed

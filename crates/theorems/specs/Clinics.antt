@@ -7,10 +7,10 @@ use Rattle.definitions.specs.Limits.{within, clinic}
 use Rattle.definitions.specs.Syntax as Said
 use Rattle.definitions.specs.Syntax.{patientNumbers, patientAt, patientsOf}
 use Rattle.definitions.specs.Questions.{patientsWithin, clinicPresent}
-use Rattle.lists.specs.Tests.{both}
-use Rattle.lists.specs.Every.{every-in, any-out}
+use Rattle.lists.specs.Every.{any-out}
 use Rattle.lists.specs.Keep.{any-kept}
 use Rattle.lists.specs.Below.{by-number}
+use Rattle.theorems.specs.Accepted.{patient-right}
 
 -- Question 11 asks whether the clinic has patients.
 pub present-asked : (r : Said.Region) (c : ℕ) → clinicPresent r c ≡ not (isEmpty (patientsOf r c))
@@ -21,7 +21,7 @@ present-asked r c =
 
 -- A number beyond the limits of clinics has none.
 pub no-patients : (r : Said.Region) (c : ℕ) → patientsWithin r ≡ true → within clinic c ≡ false → patientsOf r c ≡ []
-unfolding patientsWithin clinicPresent
+unfolding clinicPresent
 no-patients r c fitting outside = go (patientsOf r c) refl
   where
     go : (l : List ℕ) → patientsOf r c ≡ l → l ≡ []
@@ -29,5 +29,4 @@ no-patients r c fitting outside = go (patientsOf r c) refl
     go (s ∷ l) e =
         let asked : clinicPresent r c ≡ true = present-asked r c ∙ ap (λ m. not (isEmpty m)) e in
         let (p, k, same) = any-out (λ p. eqb (p .clinic) c) (r .patients) asked in
-        let fits = both (within clinic (p .clinic)) (every-in _ (r .patients) fitting k) .0 in
-        absurd (true≢false (sym fits ∙ ap (within clinic) (eqb-true (p .clinic) c same) ∙ outside))
+        absurd (true≢false (sym (patient-right r fitting k .clinicFits) ∙ ap (within clinic) (eqb-true (p .clinic) c same) ∙ outside))

@@ -145,8 +145,8 @@ head-line h =
 patient-line : (p : Patient) → Line (spellPatient p)
 unfolding spellPatient
 patient-line p =
-    line-is (text "patient" ∷ decimal (p .clinic) ∷ decimal (p .bedCount) ∷ hyphenOrDecimal (p .parent) ∷ [])
-    (rw (decimal-bytes (p .clinic), decimal-bytes (p .bedCount), hyphen-bytes (p .parent)))
+    line-is (text "patient" ∷ decimal (p .clinic) ∷ decimal (p .bedCount) ∷ hyphenOrDecimal (p .parent) ∷ hyphenOrDecimal (p .fixedBed) ∷ [])
+    (rw (decimal-bytes (p .clinic), decimal-bytes (p .bedCount), hyphen-bytes (p .parent), hyphen-bytes (p .fixedBed)))
 
 table-line : (t : Table) → Line (spellTable t)
 unfolding spellTable

@@ -71,7 +71,7 @@ head-takes = whole-takes (record { only = head-only; each = head-each }) tt
 
 -- A patient's line.
 abbrev pub okPatient : Patient → Bool
-okPatient p = spellable (p .clinic) && spellable (p .bedCount) && noneOr spellable (p .parent)
+okPatient p = spellable (p .clinic) && spellable (p .bedCount) && noneOr spellable (p .parent) && noneOr spellable (p .fixedBed)
 
 patient-only : {xs rest : List ℕ} {p : Patient} → patientLine xs ≡ some (p, rest) → (okPatient p ≡ true) × (xs ≡ spellPatient p ++ rest)
 unfolding patientLine spellPatient
@@ -82,23 +82,28 @@ patient-only {xs} {rest} {p} e =
     then-only number-reads _ r₃ e₃ λ d r₄ ok-d is₄ e₄.
     then-only (word-reads " ") _ r₄ e₄ λ _ r₅ _ is₅ e₅.
     then-only hyphen-reads _ r₅ e₅ λ q r₆ ok-q is₆ e₆.
-    then-only (word-reads ")\n") _ r₆ e₆ λ _ r₇ _ is₇ e₇.
-    let (same, rest-is) = gives-same e₇ in
-    rw (← same, ← rest-is, is₁, is₂, is₃, is₄, is₅, is₆, is₇)
-    (rw (ok-c, ok-d, ok-q) refl, sym (line-spelt (text "patient") (decimal c ∷ decimal d ∷ hyphenOrDecimal q ∷ []) r₇))
+    then-only (word-reads " ") _ r₆ e₆ λ _ r₇ _ is₇ e₇.
+    then-only hyphen-reads _ r₇ e₇ λ b r₈ ok-b is₈ e₈.
+    then-only (word-reads ")\n") _ r₈ e₈ λ _ r₉ _ is₉ e₉.
+    let (same, rest-is) = gives-same e₉ in
+    rw (← same, ← rest-is, is₁, is₂, is₃, is₄, is₅, is₆, is₇, is₈, is₉)
+    (rw (ok-c, ok-d, ok-q, ok-b) refl, sym (line-spelt (text "patient") (decimal c ∷ decimal d ∷ hyphenOrDecimal q ∷ hyphenOrDecimal b ∷ []) r₉))
 
 patient-each : (p : Patient) (rest : List ℕ) → okPatient p ≡ true → Anything rest → patientLine (spellPatient p ++ rest) ≡ some (p, rest)
 unfolding patientLine spellPatient
 patient-each p rest ok any =
-    let (ok-cd, ok-q) = both (spellable (p .clinic) && spellable (p .bedCount)) ok in
+    let (ok-cdq, ok-b) = both (spellable (p .clinic) && spellable (p .bedCount) && noneOr spellable (p .parent)) ok in
+    let (ok-cd, ok-q) = both (spellable (p .clinic) && spellable (p .bedCount)) ok-cdq in
     let (ok-c, ok-d) = both (spellable (p .clinic)) ok-cd in
-    ap patientLine (line-spelt (text "patient") (decimal (p .clinic) ∷ decimal (p .bedCount) ∷ hyphenOrDecimal (p .parent) ∷ []) rest)
+    ap patientLine (line-spelt (text "patient") (decimal (p .clinic) ∷ decimal (p .bedCount) ∷ hyphenOrDecimal (p .parent) ∷ hyphenOrDecimal (p .fixedBed) ∷ []) rest)
     ∙ then-each (word-reads "(patient ") _ tt _ refl tt
     ∙ then-each number-reads _ (p .clinic) _ ok-c refl
     ∙ then-each (word-reads " ") _ tt _ refl tt
     ∙ then-each number-reads _ (p .bedCount) _ ok-d refl
     ∙ then-each (word-reads " ") _ tt _ refl tt
     ∙ then-each hyphen-reads _ (p .parent) _ ok-q refl
+    ∙ then-each (word-reads " ") _ tt _ refl tt
+    ∙ then-each hyphen-reads _ (p .fixedBed) _ ok-b refl
     ∙ then-each (word-reads ")\n") _ tt _ refl tt
 
 pub patient-takes : Takes (whole patientLine) spellPatient okPatient

@@ -7,10 +7,10 @@ use native.Mathlib.Omega.{arith}
 use Prim.Native.Nat.{_≤_}
 use lib.ListN.{length-map}
 use borrow.Author.Tests.{not-true}
-use Rattle.definitions.specs.Basics.{ℕ, suc, _+_, _<_, _≡_, refl, Bool, true, false, not, Option·getD}
+use Rattle.definitions.specs.Basics.{ℕ, suc, _+_, _<_, _≡_, refl, Bool, true, false, not, Option, some, Option·getD}
 use Rattle.definitions.specs.Basics.{List, [], _∷_, map, length, take, eqb, every, any, keep, contains, below}
 use Rattle.definitions.specs.Syntax.{Patient, Table, Region, patientNumbers, patientAt, bedCounts, patientsOf}
-use Rattle.definitions.specs.Plans.{Plan, bedOf, entryFor, costOver, constraints, total, Row, listOf}
+use Rattle.definitions.specs.Plans.{Plan, bedOf, entryFor, costOver, total, Row, listOf}
 use Rattle.definitions.specs.Sheets.{part, ownTables, ownCost, ownRow, sheetOf}
 use Rattle.definitions.specs.Isolation.{tablesAmong, joins}
 use Rattle.lists.specs.Tests.{join}
@@ -23,10 +23,11 @@ use Rattle.ranking.specs.Combining.{Combined, Rising}
 use Rattle.theorems.specs.List.{Fits, Allowed, rowOrder, by-beds, list-first}
 use Rattle.theorems.specs.Interleaving.{Interleaved, unweave, rising-marked, rising-unmarked, fits-apart, fits-together}
 use Rattle.theorems.specs.Interleaving.{interleave, interleaved, interleave-is, interleaved-keep}
-use Rattle.theorems.specs.Sums.{plus, Halves, halves, sum-split}
+use Rattle.theorems.specs.Sums.{plus, plus-pairs, Halves, halves, sumOver, sum-split}
+use Rattle.theorems.specs.Fixed.{fixedCost, total-parts, tables-alone}
 use Rattle.theorems.specs.Sameness.{beds-tests}
 use Rattle.ranking.specs.Parts.{parts-first}
-use Rattle.theorems.specs.Places.{alone, alone-fits, alone-allowed, byPlaces, cost-alone}
+use Rattle.theorems.specs.Places.{alone, patientsAlone, alone-fits, alone-allowed, byPlaces, total-alone}
 
 -- A plan has as many beds as there are patients.
 pub fits-length : (ds : List ℕ) (plan : Plan) → Fits ds plan → length ds ≡ length plan
@@ -35,27 +36,13 @@ fits-length [] (b ∷ plan) f = absurd f
 fits-length (d ∷ ds) [] f = absurd f
 fits-length (d ∷ ds) (b ∷ plan) f = ap suc (fits-length ds plan (f .1))
 
--- The members of every constraint are patients.
+-- The members of every table are patients.
 abbrev pub MembersPatients : Region → Type 0
-MembersPatients region = (t : Table) → t ∈ constraints region → (s : ℕ) → s ∈ t .members → s < length (region .patients)
+MembersPatients region = (t : Table) → t ∈ region .tables → (s : ℕ) → s ∈ t .members → s < length (region .patients)
 
--- The clinic alone, for m plans: its patients' counts of beds and the tables among them, by places, and nothing else.
+-- The clinic alone, for m plans: its patients' beds and the tables among them, by places, and nothing else.
 abbrev pub clinicAlone : ℕ → Region → ℕ → Region
-clinicAlone m region c = alone m (bedCounts region (patientsOf region c)) (tablesAmong region c)
-
--- What the constraints of a region are: those of a clinic alone are its tables, and where no table joins, no constraint does.
-pub total-alone : (m : ℕ) (ds : List ℕ) (tables : List Table) (plan : Plan) → total (alone m ds tables) plan ≡ costOver tables (alone m ds tables) plan
-unfolding total constraints
-total-alone m ds tables plan = refl
-
-module _ (region : Region) (c : ℕ) where
-  own-constraints : keep (λ t. every (contains (patientsOf region c)) (t .members)) (constraints region) ≡ ownTables region c
-  unfolding constraints ownTables
-  own-constraints = refl
-
-  constraints-apart : any (joins region c) (region .tables) ≡ false → any (joins region c) (constraints region) ≡ false
-  unfolding constraints
-  constraints-apart apart = apart
+clinicAlone m region c = alone m (patientsAlone region (patientsOf region c)) (tablesAmong region c)
 
 -- ---- a region falls into the clinic and the rest
 
@@ -76,15 +63,15 @@ module _ (region : Region) (c m : ℕ) (members : MembersPatients region) (apart
   abbrev inside : Table → Bool
   inside t = every (contains patients) (t .members)
 
-  abbrev otherConstraints : List Table
-  otherConstraints = keep (λ t. not (inside t)) (constraints region)
+  abbrev otherTables : List Table
+  otherTables = keep (λ t. not (inside t)) (region .tables)
 
   -- The clinic alone; the rest alone, for one plan.
   abbrev own : Region
   own = clinicAlone m region c
 
   abbrev rest : Region
-  rest = alone 1 (bedCounts region others) (map (byPlaces others) otherConstraints)
+  rest = alone 1 (patientsAlone region others) (map (byPlaces others) otherTables)
 
   -- The members of the clinic's tables are its patients.
   own-members : (t : Table) → t ∈ ownTables region c → (s : ℕ) → s ∈ t .members → s ∈ patients
@@ -92,7 +79,7 @@ module _ (region : Region) (c m : ℕ) (members : MembersPatients region) (apart
   own-members t k s i = contains-out patients s (every-in (contains patients) (t .members) (keep-out inside (region .tables) k .1) i)
 
   -- Since no table joins, where one member is the clinic's, all are. So the members of the other tables are other patients.
-  all-mine : (t : Table) → t ∈ constraints region → {s : ℕ} → s ∈ t .members → s ∈ patients → inside t ≡ true
+  all-mine : (t : Table) → t ∈ region .tables → {s : ℕ} → s ∈ t .members → s ∈ patients → inside t ≡ true
   unfolding joins
   all-mine t k i j = every-all (contains patients) (t .members) (λ r u. go r u (contains patients r) refl)
     where
@@ -100,35 +87,40 @@ module _ (region : Region) (c m : ℕ) (members : MembersPatients region) (apart
       go r u true e = e
       go r u false e =
           let joined = join (any-in (contains patients) (t .members) i (contains-in patients j)) (any-in (λ s. not (contains patients s)) (t .members) u (ap not e)) in
-          absurd (true≢false (sym (any-in (joins region c) (constraints region) k joined) ∙ constraints-apart region c apart))
+          absurd (true≢false (sym (any-in (joins region c) (region .tables) k joined) ∙ apart))
 
-  other-members : (t : Table) → t ∈ otherConstraints → (s : ℕ) → s ∈ t .members → s ∈ others
+  other-members : (t : Table) → t ∈ otherTables → (s : ℕ) → s ∈ t .members → s ∈ others
   unfolding patientsOf
   other-members t k s i =
-      let (kept, outside) = keep-out (λ t. not (inside t)) (constraints region) k in
+      let (kept, outside) = keep-out (λ t. not (inside t)) (region .tables) k in
       go kept (not-true (inside t) outside) (below-in (length (region .patients)) (members t kept s i)) (mine s) refl
     where
-      go : t ∈ constraints region → inside t ≡ false → s ∈ patientNumbers region → (b : Bool) → mine s ≡ b → s ∈ others
+      go : t ∈ region .tables → inside t ≡ false → s ∈ patientNumbers region → (b : Bool) → mine s ≡ b → s ∈ others
       go kept outside number true e = absurd (true≢false (sym (all-mine t kept i (keep-in mine (patientNumbers region) number e)) ∙ outside))
       go kept outside number false e = keep-in (λ s. not (mine s)) (patientNumbers region) number (ap not e)
 
-  -- The total is the clinic's own cost and the cost of the rest.
-  own-total : (plan : Plan) → total own (map (bedOf plan) patients) ≡ costOver (ownTables region c) region plan
-  unfolding tablesAmong
-  own-total plan = total-alone m (bedCounts region patients) (tablesAmong region c) (map (bedOf plan) patients) ∙ cost-alone region patients m (tablesAmong region c) plan (ownTables region c) own-members
+  -- The total is that of the clinic alone and that of the rest: of the tables and of the fixed beds.
+  abbrev fixedOver : Plan → List ℕ → Option ℕ
+  fixedOver plan l = sumOver (fixedCost region plan) l
 
-  rest-total : (plan : Plan) → total rest (map (bedOf plan) others) ≡ costOver otherConstraints region plan
-  rest-total plan = total-alone 1 (bedCounts region others) (map (byPlaces others) otherConstraints) (map (bedOf plan) others)
-      ∙ cost-alone region others 1 (map (byPlaces others) otherConstraints) plan otherConstraints other-members
+  own-total : (plan : Plan) → total own (map (bedOf plan) patients) ≡ plus (costOver (ownTables region c) region plan) (fixedOver plan patients)
+  unfolding tablesAmong
+  own-total plan = total-alone region patients m plan (ownTables region c) own-members
+
+  rest-total : (plan : Plan) → total rest (map (bedOf plan) others) ≡ plus (costOver otherTables region plan) (fixedOver plan others)
+  rest-total plan = total-alone region others 1 plan otherTables other-members
 
   total-apart : (plan : Plan) → total region plan ≡ plus (total own (map (bedOf plan) patients)) (total rest (map (bedOf plan) others))
-  total-apart plan = by-tables ∙ sym (ap₂ plus (own-total plan) (rest-total plan))
-    where
-      split : total region plan ≡ plus (costOver (keep inside (constraints region)) region plan) (costOver otherConstraints region plan)
-      split = unfold total costOver in sum-split (entryFor region plan) inside (constraints region)
+  unfolding costOver ownTables patientsOf
+  total-apart plan =
+      total-parts region plan
+      ∙ ap₂ plus (sum-split (entryFor region plan) inside (region .tables)) (sum-split (fixedCost region plan) mine (patientNumbers region))
+      ∙ plus-pairs (costOver (ownTables region c) region plan) (costOver otherTables region plan) (fixedOver plan patients) (fixedOver plan others)
+      ∙ sym (ap₂ plus (own-total plan) (rest-total plan))
 
-      by-tables : total region plan ≡ plus (costOver (ownTables region c) region plan) (costOver otherConstraints region plan)
-      by-tables = split ∙ ap (λ tables. plus (costOver tables region plan) (costOver otherConstraints region plan)) (own-constraints region c)
+  -- What the clinic alone allows costs what its tables do.
+  own-tables : (plan : Plan) (n : ℕ) → total own (map (bedOf plan) patients) ≡ some n → costOver (ownTables region c) region plan ≡ some n
+  own-tables plan n e = tables-alone region plan (costOver (ownTables region c) region plan) patients n (sym (own-total plan) ∙ e)
 
   -- A plan is the beds of the clinic's patients interleaved with those of the others.
   abbrev counts : List ℕ
@@ -159,10 +151,10 @@ module _ (region : Region) (c m : ℕ) (members : MembersPatients region) (apart
   Rest = Allowed rest
 
   own-fits : (v : Row) → Own v → Fits (bedCounts region patients) (v .beds)
-  own-fits = alone-fits m (bedCounts region patients) (tablesAmong region c)
+  own-fits = alone-fits region patients m (tablesAmong region c)
 
   rest-fits : (w : Row) → Rest w → Fits (bedCounts region others) (w .beds)
-  rest-fits = alone-fits 1 (bedCounts region others) (rest .tables)
+  rest-fits = alone-fits region others 1 (rest .tables)
 
   combined : (v w : Row) → Own v → Rest w → Interleaved marks (v .beds) (w .beds) (combine v w .beds)
   combined v w p q = interleaved (v .beds) (w .beds) counts-interleaved (own-fits v p) (rest-fits w q)
@@ -179,8 +171,8 @@ module _ (region : Region) (c m : ℕ) (members : MembersPatients region) (apart
   row-apart z a = record {
     left = v;
     right = w;
-    inLeft = alone-allowed m (bedCounts region patients) (tablesAmong region c) v (fits .0) (prices .left);
-    inRight = alone-allowed 1 (bedCounts region others) (rest .tables) w (fits .1) (prices .right);
+    inLeft = alone-allowed region patients m (tablesAmong region c) v (fits .0) (prices .left);
+    inRight = alone-allowed region others 1 (rest .tables) w (fits .1) (prices .right);
     is = λ i. record { cost = prices .whole i; beds = interleave-is beds i };
   }
     where
@@ -217,7 +209,7 @@ module _ (region : Region) (c m : ℕ) (members : MembersPatients region) (apart
       beds = sides v w p q .0
 
       cost : ownCost region c (combine v w) ≡ v .cost
-      cost = ap (λ o. Option·getD o 0) (sym (own-total (combine v w .beds)) ∙ ap (total own) beds ∙ p .priced)
+      cost = ap (λ o. Option·getD o 0) (own-tables (combine v w .beds) (v .cost) (ap (total own) beds ∙ p .priced))
 
   rising : Rising rowOrder rowOrder rowOrder combine Own Rest
   rising = record { inLeft = in-left; inRight = in-right }

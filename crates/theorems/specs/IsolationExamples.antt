@@ -60,7 +60,7 @@ unfolding everything
 apart-alike = record {
   firstYields = refl;
   secondYields = refl;
-  sameClinic = record { beds = refl; tables = times-swap (single 0) (double 0 1); apartInFirst = refl; apartInSecond = refl };
+  sameClinic = record { beds = refl; fixed = refl; tables = times-swap (single 0) (double 0 1); apartInFirst = refl; apartInSecond = refl };
   firstSheet = refl;
   secondSheet = refl;
   noPatients = refl;

@@ -10,7 +10,6 @@ use Rattle.definitions.specs.Basics.{ℕ, zero, suc, _+_, _-_, _*_, _/_, _%_, _
 use Rattle.definitions.specs.Basics.{map, flatMap, length, getD, take, drop, eqb, leb, ltb, below, sum, every}
 use Rattle.definitions.specs.Syntax.{Patient, Table, Region}
 use Rattle.definitions.specs.Limits.{clinic, bedCount, entry, limits, within}
-use Rattle.definitions.specs.Questions.{patientsWithin}
 use Rattle.definitions.specs.Writer.{regionFrom, asHeld}
 use Rattle.definitions.specs.Boundary.{bytesOf, valueOf, numberAt, optionAt, lentPatient, lentPatients, lentTableCount, lentMembers, lentEntryCount}
 use Rattle.definitions.specs.Boundary.{lentEntriesBefore, lentTable, lentTables, lentRegion, lentWhole}
@@ -20,7 +19,7 @@ use Rattle.lists.specs.Every.{every-in, every-all, every-at, every-map, every-w
 use Rattle.lists.specs.Maps.{map-at}
 use Rattle.lists.specs.Below.{by-places, at-place, below-same}
 use Rattle.lists.specs.Rows.{beginning, wide-long, wide-at, rows-long, row-at, row-inside, part-most}
-use Rattle.theorems.specs.Accepted.{Accepted, at-most, patients-few, parent-known, entries-few, table-right}
+use Rattle.theorems.specs.Accepted.{Accepted, at-most, patient-right, patients-few, parent-known, entries-few, table-right}
 use Rattle.theorems.specs.Writer.{Passes, passes-accepted, none-or}
 
 -- ---- how a region is lent
@@ -30,9 +29,9 @@ abbrev pub optionNumber : Option ℕ → ℕ
 optionNumber none = 2 ^ 64 - 1
 optionNumber (some n) = n
 
--- A patient's three numbers; a table's six, with 0 where there is no member; and in eight bytes each, those of all patients, tables and entries.
+-- A patient's four numbers; a table's six, with 0 where there is no member; and in eight bytes each, those of all patients, tables and entries.
 abbrev pub numbersOfPatient : Patient → List ℕ
-numbersOfPatient p = p .clinic ∷ p .bedCount ∷ optionNumber (p .parent) ∷ []
+numbersOfPatient p = p .clinic ∷ p .bedCount ∷ optionNumber (p .parent) ∷ optionNumber (p .fixedBed) ∷ []
 
 abbrev pub numbersOfTable : Table → List ℕ
 numbersOfTable t = length (t .members) ∷ (map (λ j. getD (t .members) j 0) (below 4) ++ length (t .entries) ∷ [])
@@ -57,7 +56,7 @@ abbrev pub optionInEight : Option ℕ → Bool
 optionInEight o = noneOr (λ n. ltb n (2 ^ 64 - 1)) o
 
 abbrev pub patientLendable : Patient → Bool
-patientLendable p = inEight (p .clinic) && inEight (p .bedCount) && optionInEight (p .parent)
+patientLendable p = inEight (p .clinic) && inEight (p .bedCount) && optionInEight (p .parent) && optionInEight (p .fixedBed)
 
 abbrev pub tableLendable : Table → Bool
 tableLendable t = leb (length (t .members)) 4 && every inEight (t .members) && inEight (length (t .entries)) && every optionInEight (t .entries)
@@ -98,37 +97,46 @@ option-back (some n) h = ap (λ b. cond b none (some n)) (ne-eqb n (2 ^ 64 - 1) 
 -- ---- patients
 
 nobody : Patient
-nobody = record { clinic = 0; bedCount = 0; parent = none }
+nobody = record { clinic = 0; bedCount = 0; parent = none; fixedBed = none }
 
 module _ (ps : List Patient) (fits : every patientLendable ps ≡ true) where
+  -- What is asked of a patient, one by one.
+  asked-one : (p : Patient) → patientLendable p ≡ true
+      → (inEight (p .clinic) ≡ true) × (inEight (p .bedCount) ≡ true) × (optionInEight (p .parent) ≡ true) × (optionInEight (p .fixedBed) ≡ true)
+  asked-one p h =
+      let (three, fixed) = both (inEight (p .clinic) && inEight (p .bedCount) && optionInEight (p .parent)) h in
+      let (two, parent) = both (inEight (p .clinic) && inEight (p .bedCount)) three in
+      let (first, second) = both (inEight (p .clinic)) two in
+      (first, second, parent, fixed)
+
   patient-fits : (p : Patient) → patientLendable p ≡ true → every inEight (numbersOfPatient p) ≡ true
   patient-fits p h =
-      let (two, parent) = both (inEight (p .clinic) && inEight (p .bedCount)) h in
-      let (first, second) = both (inEight (p .clinic)) two in
-      join first (join second (join (option-fits (p .parent) parent) refl))
+      let (first, second, parent, fixed) = asked-one p h in
+      join first (join second (join (option-fits (p .parent) parent) (join (option-fits (p .fixedBed) fixed) refl)))
 
-  patients-long : length (lendPatients ps) ≡ length ps * 24
-  patients-long = omega (arith, area-long (flatMap numbersOfPatient ps), wide-long numbersOfPatient nobody 3 (λ p. refl) ps)
+  patients-long : length (lendPatients ps) ≡ length ps * 32
+  patients-long = omega (arith, area-long (flatMap numbersOfPatient ps), wide-long numbersOfPatient nobody 4 (λ p. refl) ps)
 
   -- Number j of patient s.
-  patient-number : (s j : ℕ) → s < length ps → j < 3 → numberAt (lendPatients ps) (s * 3 + j) ≡ getD (numbersOfPatient (getD ps s nobody)) j 0
+  patient-number : (s j : ℕ) → s < length ps → j < 4 → numberAt (lendPatients ps) (s * 4 + j) ≡ getD (numbersOfPatient (getD ps s nobody)) j 0
   patient-number s j h l =
-      number-in (flatMap numbersOfPatient ps) (s * 3 + j) (every-flatMap inEight patientLendable numbersOfPatient patient-fits ps fits) (omega (arith, wide-long numbersOfPatient nobody 3 (λ p. refl) ps))
-      ∙ wide-at numbersOfPatient nobody 3 (λ p. refl) ps s j 0 h l
+      number-in (flatMap numbersOfPatient ps) (s * 4 + j) (every-flatMap inEight patientLendable numbersOfPatient patient-fits ps fits) (omega (arith, wide-long numbersOfPatient nobody 4 (λ p. refl) ps))
+      ∙ wide-at numbersOfPatient nobody 4 (λ p. refl) ps s j 0 h l
 
   patient-back : (s : ℕ) → s < length ps → lentPatient (lendPatients ps) s ≡ getD ps s nobody
   patient-back s h =
       let p = getD ps s nobody in
-      let first : s * 3 ≡ s * 3 + 0 = omega arith in
+      let asked = asked-one p (every-at patientLendable ps s nobody h fits) in
+      let first : s * 4 ≡ s * 4 + 0 = omega arith in
       let number = ap (numberAt (lendPatients ps)) first ∙ patient-number s 0 h (omega arith) in
-      let parent = ap (λ n. cond (eqb n (2 ^ 64 - 1)) none (some n)) (patient-number s 2 h (omega arith))
-      ∙ option-back (p .parent) (both (inEight (p .clinic) && inEight (p .bedCount)) (every-at patientLendable ps s nobody h fits) .1) in
-      λ i. record { clinic = number i; bedCount = patient-number s 1 h (omega arith) i; parent = parent i }
+      let parent = ap (λ n. cond (eqb n (2 ^ 64 - 1)) none (some n)) (patient-number s 2 h (omega arith)) ∙ option-back (p .parent) (asked .2) in
+      let fixed = ap (λ n. cond (eqb n (2 ^ 64 - 1)) none (some n)) (patient-number s 3 h (omega arith)) ∙ option-back (p .fixedBed) (asked .3) in
+      λ i. record { clinic = number i; bedCount = patient-number s 1 h (omega arith) i; parent = parent i; fixedBed = fixed i }
 
   pub patients-back : lentPatients (lendPatients ps) ≡ ps
   unfolding lentPatients
   patients-back =
-      let count : length (lendPatients ps) / 24 ≡ length ps = omega (arith, patients-long) in
+      let count : length (lendPatients ps) / 32 ≡ length ps = omega (arith, patients-long) in
       ap (λ n. map (lentPatient (lendPatients ps)) (below n)) count
       ∙ by-places (lentPatient (lendPatients ps)) nobody (length ps) ps refl patient-back
 
@@ -245,7 +253,7 @@ module _ (m : ℕ) (ps : List Patient) (ts : List Table) (patients : every patie
   pub lent-whole : lentWhole (lendPatients ps) (lendTables ts) (lendEntries ts) ≡ true
   unfolding lentWhole
   lent-whole =
-      join (join (eq-eqb (length (lendPatients ps) % 24) 0 (omega (arith, patients-long ps patients))) (eq-eqb (length (lendTables ts) % 48) 0 (omega (arith, tables-long ts tables))))
+      join (join (eq-eqb (length (lendPatients ps) % 32) 0 (omega (arith, patients-long ps patients))) (eq-eqb (length (lendTables ts) % 48) 0 (omega (arith, tables-long ts tables))))
       (eq-eqb _ _ (all-entries ts tables))
 
   pub lent-back : lentRegion (lendPatients ps) (lendTables ts) (lendEntries ts) m ≡ regionFrom m ps ts
@@ -260,11 +268,13 @@ pub record Lent (r : Region) : Type 0 where
 
 module _ (r : Region) (a : Accepted (asHeld r)) where
   patient-lendable : (p : Patient) → p ∈ r .patients → patientLendable p ≡ true
-  unfolding asHeld regionFrom patientsWithin limits
+  unfolding asHeld regionFrom limits
   patient-lendable p k =
-      let (c, d) = both (within clinic (p .clinic)) (every-in _ (r .patients) (a .patientsFit) k) in
-      join (join (lt-ltb (p .clinic) (2 ^ 64) (omega (arith, at-most clinic (p .clinic) c))) (lt-ltb (p .bedCount) (2 ^ 64) (omega (arith, at-most bedCount (p .bedCount) d))))
-      (none-or (p .parent) (λ q e. lt-ltb q (2 ^ 64 - 1) (omega (arith, parent-known (asHeld r) a k q e, patients-few (asHeld r) a))))
+      let right = patient-right (asHeld r) (a .patientsFit) k in
+      let beds = at-most bedCount (p .bedCount) (right .bedsFit) in
+      join (join (join (lt-ltb (p .clinic) (2 ^ 64) (omega (arith, at-most clinic (p .clinic) (right .clinicFits)))) (lt-ltb (p .bedCount) (2 ^ 64) (omega arith)))
+      (none-or (p .parent) (λ q e. lt-ltb q (2 ^ 64 - 1) (omega (arith, parent-known (asHeld r) a k q e, patients-few (asHeld r) a)))))
+      (none-or (p .fixedBed) (λ b e. lt-ltb b (2 ^ 64 - 1) (omega (arith, right .fixedFits b e))))
 
   table-lendable : (t : Table) → t ∈ r .tables → tableLendable t ≡ true
   unfolding asHeld regionFrom limits

@@ -1,21 +1,19 @@
 -- How long the lines of an accepted region are: a file that is written has at most `mostWritten` bytes.
-use mathlib.Core.Path.{_≡_, refl}
+use mathlib.Core.Path.{_≡_, refl, sym, ap, _∙_}
 use native.Mathlib.Nat.{mul-le-mul-right}
 use native.Mathlib.Omega.{arith}
 use Prim.Native.Nat.{_≤_}
 use lib.ListN.{length-append}
-use Rattle.definitions.specs.Basics.{ℕ, suc, _+_, _*_, _<_, true, Option, none, some, noneOr, List, [], _∷_, _++_, map, flatMap, length, replicate}
+use Rattle.definitions.specs.Basics.{ℕ, suc, _+_, _*_, _<_, Option, none, some, noneOr, List, [], _∷_, _++_, map, flatMap, length, replicate}
 use Rattle.definitions.specs.Basics.{text, sum}
 use Rattle.definitions.specs.Limits.{Field, patientCount, tableCount, plansWanted, clinic, bedCount, memberCount, entryCount, entry, limits, within}
 use Rattle.definitions.specs.Syntax.{Patient, Table, Region}
 use Rattle.definitions.specs.Spelling.{digitsWithin, decimal, hyphenOrDecimal, bracketed, line, spellPatient, spellTable, spellBody, spell}
-use Rattle.definitions.specs.Questions.{patientsWithin}
-use Rattle.lists.specs.Tests.{both}
 use Rattle.lists.specs.Members.{_∈_, here, there}
 use Rattle.lists.specs.Every.{every-in}
 use Rattle.lists.specs.Rows.{sum-each}
 use Rattle.theorems.specs.Numbers.{decimal-leads, decimal-longer}
-use Rattle.theorems.specs.Accepted.{Accepted, TableRight, at-most, counts-within, patients-counted, tables-counted, parent-known, entries-few, entries-some, table-right}
+use Rattle.theorems.specs.Accepted.{Accepted, TableRight, at-most, patient-right, counts-within, patients-counted, tables-counted, parent-known, entries-few, entries-some, table-right}
 
 -- ---- lines
 
@@ -67,7 +65,7 @@ unfoldable regionMost : ℕ
 regionMost = length (line (text "region" ∷ longest patientCount ∷ longest tableCount ∷ longest plansWanted ∷ []))
 
 unfoldable patientMost : ℕ
-patientMost = length (line (text "patient" ∷ longest clinic ∷ longest bedCount ∷ longest patientCount ∷ []))
+patientMost = length (line (text "patient" ∷ longest clinic ∷ longest bedCount ∷ longest patientCount ∷ longest bedCount ∷ []))
 
 unfoldable tableMost : ℕ
 tableMost = length (line (text "cost" ∷ bracketed (replicate (limits memberCount .highest) (longest patientCount)) ∷ text "()" ∷ []))
@@ -80,7 +78,7 @@ endMost = length (line (text "end" ∷ decimal 65_520 ∷ []))
 
 -- As many of each as there may be.
 abbrev pub mostWritten : ℕ
-mostWritten = 34_942
+mostWritten = 35_038
 
 most-written : mostWritten ≡ regionMost + limits patientCount .highest * patientMost + limits tableCount .highest * tableMost + limits entryCount .highest * entryMost + endMost
 unfolding limits digitsWithin flatMap regionMost patientMost tableMost entryMost endMost
@@ -92,9 +90,9 @@ most-written = refl
 digits-most : (field : Field) (n : ℕ) → n ≤ limits field .highest → length (decimal n) ≤ length (longest field)
 digits-most field n h = decimal-longer n (limits field .highest) h
 
-hyphen-most : (field : Field) (o : Option ℕ) → noneOr (within field) o ≡ true → length (hyphenOrDecimal o) ≤ length (longest field)
+hyphen-most : (field : Field) (o : Option ℕ) → ((n : ℕ) → o ≡ some n → n ≤ limits field .highest) → length (hyphenOrDecimal o) ≤ length (longest field)
 hyphen-most field none h = decimal-leads (limits field .highest) .1
-hyphen-most field (some n) h = digits-most field n (at-most field n h)
+hyphen-most field (some n) h = digits-most field n (h n refl)
 
 module _ (r : Region) (a : Accepted r) where
   counted-most : (r .patientCount ≤ limits patientCount .highest) × (r .tableCount ≤ limits tableCount .highest) × (r .plansWanted ≤ limits plansWanted .highest)
@@ -115,21 +113,19 @@ module _ (r : Region) (a : Accepted r) where
       )
 
   patient-most : (p : Patient) → p ∈ r .patients → length (spellPatient p) ≤ patientMost
-  unfolding patientMost spellPatient patientsWithin
+  unfolding patientMost spellPatient
   patient-most p k =
-      let (c, d) = both (within clinic (p .clinic)) (every-in _ (r .patients) (a .patientsFit) k) in
+      let right = patient-right r (a .patientsFit) k in
+      let beds = at-most bedCount (p .bedCount) (right .bedsFit) in
       omega (
         arith,
-        line-long (text "patient") (decimal (p .clinic) ∷ decimal (p .bedCount) ∷ hyphenOrDecimal (p .parent) ∷ []),
-        line-long (text "patient") (longest clinic ∷ longest bedCount ∷ longest patientCount ∷ []),
-        digits-most clinic (p .clinic) (at-most clinic (p .clinic) c),
-        digits-most bedCount (p .bedCount) (at-most bedCount (p .bedCount) d),
-        parent-most (p .parent) (λ q e. omega (arith, parent-known r a k q e, patients-counted r a, counted-most .0)),
+        line-long (text "patient") (decimal (p .clinic) ∷ decimal (p .bedCount) ∷ hyphenOrDecimal (p .parent) ∷ hyphenOrDecimal (p .fixedBed) ∷ []),
+        line-long (text "patient") (longest clinic ∷ longest bedCount ∷ longest patientCount ∷ longest bedCount ∷ []),
+        digits-most clinic (p .clinic) (at-most clinic (p .clinic) (right .clinicFits)),
+        digits-most bedCount (p .bedCount) beds,
+        hyphen-most patientCount (p .parent) (λ q e. omega (arith, parent-known r a k q e, patients-counted r a, counted-most .0)),
+        hyphen-most bedCount (p .fixedBed) (λ b e. omega (arith, right .fixedFits b e)),
       )
-    where
-      parent-most : (o : Option ℕ) → ((q : ℕ) → o ≡ some q → q ≤ limits patientCount .highest) → length (hyphenOrDecimal o) ≤ length (longest patientCount)
-      parent-most none h = decimal-leads (limits patientCount .highest) .1
-      parent-most (some q) h = digits-most patientCount q (h q refl)
 
   members-most : (t : Table) → TableRight r t → length (bracketed (map decimal (t .members))) ≤ length (bracketed (replicate (limits memberCount .highest) (longest patientCount)))
   unfolding limits
@@ -144,7 +140,7 @@ module _ (r : Region) (a : Accepted r) where
   unfolding tableMost entryMost spellTable
   table-most t k =
       let right = table-right r a k in
-      let entries = bracketed-most hyphenOrDecimal (length (longest entry)) (t .entries) (entries-some r a k) (λ e i. hyphen-most entry e (every-in _ (t .entries) (right .within) i)) in
+      let entries = bracketed-most hyphenOrDecimal (length (longest entry)) (t .entries) (entries-some r a k) (λ o i. hyphen-most entry o (λ e is. at-most entry e (ap (noneOr (within entry)) (sym is) ∙ every-in _ (t .entries) (right .within) i))) in
       omega (
         arith,
         line-long (text "cost") (bracketed (map decimal (t .members)) ∷ bracketed (map hyphenOrDecimal (t .entries)) ∷ []),

@@ -15,6 +15,7 @@ pub mod OneByte
 pub mod List
 pub mod Interleaving
 pub mod Sums
+pub mod Fixed
 pub mod Accepted
 pub mod Clinics
 pub mod Sameness

@@ -2,8 +2,9 @@
 use mathlib.Core.Path.{sym, ap, ap₂, _∙_}
 use mathlib.Core.Option.{Option·none-ne-some}
 use native.Mathlib.Omega.{arith}
+use native.Mathlib.Nat.{zero-add, add-zero}
 use Rattle.definitions.specs.Basics.{ℕ, _+_, _<_, _≡_, refl, Bool, true, false, not, cond, Option, none, some, Option·map, bind}
-use Rattle.definitions.specs.Basics.{List, [], _∷_, map, length, sum, keep, onAll}
+use Rattle.definitions.specs.Basics.{List, [], _∷_, _++_, map, length, sum, keep, onAll}
 use Rattle.lists.specs.Members.{_∈_, here, there}
 use Rattle.ranking.specs.Occurrences.{Tests}
 
@@ -19,12 +20,23 @@ plus-assoc (some x) none c = refl
 plus-assoc (some x) (some y) none = refl
 plus-assoc (some x) (some y) (some z) = ap {B = Option ℕ} some (omega arith)
 
+pub zero-plus : (o : Option ℕ) → plus (some 0) o ≡ o
+zero-plus none = refl
+zero-plus (some n) = ap {B = Option ℕ} some (zero-add n)
+
+pub plus-zero : (o : Option ℕ) → plus o (some 0) ≡ o
+plus-zero none = refl
+plus-zero (some n) = ap {B = Option ℕ} some (add-zero n)
+
 plus-swap : (a b c : Option ℕ) → plus a (plus b c) ≡ plus b (plus a c)
 plus-swap none none c = refl
 plus-swap none (some y) c = refl
 plus-swap (some x) none c = refl
 plus-swap (some x) (some y) none = refl
 plus-swap (some x) (some y) (some z) = ap {B = Option ℕ} some (omega arith)
+
+pub plus-pairs : (a b c d : Option ℕ) → plus (plus a b) (plus c d) ≡ plus (plus a c) (plus b d)
+plus-pairs a b c d = sym (plus-assoc a b (plus c d)) ∙ ap (plus a) (plus-swap b c d) ∙ plus-assoc a c (plus b d)
 
 -- Two costs whose sum is a number are numbers.
 pub record Halves (a b : Option ℕ) (n : ℕ) : Type 0 where
@@ -68,6 +80,13 @@ sum-split {A} entry f (x ∷ l) = go (f x) (sum-split entry f l)
         → sumOver entry (x ∷ l) ≡ plus (sumOver entry (cond b (x ∷ ins) ins)) (sumOver entry (cond (not b) (x ∷ outs) outs))
     go true e = rw (sum-cons entry x l, sum-cons entry x ins, e) (plus-assoc (entry x) (sumOver entry ins) (sumOver entry outs))
     go false e = rw (sum-cons entry x l, sum-cons entry x outs, e) (plus-swap (entry x) (sumOver entry ins) (sumOver entry outs))
+
+-- The sum over what stands in front and the sum over what follows.
+pub sum-append : {A : Type 0} (entry : A → Option ℕ) (l k : List A) → sumOver entry (l ++ k) ≡ plus (sumOver entry l) (sumOver entry k)
+sum-append entry [] k = sym (zero-plus (sumOver entry k))
+sum-append entry (x ∷ l) k =
+    sum-cons entry x (l ++ k) ∙ ap (plus (entry x)) (sum-append entry l k) ∙ plus-assoc (entry x) (sumOver entry l) (sumOver entry k)
+    ∙ ap (λ o. plus o (sumOver entry k)) (sym (sum-cons entry x l))
 
 -- The sum over renamed tables whose entries are the same.
 pub sum-map : {A B : Type 0} (entry : A → Option ℕ) (other : B → Option ℕ) (f : A → B) (l : List A)

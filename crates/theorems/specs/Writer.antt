@@ -12,7 +12,7 @@ use Rattle.definitions.specs.Limits.{Field, patientCount, tableCount, plansWant
 use Rattle.definitions.specs.Syntax.{Patient, Table, Region}
 use Rattle.definitions.specs.Layout.{layout}
 use Rattle.definitions.specs.Spelling.{spellable, spellBody, spell, wellFormed}
-use Rattle.definitions.specs.Questions.{Asked, firstNo, checksum, shortEnough, laidOut, countsTrue, sumTrue, patientsWithin, regionOf, askedOfRegion, askedByCheck, checkOf, entryAsks, callAsks}
+use Rattle.definitions.specs.Questions.{Asked, firstNo, checksum, shortEnough, laidOut, countsTrue, sumTrue, regionOf, askedOfRegion, askedByCheck, checkOf, entryAsks, callAsks}
 use Rattle.definitions.specs.Outcomes.{unlessRefused}
 use Rattle.definitions.specs.Writer.{regionFrom, asHeld, writtenFile, roomForFile, askedByWrite, Made, madeBy, outputAfter, WriteOutcome, writeOutcomeOf, writeOutcome}
 use Rattle.definitions.specs.Boundary.{roomForNumbers, resultAfter, lentRegion, lentWhole, askedByLentWrite, WriteCall, writeCallOf, writeCall}
@@ -23,7 +23,7 @@ use Rattle.theorems.specs.Answers.{allYes, Says, says, no-no}
 use Rattle.theorems.specs.Refusals.{ResultZeroed, result-zeroed}
 use Rattle.theorems.specs.Refused.{Refused}
 use Rattle.theorems.specs.Cuts.{cut-refused}
-use Rattle.theorems.specs.Accepted.{Accepted, asked-accepted, accepted-asked, accepted, at-most, counts-within, patients-few, parent-known, entries-some, table-right, region-said}
+use Rattle.theorems.specs.Accepted.{Accepted, asked-accepted, accepted-asked, accepted, at-most, patient-right, counts-within, patients-few, parent-known, entries-some, table-right, region-said}
 use Rattle.theorems.specs.Spelling.{layout-spelling, laid-out-spelt, body-spelt}
 use Rattle.theorems.specs.Lengths.{mostWritten, spelling-most}
 
@@ -76,12 +76,14 @@ module _ (r : Region) (a : Accepted r) where
   unfolding limits
   known-spellable s h = spellable-most patientCount refl s (omega (arith, patients-few r a))
 
-  patient-spellable : (p : Patient) → p ∈ r .patients → (spellable (p .clinic) && spellable (p .bedCount) && noneOr spellable (p .parent)) ≡ true
-  unfolding patientsWithin limits
+  patient-spellable : (p : Patient) → p ∈ r .patients → (spellable (p .clinic) && spellable (p .bedCount) && noneOr spellable (p .parent) && noneOr spellable (p .fixedBed)) ≡ true
+  unfolding limits
   patient-spellable p k =
-      let (c, d) = both (within clinic (p .clinic)) (every-in _ (r .patients) (a .patientsFit) k) in
-      join (join (spellable-most clinic refl (p .clinic) (at-most clinic (p .clinic) c)) (spellable-most bedCount refl (p .bedCount) (at-most bedCount (p .bedCount) d)))
-      (none-or (p .parent) (λ q e. known-spellable q (parent-known r a k q e)))
+      let right = patient-right r (a .patientsFit) k in
+      let beds = at-most bedCount (p .bedCount) (right .bedsFit) in
+      join (join (join (spellable-most clinic refl (p .clinic) (at-most clinic (p .clinic) (right .clinicFits))) (spellable-most bedCount refl (p .bedCount) beds))
+      (none-or (p .parent) (λ q e. known-spellable q (parent-known r a k q e))))
+      (none-or (p .fixedBed) (λ b e. spellable-most bedCount refl b (omega (arith, right .fixedFits b e))))
 
   members-spellable : (t : Table) → t ∈ r .tables → (not (isEmpty (t .members)) && every spellable (t .members)) ≡ true
   members-spellable t k =
