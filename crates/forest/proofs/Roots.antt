@@ -10,7 +10,7 @@ use Rattle.definitions.specs.Syntax.{patientAt}
 use Rattle.definitions.specs.Questions.{parentsSmaller}
 use Rattle.partial_rows.specs.Trees.{rootOf}
 use Rattle.held_region.specs.declared.Region.{Region}
-use Rattle.held_region.specs.Meaning.{parentOf, patientIn, said}
+use Rattle.held_region.specs.Meaning.{optional, patientIn, said}
 use Rattle.held_region.specs.Sound.{ParentsFirst, parents-first}
 use Rattle.held_region.specs.Ancestors.{ancestors-root, ancestors-next}
 use Rattle.held_region.specs.Related.{own-parent, parent-smaller}
@@ -32,7 +32,7 @@ RootNumbersTo h n roots = (store : List ℕ) (s : ℕ) → s < n → getD roots 
 
 module _ (h : Region) (first : ParentsFirst h) (s : ℕ) (l : s < h .v) where
   abbrev parent : Option ℕ
-  parent = parentOf (patientIn h s .parent)
+  parent = optional (patientIn h s .parent)
 
   pub parent-known : (p : ℕ) → parent ≡ some p → p < 32
   parent-known p e = omega (arith, parent-smaller h first s l p e, first .places .patients)

@@ -1,23 +1,23 @@
 // The forest that the patients' parents make: the root of each patient, and the tree of each root.
-use held_region::Parent;
 use held_region::Region;
 use patient_set::PatientSet;
+use scanner::Optional;
 ghost use mathlib.Core.Path.{_≡_};
 ghost use Prim.Native.Nat.{ℕ, _<_, _≤_};
 ghost use Rattle.definitions.specs.Basics.{List, some, _&&_, eqb, ltb, getD};
 ghost use Rattle.patient_set.specs.Sets.{inSet};
-ghost use Rattle.held_region.specs.Meaning.{parentOf, said};
+ghost use Rattle.held_region.specs.Meaning.{optional, said};
 ghost use Rattle.held_region.specs.Sound.{ParentsFirst};
 ghost use Rattle.forest.specs.Trees.{RootNumbers, rootFrom};
 
 // The root of patient s, who has this parent: its own number, or its parent's root.
-fn root_number(roots: [u32; 32], s: usize, parent: Parent) -> u32
-    requires { ⌜ (s < 32) × ((p : ℕ) → parentOf parent ≡ some p → p < 32) ⌝ }
-    ensures { λ root. ⌜ root ≡ rootFrom roots s (parentOf parent) ⌝ }
+fn root_number(roots: [u32; 32], s: usize, parent: Optional) -> u32
+    requires { ⌜ (s < 32) × ((p : ℕ) → optional parent ≡ some p → p < 32) ⌝ }
+    ensures { λ root. ⌜ root ≡ rootFrom roots s (optional parent) ⌝ }
 {
     match parent {
-        Parent::Root => s as u32,
-        Parent::Of(p) => {
+        Optional::Hyphen => s as u32,
+        Optional::Number(p) => {
             let above = p as usize;
             roots[above]
         }

@@ -9,17 +9,18 @@ use Rattle.definitions.specs.Syntax as Said
 use Rattle.definitions.specs.Syntax.{patientAt}
 use Rattle.definitions.specs.Questions.{patientsWithin, parentsSmaller}
 use Rattle.held_region.specs.declared.Region.{Region}
-use Rattle.held_region.specs.Meaning.{parentOf, patientOf, patientIn, mark, entryOf, codeOf, tableIn, membersOf, startIn, tableSaid, said}
+use Rattle.held_region.specs.Meaning.{optional, patientOf, patientIn, mark, entryOf, codeOf, tableIn, membersOf, startIn, tableSaid, said}
 use Rattle.lists.specs.Every.{every-map}
 use Rattle.lists.specs.Below.{length-by-places, at-place, same-tests}
 use Rattle.held_region.specs.Stores.{startOf, tableAt, start-next, HasEntries}
 
--- Question 6, of one patient, and of its parent.
-abbrev pub patientFits : Said.Patient → Bool
-patientFits p = within clinic (p .clinic) && within bedCount (p .bedCount)
+-- Is there no number, or a smaller one? A parent is asked this of the patient's own number, a fixed bed of the count of beds.
+abbrev pub noneOrBelow : Option ℕ → ℕ → Bool
+noneOrBelow field n = noneOr (λ k. ltb k n) field
 
-abbrev pub parentFits : Option ℕ → ℕ → Bool
-parentFits parent s = noneOr (λ p. ltb p s) parent
+-- Question 6, of one patient, but for its parent.
+abbrev pub patientFits : Said.Patient → Bool
+patientFits p = within clinic (p .clinic) && within bedCount (p .bedCount) && noneOrBelow (p .fixedBed) (p .bedCount)
 
 -- A number of the store is that of the entry that it stands for.
 code-back : (code : ℕ) → codeOf (entryOf code) ≡ code
@@ -44,12 +45,12 @@ module _ (h : Region) (store : List ℕ) where
   unfolding patientsWithin said
   patients-asked = every-map patientFits (λ s. patientOf (patientIn h s)) (below (h .v))
 
-  pub parents-asked : parentsSmaller (said h store) ≡ every (λ s. parentFits (parentOf (patientIn h s .parent)) s) (below (h .v))
+  pub parents-asked : parentsSmaller (said h store) ≡ every (λ s. noneOrBelow (optional (patientIn h s .parent)) s) (below (h .v))
   unfolding parentsSmaller
   parents-asked =
-      ap (λ n. every (λ s. parentFits (patientAt (said h store) s .parent) s) (below n)) patients-said
-      ∙ same-tests (λ s. parentFits (patientAt (said h store) s .parent) s) (λ s. parentFits (parentOf (patientIn h s .parent)) s) (h .v)
-      (λ s l. ap (λ p. parentFits (p .parent) s) (patient-said s l))
+      ap (λ n. every (λ s. noneOrBelow (patientAt (said h store) s .parent) s) (below n)) patients-said
+      ∙ same-tests (λ s. noneOrBelow (patientAt (said h store) s .parent) s) (λ s. noneOrBelow (optional (patientIn h s .parent)) s) (h .v)
+      (λ s l. ap (λ p. noneOrBelow (p .parent) s) (patient-said s l))
 
   -- ---- tables
 

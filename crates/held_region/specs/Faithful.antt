@@ -17,7 +17,7 @@ use Rattle.theorems.specs.Accepted.{at-most}
 use Rattle.held_region.specs.declared.Region.{Region}
 use Rattle.held_region.specs.Meaning.{noPatient, patientOf, patientIn, mark, entryOf, codeOf, noTable, tableIn, membersOf, startIn, tableSaid, said}
 use Rattle.held_region.specs.Stores.{startOf, entriesOf, tableAt, start-next, start-all}
-use Rattle.held_region.specs.Asked.{patientFits, parentFits, tables-by-places}
+use Rattle.held_region.specs.Asked.{patientFits, noneOrBelow, tables-by-places}
 use Rattle.held_region.specs.Members.{membersFit, members-asked}
 use Rattle.held_region.specs.Entries.{countsMatch, counts-by-places, total-said, total-most}
 use Rattle.held_region.specs.Refusals.{asked, lastAsked}
@@ -101,7 +101,7 @@ module _ (h : Region) (store : List ℕ) (r : Said.Region) (held : HeldFrom h st
 
     parents-smaller-same : parentsSmaller (said h store) ≡ parentsSmaller r
     unfolding parentsSmaller patientAt
-    parents-smaller-same = ap (λ ps. every (λ s. parentFits (getD ps s (patientOf noPatient) .parent) s) (below (length ps))) patients-same
+    parents-smaller-same = ap (λ ps. every (λ s. noneOrBelow (getD ps s (patientOf noPatient) .parent) s) (below (length ps))) patients-same
 
     holds-table : (i : ℕ) → i < h .t → HoldsTable (getD (h .tables) i noTable) (tableAt r i)
     holds-table i l = held .tables i (omega (arith, few .1, held .tableCount)) (omega (arith, table-lines))

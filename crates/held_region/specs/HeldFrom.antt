@@ -13,7 +13,7 @@ use Rattle.held_region.specs.FirstHeld.{FirstHeld}
 
 -- What stands at a place where no patient, and where no table, is said.
 abbrev pub noneSaid : Said.Patient
-noneSaid = record { clinic = 0; bedCount = 0; parent = none }
+noneSaid = record { clinic = 0; bedCount = 0; parent = none; fixedBed = none }
 
 abbrev pub noTableSaid : Said.Table
 noTableSaid = record { members = []; entries = [] }

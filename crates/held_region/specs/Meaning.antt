@@ -2,24 +2,20 @@
 use Rattle.definitions.specs.Basics.{ℕ, zero, suc, _+_, cond, Option, none, some, eqb, List, [], map, getD, replicate, below}
 use Rattle.definitions.specs.Syntax as Said
 use Rattle.definitions.specs.Writer.{withSum}
-use Rattle.held_region.specs.declared.Parent.{Parent}
-use Rattle.held_region.specs.declared.Parent.the-variants.{Root, Of}
+use Rattle.scanner.specs.declared.Optional.the-variants.{Hyphen}
+pub use Rattle.scanner.specs.Answers.{optional}
 use Rattle.held_region.specs.declared.Patient.{Patient}
 use Rattle.held_region.specs.declared.Table.{Table}
 use Rattle.held_region.specs.declared.Region.{Region}
 
 -- ---- patients
 
-abbrev pub parentOf : Parent → Option ℕ
-parentOf Root = none
-parentOf (Of p) = some p
-
 abbrev pub patientOf : Patient → Said.Patient
-patientOf p = record { clinic = p .clinic; bedCount = p .beds; parent = parentOf (p .parent) }
+patientOf p = record { clinic = p .clinic; bedCount = p .beds; parent = optional (p .parent); fixedBed = optional (p .fixed) }
 
 -- What stands where no patient is held; the patient at a place.
 abbrev pub noPatient : Patient
-noPatient = record { clinic = 0; beds = 0; parent = Root }
+noPatient = record { clinic = 0; beds = 0; parent = Hyphen; fixed = Hyphen }
 
 abbrev pub patientIn : Region → ℕ → Patient
 patientIn h s = getD (h .patients) s noPatient

@@ -19,7 +19,7 @@ use Rattle.definitions.specs.Syntax.{patientAt, patientsOf}
 use Rattle.definitions.specs.Questions.{ancestors, membersRelated}
 use Rattle.held_region.specs.declared.Table.{Table}
 use Rattle.held_region.specs.declared.Region.{Region}
-use Rattle.held_region.specs.Meaning.{parentOf, patientIn, tableIn, membersOf, tableSaid, said}
+use Rattle.held_region.specs.Meaning.{optional, patientIn, tableIn, membersOf, tableSaid, said}
 use Rattle.held_region.specs.Members.{every-member}
 use Rattle.held_region.specs.Asked.{patients-said, patient-said, tables-by-places}
 use Rattle.held_region.specs.Sound.{Sound, ParentsFirst, parents-first, members-fit, members-held}
@@ -75,7 +75,7 @@ module _ (h : Region) (first : ParentsFirst h) where
   -- One patient more: the set of s is made from its parent's.
   module _ (s : ℕ) (l : s < h .v) where
     abbrev parent : Option ℕ
-    parent = parentOf (patientIn h s .parent)
+    parent = optional (patientIn h s .parent)
 
     pub own-parent : (store : List ℕ) → patientAt (said h store) s .parent ≡ parent
     own-parent store = ap (λ p. p .parent) (patient-said h store s l)

@@ -64,7 +64,8 @@ module _ (h : Region) (sound : Sound h) where
   unfolding limits
   beds-most s l =
       let fits : patientFits (patientOf (patientIn h s)) ≡ true = every-place _ (h .v) s (sym (patients-asked h (sound .store)) ∙ sound .patients) l in
-      at-most bedCount _ (and-eq-true-iff (within clinic (patientIn h s .clinic)) _ .0 fits .1)
+      let two = and-eq-true-iff (within clinic (patientIn h s .clinic) && within bedCount (patientIn h s .beds)) _ .0 fits .0 in
+      at-most bedCount _ (and-eq-true-iff (within clinic (patientIn h s .clinic)) _ .0 two .1)
 
   module _ (i : ℕ) (l : i < h .t) where
     abbrev members : List ℕ

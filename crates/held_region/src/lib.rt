@@ -1,17 +1,14 @@
 // The held region: what a region file says, by value, and the answers to the questions it is asked.
+use scanner::Optional;
 ghost use mathlib.Core.Path.{_≡_};
 ghost use Rattle.held_region.specs.Meaning.{blankRegion};
 
-// The parent field of a patient. It is held as the file has it, however large.
-pub enum Parent {
-    Root,
-    Of(u32),
-}
-
+// The parent is a hyphen at a root, the fixed bed where the patient is free. Both are held as the file has them, however large.
 pub struct Patient {
     pub clinic: u32,
     pub beds: u32,
-    pub parent: Parent,
+    pub parent: Optional,
+    pub fixed: Optional,
 }
 
 // The first four members, and how many members and entries the table has. Its entries begin where those of the table before it end.
@@ -38,7 +35,8 @@ pub const FORBIDDEN: u32 = 0xffff_ffff;
 pub const NO_PATIENT: Patient = Patient {
     clinic: 0,
     beds: 0,
-    parent: Parent::Root,
+    parent: Optional::Hyphen,
+    fixed: Optional::Hyphen,
 };
 
 pub const NO_TABLE: Table = Table {

@@ -20,7 +20,7 @@ use Rattle.lists.specs.Maps.{map-same}
 use Rattle.lists.specs.Below.{every-place, same-tests}
 use Rattle.theorems.specs.Accepted.{at-most}
 use Rattle.held_region.specs.Members.{membersFit}
-use Rattle.held_region.specs.Asked.{patientFits, parentFits}
+use Rattle.held_region.specs.Asked.{patientFits, noneOrBelow}
 use Rattle.held_region.specs.Refusals.{asked, lastAsked}
 use Rattle.held_region.specs.StandsFor.{Alike, same-left, one-asked, same-first, asked-yes, StandsFor}
 use Rattle.lent_region.specs.CutOff.{most, cut, cutOption, cutPatient, cutTable, cutOff, cut-low, cut-within, cut-below, cut-option-within, cut-option-below}
@@ -84,8 +84,8 @@ module _ (r : Region) (counted : countsTrue r ≡ true) (five : countsWithin r �
   parents-smaller-cut : parentsSmaller (cutOff r) ≡ parentsSmaller r
   unfolding parentsSmaller
   parents-smaller-cut =
-      ap (λ n. every (λ s. parentFits (patientAt (cutOff r) s .parent) s) (below n)) same-length
-      ∙ same-tests _ _ (length (r .patients)) (λ s l. ap (λ p. parentFits (p .parent) s) (patient-cut s) ∙ cut-option-below (patientAt r s .parent) s (omega (arith, patient-lines)))
+      ap (λ n. every (λ s. noneOrBelow (patientAt (cutOff r) s .parent) s) (below n)) same-length
+      ∙ same-tests _ _ (length (r .patients)) (λ s l. ap (λ p. noneOrBelow (p .parent) s) (patient-cut s) ∙ cut-option-below (patientAt r s .parent) s (omega (arith, patient-lines)))
     where
       same-length : length (cutOff r .patients) ≡ length (r .patients)
       same-length = unfold cutOff in length-map (r .patients) cutPatient
@@ -98,7 +98,7 @@ module _ (r : Region) (counted : countsTrue r ≡ true) (five : countsWithin r �
         let two = both (patientsWithin r) six in
         let p = patientAt r s in
         let fits = both (within clinic (p .clinic)) (every-at patientFits (r .patients) s (record { clinic = 0; bedCount = 0; parent = none }) l (two .0)) in
-        let smaller : parentFits (p .parent) s ≡ true = every-place _ _ s (two .1) l in
+        let smaller : noneOrBelow (p .parent) s ≡ true = every-place _ _ s (two .1) l in
         let c : cut (p .clinic) ≡ p .clinic = cut-low _ (omega (arith, at-most clinic _ (fits .0))) in
         let b : cut (p .bedCount) ≡ p .bedCount = cut-low _ (omega (arith, at-most bedCount _ (fits .1))) in
         ap₂ (λ x y. record { clinic = x; bedCount = y; parent = cutOption (p .parent) }) c b

@@ -12,7 +12,7 @@ ghost use Rattle.definitions.specs.Questions.{countsWithin, patientsWithin, par
 ghost use Rattle.held_region.specs.Meaning.{parentOf, patientOf, membersOf, said};
 ghost use Rattle.held_region.specs.Members.{membersFit, risesFrom};
 ghost use Rattle.held_region.specs.Sound.{HasPlaces};
-ghost use Rattle.held_region.specs.Asked.{patientFits, parentFits};
+ghost use Rattle.held_region.specs.Asked.{patientFits, noneOrBelow};
 
 // 5. Are V, T and m within their limits?
 pub fn counts_fit(region: Region) -> bool
@@ -46,7 +46,7 @@ pub fn patients_fit(region: Region) -> bool
 }
 
 fn parent_smaller(parent: Parent, s: usize) -> bool
-    ensures { λ a. ⌜ a ≡ parentFits (parentOf parent) s ⌝ }
+    ensures { λ a. ⌜ a ≡ noneOrBelow (parentOf parent) s ⌝ }
 {
     match parent {
         Parent::Root => true,

@@ -1,17 +1,17 @@
 // Clinics, members and ancestors as sets of patients, and question 10, which is asked of them.
-use held_region::Parent;
 use held_region::Region;
 use held_region::Table;
 use limits::Field;
 use limits::within;
 use patient_set::PatientSet;
+use scanner::Optional;
 ghost use mathlib.Core.Path.{_≡_};
 ghost use Prim.Native.Nat.{ℕ, _<_};
 ghost use Rattle.definitions.specs.Basics.{some, List, ltb, every, keep, contains};
 ghost use Rattle.definitions.specs.Syntax.{patientsOf};
 ghost use Rattle.definitions.specs.Questions.{membersRelated};
 ghost use Rattle.patient_set.specs.Sets.{inSet, members};
-ghost use Rattle.held_region.specs.Meaning.{parentOf, membersOf, said};
+ghost use Rattle.held_region.specs.Meaning.{optional, membersOf, said};
 ghost use Rattle.held_region.specs.Sound.{HasPlaces, ParentsFirst, Sound};
 ghost use Rattle.held_region.specs.Related.{MembersKnown, aboveOf, AncestorsHeld, setIn, chained};
 
@@ -76,13 +76,13 @@ pub fn is_among(table: Table, of: PatientSet) -> bool
 }
 
 // The ancestors of who has this parent: the parent, and its ancestors.
-fn above(sets: [PatientSet; 32], parent: Parent) -> PatientSet
-    requires { ⌜ ((p : ℕ) → parentOf parent ≡ some p → p < 32) ⌝ }
-    ensures { λ set. ⌜ ((q : ℕ) → inSet (set .0) q ≡ aboveOf sets (parentOf parent) q) ⌝ }
+fn above(sets: [PatientSet; 32], parent: Optional) -> PatientSet
+    requires { ⌜ ((p : ℕ) → optional parent ≡ some p → p < 32) ⌝ }
+    ensures { λ set. ⌜ ((q : ℕ) → inSet (set .0) q ≡ aboveOf sets (optional parent) q) ⌝ }
 {
     match parent {
-        Parent::Root => PatientSet::EMPTY,
-        Parent::Of(p) => {
+        Optional::Hyphen => PatientSet::EMPTY,
+        Optional::Number(p) => {
             let s = p as usize;
             let set = sets[s];
             set.add(s)

@@ -1,7 +1,7 @@
 use borrow.Author.Needs.{needs}
 use mathlib.Core.Path.{sym, ap}
 use native.Mathlib.Omega.{arith}
-use Rattle.held_region.specs.Meaning.{parentOf}
+use Rattle.held_region.specs.Meaning.{optional}
 use Rattle.forest.specs.Trees.{rootFrom}
 use Rattle.forest.proofs.root_number.Statement.{statement}
 use Rattle.forest.proofs.root_number.Tie as tie
@@ -22,13 +22,13 @@ mul-result : tie.Need-mul-result
 mul-result c = search needs
 
 array-read-result : tie.Need-array-read-result
-array-read-result c = omega (arith, c .before .before .before .pre .1 _ (ap parentOf (c .before .parent .given .1)))
+array-read-result c = omega (arith, c .before .before .before .pre .1 _ (ap optional (c .before .parent .given .1)))
 
 returns : tie.Need-returns
 returns c = search needs
 
 returns-2 : tie.Need-returns-2
-returns-2 c = sym (ap (λ p. rootFrom (c .before .before .before .args .t1) (c .before .before .before .args .s) (parentOf p)) (c .before .parent .given .1))
+returns-2 c = sym (ap (λ p. rootFrom (c .before .before .before .args .t1) (c .before .before .before .args .s) (optional p)) (c .before .parent .given .1))
 
 pub root-number-spec : {M : Type 1} → statement M
 root-number-spec =

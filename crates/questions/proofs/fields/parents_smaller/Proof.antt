@@ -4,14 +4,14 @@ use Prim.Native.Nat.{_-_}
 use Rattle.definitions.specs.Basics.{ℕ, List}
 use Rattle.definitions.specs.Questions.{parentsSmaller}
 use Rattle.held_region.specs.Meaning.{parentOf, patientIn, said}
-use Rattle.held_region.specs.Asked.{parentFits, parents-asked}
+use Rattle.held_region.specs.Asked.{noneOrBelow, parents-asked}
 use Rattle.lists.specs.Tests.{answered-no, answered-yes}
 use Rattle.lists.specs.Loops.{askedFrom, ask-all, ask-yes, ask-no, ask-done}
 use Rattle.questions.proofs.fields.parents_smaller.Statement.{statement}
 use Rattle.questions.proofs.fields.parents_smaller.Tie as tie
 
 abbrev Inv-loop : tie.InvT-loop
-Inv-loop region patients s₀ s = (store : List ℕ) → askedFrom (λ i. parentFits (parentOf (patientIn region i .parent)) i) (region .v) s ≡ parentsSmaller (said region store)
+Inv-loop region patients s₀ s = (store : List ℕ) → askedFrom (λ i. noneOrBelow (parentOf (patientIn region i .parent)) i) (region .v) s ≡ parentsSmaller (said region store)
 
 abbrev μ-loop : tie.MeasureT-loop
 μ-loop region patients s₀ s = region .v - s
