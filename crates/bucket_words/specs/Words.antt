@@ -1,16 +1,22 @@
 -- What the words of the buckets say, by their places.
 use Rattle.definitions.specs.Basics.{ℕ, _+_, _*_, List, getD}
 
--- ---- the words of a patient: its count of beds, the sum of its bucket's least numbers, and its bucket's first term
+-- ---- the words of a patient: its count of beds, its first permitted bed and their end, the sum of its bucket's least numbers, and its bucket's first term
 
 abbrev pub bedsAt : List ℕ → ℕ → ℕ
-bedsAt patients s = getD patients (s * 3) 0
+bedsAt patients s = getD patients (s * 5) 0
+
+abbrev pub firstBedAt : List ℕ → ℕ → ℕ
+firstBedAt patients s = getD patients (s * 5 + 1) 0
+
+abbrev pub bedEndAt : List ℕ → ℕ → ℕ
+bedEndAt patients s = getD patients (s * 5 + 2) 0
 
 abbrev pub leastAt : List ℕ → ℕ → ℕ
-leastAt patients s = getD patients (s * 3 + 1) 0
+leastAt patients s = getD patients (s * 5 + 3) 0
 
 abbrev pub firstAt : List ℕ → ℕ → ℕ
-firstAt patients s = getD patients (s * 3 + 2) 0
+firstAt patients s = getD patients (s * 5 + 4) 0
 
 -- ---- the words of a term: the start of its entries, the next term of the bucket, four members and their strides
 

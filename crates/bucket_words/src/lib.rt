@@ -1,7 +1,7 @@
 // The words of the buckets by what they say: only who writes them knows their places.
 ghost use mathlib.Core.Path.{_≡_};
 ghost use Prim.Native.Nat.{_<_};
-ghost use Rattle.bucket_words.specs.Words.{bedsAt, leastAt, firstAt, startAt, nextAt, memberAt, strideAt};
+ghost use Rattle.bucket_words.specs.Words.{bedsAt, firstBedAt, bedEndAt, leastAt, firstAt, startAt, nextAt, memberAt, strideAt};
 
 fn as_number(word: u32) -> usize
     ensures { λ n. ⌜ (n ≡ word) × (n < 4_294_967_296) ⌝ }
@@ -10,27 +10,42 @@ fn as_number(word: u32) -> usize
 }
 
 // How many beds a patient has.
-pub fn bed_count(patients: &[u32; 96], s: usize) -> usize
+pub fn bed_count(patients: &[u32; 160], s: usize) -> usize
     requires { ⌜ s < 32 ⌝ }
     ensures { λ n. ⌜ n ≡ bedsAt (now (patients .entry)) s ⌝ }
 {
-    as_number(patients[s * 3])
+    as_number(patients[s * 5])
+}
+
+// The permitted beds of a patient, from the first one to before the end: all that there are, or the fixed one.
+pub fn first_bed(patients: &[u32; 160], s: usize) -> usize
+    requires { ⌜ s < 32 ⌝ }
+    ensures { λ n. ⌜ n ≡ firstBedAt (now (patients .entry)) s ⌝ }
+{
+    as_number(patients[s * 5 + 1])
+}
+
+pub fn bed_end(patients: &[u32; 160], s: usize) -> usize
+    requires { ⌜ s < 32 ⌝ }
+    ensures { λ n. ⌜ n ≡ bedEndAt (now (patients .entry)) s ⌝ }
+{
+    as_number(patients[s * 5 + 2])
 }
 
 // The sum of the least numbers of a patient's bucket.
-pub fn least_cost(patients: &[u32; 96], s: usize) -> usize
+pub fn least_cost(patients: &[u32; 160], s: usize) -> usize
     requires { ⌜ s < 32 ⌝ }
     ensures { λ n. ⌜ (n ≡ leastAt (now (patients .entry)) s) × (n < 4_294_967_296) ⌝ }
 {
-    as_number(patients[s * 3 + 1])
+    as_number(patients[s * 5 + 3])
 }
 
 // The first term of a patient's bucket, 64 where it is empty.
-pub fn first_term(patients: &[u32; 96], s: usize) -> usize
+pub fn first_term(patients: &[u32; 160], s: usize) -> usize
     requires { ⌜ s < 32 ⌝ }
     ensures { λ k. ⌜ k ≡ firstAt (now (patients .entry)) s ⌝ }
 {
-    as_number(patients[s * 3 + 2])
+    as_number(patients[s * 5 + 4])
 }
 
 // Where a term's entries begin in the store.

@@ -16,7 +16,7 @@ module _ {store : List ℕ} {t : Table} {k start : ℕ} {patients before : List 
   s = lastOf t
 
   abbrev counted : List ℕ
-  counted = set (set patients (s * 3 + 1) (leastAt patients s + least)) (s * 3 + 2) k
+  counted = set (set patients (s * 5 + 3) (leastAt patients s + least)) (s * 5 + 4) k
 
   abbrev after : List ℕ
   after = set (set written (k * 10) start) (k * 10 + 1) (firstAt patients s)
@@ -24,8 +24,8 @@ module _ {store : List ℕ} {t : Table} {k start : ℕ} {patients before : List 
   kept : (p : ℕ) → (p ≡ k * 10 → ⊥) → (p ≡ k * 10 + 1 → ⊥) → getD after p 0 ≡ getD written p 0
   kept = two-other written (k * 10) (k * 10 + 1) start (firstAt patients s)
 
-  same : (p : ℕ) → (p ≡ s * 3 + 1 → ⊥) → (p ≡ s * 3 + 2 → ⊥) → getD counted p 0 ≡ getD patients p 0
-  same = two-other patients (s * 3 + 1) (s * 3 + 2) (leastAt patients s + least) k
+  same : (p : ℕ) → (p ≡ s * 5 + 3 → ⊥) → (p ≡ s * 5 + 4 → ⊥) → getD counted p 0 ≡ getD patients p 0
+  same = two-other patients (s * 5 + 3) (s * 5 + 4) (leastAt patients s + least) k
 
   room : k * 10 + 1 < length written
   room = omega (arith, w .others .wide, known .members .wide, known .members .term)
@@ -49,14 +49,16 @@ module _ {store : List ℕ} {t : Table} {k start : ℕ} {patients before : List 
         members = members-kept;
         starts = two-first written (k * 10) (k * 10 + 1) start (firstAt patients s) (omega (arith, room)) (λ z. omega arith);
         next = two-second written (k * 10) (k * 10 + 1) start (firstAt patients s) room;
-        wide = two-length patients (s * 3 + 1) (s * 3 + 2) (leastAt patients s + least) k ∙ known .wide;
-        beds = λ q. same (q * 3) (λ z. omega arith) (λ z. omega arith);
+        wide = two-length patients (s * 5 + 3) (s * 5 + 4) (leastAt patients s + least) k ∙ known .wide;
+        beds = λ q. same (q * 5) (λ z. omega arith) (λ z. omega arith);
+        firstBed = λ q. same (q * 5 + 1) (λ z. omega arith) (λ z. omega arith);
+        bedEnd = λ q. same (q * 5 + 2) (λ z. omega arith) (λ z. omega arith);
         least =
-            two-first patients (s * 3 + 1) (s * 3 + 2) (leastAt patients s + least) k (omega (arith, known .wide, known .last .patient)) (λ z. omega arith)
+            two-first patients (s * 5 + 3) (s * 5 + 4) (leastAt patients s + least) k (omega (arith, known .wide, known .last .patient)) (λ z. omega arith)
             ∙ ap (λ n. leastAt patients s + n) is;
-        first = two-second patients (s * 3 + 1) (s * 3 + 2) (leastAt patients s + least) k (omega (arith, known .wide, known .last .patient));
-        otherLeast = λ q n. same (q * 3 + 1) (λ z. n (omega arith)) (λ z. omega arith);
-        otherFirst = λ q n. same (q * 3 + 2) (λ z. omega arith) (λ z. n (omega arith));
+        first = two-second patients (s * 5 + 3) (s * 5 + 4) (leastAt patients s + least) k (omega (arith, known .wide, known .last .patient));
+        otherLeast = λ q n. same (q * 5 + 3) (λ z. n (omega arith)) (λ z. omega arith);
+        otherFirst = λ q n. same (q * 5 + 4) (λ z. omega arith) (λ z. n (omega arith));
       }
 
   -- As the code has it, with the member that it found.
@@ -64,6 +66,6 @@ module _ {store : List ℕ} {t : Table} {k start : ℕ} {patients before : List 
   least-fits e = omega (arith, ap (leastAt patients) e, is, known .fits)
 
   pub term-put : {n : ℕ} → n ≡ lastOf t
-      → TermAdded store t k start patients (set (set patients (n * 3 + 1) (leastAt patients n + least)) (n * 3 + 2) k) before
+      → TermAdded store t k start patients (set (set patients (n * 5 + 3) (leastAt patients n + least)) (n * 5 + 4) k) before
       (set (set written (k * 10) start) (k * 10 + 1) (firstAt patients n))
   term-put e = rw e term-added

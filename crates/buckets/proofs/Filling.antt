@@ -10,9 +10,7 @@ use lib.Seq.{drop-cons}
 use Rattle.definitions.specs.Basics.{ℕ, suc, _+_, _-_, _*_, _<_, Bool, true, false, cond, List, [], _∷_, map, length, getD, eqb, sum, keep}
 use Rattle.definitions.specs.Syntax as Said
 use Rattle.definitions.specs.Syntax.{patientAt}
-use Rattle.definitions.specs.Plans.{constraints}
 use Rattle.theorems.specs.Accepted.{Accepted, member-at, patients-few, tables-few, entries-few, beds-few}
-use Rattle.partial_rows.specs.Rows.{decidedTables}
 use Rattle.partial_rows.specs.Bounds.{leastEntry}
 use Rattle.held_region.specs.declared.Table.{Table}
 use Rattle.held_region.specs.declared.Region.{Region}
@@ -21,7 +19,8 @@ use Rattle.held_region.specs.Meaning.{tableIn, startIn, said}
 use Rattle.held_region.specs.Asked.{patients-said, patient-said, starts-said, stands}
 use Rattle.held_region.specs.Sound.{accepted-sound}
 use Rattle.held_region.specs.Entries.{CountsSmall, counts-match, counts-small}
-use Rattle.bucket_words.specs.Words.{bedsAt, leastAt, firstAt}
+use Rattle.bucket_words.specs.Words.{bedsAt, firstBedAt, bedEndAt, leastAt, firstAt}
+use Rattle.buckets.specs.Permitted.{firstPermitted, permittedEnd}
 use Rattle.buckets.specs.Terms.{Term, Chain, Prepared, highest, bucketOf, leastIn}
 use Rattle.buckets.specs.Least.{leastNumber}
 use Rattle.buckets.specs.Places.{strideOf, stride-same}
@@ -41,6 +40,8 @@ bucketFrom test r i s = keep (highest s) (keep test (drop i (r .tables)))
 pub record Filled (test : Said.Table → Bool) (r : Said.Region) (store : List ℕ) (i start : ℕ) (patients terms : List ℕ) : Type 0 where
   pub starts : start ≡ startOf (r .tables) i
   pub beds : (s : ℕ) → s < length (r .patients) → bedsAt patients s ≡ patientAt r s .bedCount
+  pub firstBed : (s : ℕ) → s < length (r .patients) → firstBedAt patients s ≡ firstPermitted (patientAt r s)
+  pub bedEnd : (s : ℕ) → s < length (r .patients) → bedEndAt patients s ≡ permittedEnd (patientAt r s)
   pub least : (s : ℕ) → s < length (r .patients) → leastAt patients s ≡ sum (map leastEntry (bucketFrom test r i s))
   pub bucket : (s : ℕ) → s < length (r .patients) → Chain (withTables r test) store terms i (firstAt patients s) (bucketFrom test r i s)
 
@@ -56,6 +57,8 @@ module _ (h : Region) (store : List ℕ) (test : Said.Table → Bool) (a : Accep
       record {
         starts = total ∙ sym (starts-said h store (h .t) (omega arith));
         beds = λ s l. w .beds s (known s l) ∙ ap (λ p. p .bedCount) (sym (patient-said h store s (known s l)));
+        firstBed = λ s l. w .firstBed s (known s l) ∙ ap firstPermitted (sym (patient-said h store s (known s l)));
+        bedEnd = λ s l. w .bedEnd s (known s l) ∙ ap permittedEnd (sym (patient-said h store s (known s l)));
         least = λ s l. w .least s ∙ sym (ap (λ ts. sum (map leastEntry (keep (highest s) (keep test ts)))) none-left);
         bucket = λ s l. subst (λ ts. Chain (withTables r test) store terms (h .t) (firstAt words s) (keep (highest s) (keep test ts))) (sym none-left) (w .first s (known s l));
       }
@@ -68,8 +71,8 @@ module _ (h : Region) (store : List ℕ) (test : Said.Table → Bool) (a : Accep
 
   -- All tables.
   pub filled-all : (start : ℕ) (patients terms : List ℕ) → Filled test r store 0 start patients terms → Prepared (withTables r test) store patients terms
-  unfolding bucketOf leastIn decidedTables constraints patientAt
-  filled-all start patients terms f = record { accepted = accepted-with r test a; beds = f .beds; least = f .least; bucket = f .bucket }
+  unfolding bucketOf leastIn patientAt
+  filled-all start patients terms f = record { accepted = accepted-with r test a; beds = f .beds; firstBed = f .firstBed; bedEnd = f .bedEnd; least = f .least; bucket = f .bucket }
 
   -- One more table.
   module _ (i : ℕ) (l : i < h .t) (start : ℕ) (patients terms : List ℕ) (f : Filled test r store (suc i) start patients terms) where
@@ -102,7 +105,7 @@ module _ (h : Region) (store : List ℕ) (test : Said.Table → Bool) (a : Accep
     member-known j m =
         omega (arith, first-same h store a i l j m, member-at (held-right h store a i l) j (omega (arith, count-same h store a i l)))
 
-    pub term-known : length patients ≡ 96 → length terms ≡ 640 → TermKnown store table i from patients terms
+    pub term-known : length patients ≡ 160 → length terms ≡ 640 → TermKnown store table i from patients terms
     term-known wide termsWide =
         record {
           members =
@@ -136,6 +139,8 @@ module _ (h : Region) (store : List ℕ) (test : Said.Table → Bool) (a : Accep
         record {
           starts = from-is;
           beds = f .beds;
+          firstBed = f .firstBed;
+          bedEnd = f .bedEnd;
           least = λ s m. f .least s m ∙ sym (ap (λ ts. sum (map leastEntry ts)) (over s));
           bucket = λ s m.
               subst (λ ts. Chain (withTables r test) store terms i (firstAt patients s) ts) (sym (over s))
@@ -203,6 +208,8 @@ module _ (h : Region) (store : List ℕ) (test : Said.Table → Bool) (a : Accep
           record {
             starts = from-is;
             beds = λ s m. w .beds s ∙ f .beds s m;
+            firstBed = λ s m. w .firstBed s ∙ f .firstBed s m;
+            bedEnd = λ s m. w .bedEnd s ∙ f .bedEnd s m;
             least = λ s m. least-of s m (ℕ-discrete s (lastOf table));
             bucket = λ s m. bucket-of s m (ℕ-discrete s (lastOf table));
           }
@@ -211,7 +218,7 @@ module _ (h : Region) (store : List ℕ) (test : Said.Table → Bool) (a : Accep
 
 -- At place i: the terms below it are blank, and the tables that pass from it on are in their buckets.
 pub record Filling (h : Region) (store : List ℕ) (test : Said.Table → Bool) (i start : ℕ) (patients terms : List ℕ) : Type 0 where
-  pub wide : length patients ≡ 96
+  pub wide : length patients ≡ 160
   pub termsWide : length terms ≡ 640
   pub left : i ≤ h .t
   pub few : i ≤ 64

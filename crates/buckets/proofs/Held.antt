@@ -4,24 +4,24 @@ use Prim.Native.Nat.{_≤_}
 use native.Mathlib.Omega.{arith}
 use borrow.Author.Tests.{lt-ltb}
 use lib.ListN.{drop, length-drop}
-use Rattle.definitions.specs.Basics.{ℕ, zero, suc, _+_, _-_, _*_, _<_, refl, Bool, true, false, cond, Option, none, some, Option·getD, noneOr, List, [], _∷_, map, length, getD, ltb, sum, every, keep}
-use Rattle.definitions.specs.Limits.{limits, within, entry}
+use Rattle.definitions.specs.Basics.{ℕ, zero, suc, _+_, _-_, _*_, _<_, refl, Bool, true, false, _&&_, cond, Option, none, some, Option·getD, noneOr, List, [], _∷_, map, length, getD, ltb, sum, every, keep}
+use Rattle.definitions.specs.Limits.{limits, within, clinic, bedCount, entry}
 use Rattle.definitions.specs.Questions.{entriesWithin}
 use Rattle.definitions.specs.Syntax as Said
 use Rattle.lists.specs.Tests.{both}
 use Rattle.lists.specs.Members.{getD-in}
 use Rattle.lists.specs.Every.{every-weaken}
 use Rattle.lists.specs.Keep.{keep-short, every-keep}
-use Rattle.lists.specs.Below.{length-by-places, at-place}
+use Rattle.lists.specs.Below.{length-by-places, at-place, every-place}
 use Rattle.theorems.specs.Accepted.{Accepted, at-most, TableRight, member-at, table-right, tables-few, mostTotal}
 use Rattle.partial_rows.specs.Bounds.{smaller, leastOf, leastEntry}
 use Rattle.held_region.specs.declared.Table.{Table}
 use Rattle.held_region.specs.declared.Region.{Region}
-use Rattle.held_region.specs.Meaning.{mark, said, tableIn, membersOf}
+use Rattle.held_region.specs.Meaning.{mark, said, patientIn, tableIn, membersOf}
 use Rattle.held_region.specs.Stores.{tableAt, startOf}
-use Rattle.held_region.specs.Asked.{tables-said, members-said, entries-said, stands}
+use Rattle.held_region.specs.Asked.{patients-asked, tables-said, members-said, entries-said, stands}
 use Rattle.buckets.specs.Least.{leastNumber, least-of-entries}
-use Rattle.buckets.specs.Written.{lastOf}
+use Rattle.buckets.specs.Written.{FixedFit, lastOf}
 
 -- ---- least numbers
 
@@ -65,6 +65,12 @@ every-drop p (suc i) (x ∷ l) all = every-drop p i l (both (p x) all .1)
 module _ (h : Region) (store : List ℕ) (a : Accepted (said h store)) where
   abbrev r : Said.Region
   r = said h store
+
+  -- Each fixed bed is one of the patient's beds.
+  pub fixed-fit : FixedFit (h .patients) (h .v)
+  fixed-fit s l =
+      let fits = every-place _ (h .v) s (sym (patients-asked h store) ∙ a .patientsFit) l in
+      both (within clinic (patientIn h s .clinic) && within bedCount (patientIn h s .beds)) fits .1
 
   pub held-lines : length (r .tables) ≡ h .t
   held-lines = tables-said h store

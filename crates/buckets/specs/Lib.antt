@@ -1,3 +1,4 @@
+pub mod Permitted
 pub mod Terms
 pub mod Places
 pub mod Least

@@ -2,15 +2,16 @@
 use Prim.Native.Nat.{_≤_}
 use native.Mathlib.Omega.{arith}
 use lib.ListN.{set}
-use Rattle.definitions.specs.Basics.{ℕ, suc, _+_, _*_, _<_, _≡_, Bool, true, not, _&&_, some, List, [], _∷_, map, length, getD, ltb, sum, below}
+use Rattle.definitions.specs.Basics.{ℕ, suc, _+_, _*_, _<_, _≡_, Bool, true, not, _&&_, some, List, [], _∷_, map, length, getD, ltb, sum, keep, below}
 use Rattle.definitions.specs.Syntax.{Table, Region, patientAt}
 use Rattle.definitions.specs.Plans.{Plan, bedOf, entryFor}
 use Rattle.theorems.specs.Accepted.{Accepted, beds-few}
 use Rattle.partial_rows.specs.Sets.{only}
-use Rattle.partial_rows.specs.Rows.{holds, decidedTables}
+use Rattle.partial_rows.specs.Rows.{holds}
 use Rattle.partial_rows.specs.Bounds.{leastEntry}
 use Rattle.held_region.specs.Meaning.{codeOf}
-use Rattle.bucket_words.specs.Words.{bedsAt, leastAt, firstAt, startAt, nextAt, memberAt, strideAt}
+use Rattle.buckets.specs.Permitted.{firstPermitted, permittedEnd}
+use Rattle.bucket_words.specs.Words.{bedsAt, firstBedAt, bedEndAt, leastAt, firstAt, startAt, nextAt, memberAt, strideAt}
 
 -- A plan with each bed below its patient's count.
 abbrev pub Fitting : Region → Plan → Type 0
@@ -26,7 +27,7 @@ highest s t = holds (only s) t && not (holds (ltb s) t)
 
 -- The bucket of a patient: the tables whose highest member it is. The sum of their least numbers.
 unfoldable pub bucketOf : Region → ℕ → List Table
-bucketOf r s = decidedTables r (only s) (ltb s)
+bucketOf r s = keep (highest s) (r .tables)
 
 unfoldable pub leastIn : Region → ℕ → ℕ
 leastIn r s = sum (map leastEntry (bucketOf r s))
@@ -52,9 +53,11 @@ unfoldable pub Chain : Region → List ℕ → List ℕ → ℕ → ℕ → List
 Chain r store terms low p [] = p ≡ 64
 Chain r store terms low p (t ∷ ts) = (low ≤ p) × (p < 64) × Term r store terms p t × Chain r store terms (suc p) (nextAt terms p) ts
 
--- The words say each patient's count of beds, the sum of its bucket's least numbers, and its bucket.
+-- The words say each patient's count of beds, its permitted beds, the sum of its bucket's least numbers, and its bucket.
 pub record Prepared (r : Region) (store patients terms : List ℕ) : Type 0 where
   pub accepted : Accepted r
   pub beds : (s : ℕ) → s < length (r .patients) → bedsAt patients s ≡ patientAt r s .bedCount
+  pub firstBed : (s : ℕ) → s < length (r .patients) → firstBedAt patients s ≡ firstPermitted (patientAt r s)
+  pub bedEnd : (s : ℕ) → s < length (r .patients) → bedEndAt patients s ≡ permittedEnd (patientAt r s)
   pub least : (s : ℕ) → s < length (r .patients) → leastAt patients s ≡ leastIn r s
   pub bucket : (s : ℕ) → s < length (r .patients) → Chain r store terms 0 (firstAt patients s) (bucketOf r s)

@@ -1,18 +1,26 @@
 -- What the code writes, word by word.
 use Prim.Native.Nat.{_≤_}
-use Rattle.definitions.specs.Basics.{ℕ, _+_, _*_, _-_, _^_, _<_, _≡_, List, map, getD, length, product}
+use Rattle.definitions.specs.Basics.{ℕ, _+_, _*_, _-_, _^_, _<_, _≡_, true, List, map, getD, length, product}
 use Rattle.held_region.specs.declared.Patient.{Patient}
 use Rattle.held_region.specs.declared.Table.{Table}
-use Rattle.held_region.specs.Meaning.{noPatient, membersOf}
+use Rattle.held_region.specs.Meaning.{optional, patientOf, noPatient, membersOf}
+use Rattle.held_region.specs.Asked.{noneOrBelow}
 use Rattle.held_region.specs.Members.{membersFrom}
-use Rattle.bucket_words.specs.Words.{startAt, nextAt, memberAt, strideAt, bedsAt, leastAt, firstAt}
+use Rattle.bucket_words.specs.Words.{startAt, nextAt, memberAt, strideAt, bedsAt, firstBedAt, bedEndAt, leastAt, firstAt}
+use Rattle.buckets.specs.Permitted.{firstPermitted, permittedEnd}
 use Rattle.buckets.specs.Places.{strideOf}
 use Rattle.buckets.specs.Least.{leastNumber}
 
+-- Each fixed bed is one of the patient's beds.
+abbrev pub FixedFit : List Patient → ℕ → Type 0
+FixedFit patients v = (s : ℕ) → s < v → noneOrBelow (optional (getD patients s noPatient .fixed)) (getD patients s noPatient .beds) ≡ true
+
 -- The words of the first patients: their beds, and no term yet.
 pub record PatientsWritten (patients : List Patient) (v : ℕ) (words : List ℕ) : Type 0 where
-  pub wide : length words ≡ 96
+  pub wide : length words ≡ 160
   pub beds : (s : ℕ) → s < v → bedsAt words s ≡ getD patients s noPatient .beds
+  pub firstBed : (s : ℕ) → s < v → firstBedAt words s ≡ firstPermitted (patientOf (getD patients s noPatient))
+  pub bedEnd : (s : ℕ) → s < v → bedEndAt words s ≡ permittedEnd (patientOf (getD patients s noPatient))
   pub least : (s : ℕ) → leastAt words s ≡ 0
   pub first : (s : ℕ) → s < v → firstAt words s ≡ 64
 
@@ -60,7 +68,7 @@ pub record LastKnown (t : Table) : Type 0 where
 -- What adding a term relies on: its entries are in the store, and the sum of the least numbers fits.
 pub record TermKnown (store : List ℕ) (t : Table) (k start : ℕ) (patients terms : List ℕ) : Type 0 where
   pub members : MembersWritable patients t k terms
-  pub wide : length patients ≡ 96
+  pub wide : length patients ≡ 160
   pub last : LastKnown t
   pub inside : start + t .entries ≤ 4096
   pub fits : leastAt patients (lastOf t) + leastNumber store start (start + t .entries) < 2 ^ 32
@@ -70,8 +78,10 @@ pub record TermAdded (store : List ℕ) (t : Table) (k start : ℕ) (patients af
   pub members : MembersWritten patients t k before after
   pub starts : startAt after k ≡ start
   pub next : nextAt after k ≡ firstAt patients (lastOf t)
-  pub wide : length afterPatients ≡ 96
+  pub wide : length afterPatients ≡ 160
   pub beds : (s : ℕ) → bedsAt afterPatients s ≡ bedsAt patients s
+  pub firstBed : (s : ℕ) → firstBedAt afterPatients s ≡ firstBedAt patients s
+  pub bedEnd : (s : ℕ) → bedEndAt afterPatients s ≡ bedEndAt patients s
   pub least : leastAt afterPatients (lastOf t) ≡ leastAt patients (lastOf t) + leastNumber store start (start + t .entries)
   pub first : firstAt afterPatients (lastOf t) ≡ k
   pub otherLeast : (s : ℕ) → (s ≡ lastOf t → ⊥) → leastAt afterPatients s ≡ leastAt patients s

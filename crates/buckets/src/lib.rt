@@ -6,37 +6,64 @@ use held_region::Region;
 use held_region::Table;
 use patient_set::PatientSet;
 use region_sets::is_among;
+use scanner::Optional;
 ghost use mathlib.Core.Path.{_≡_};
 ghost use Prim.Native.Nat.{_≤_, _<_};
 ghost use Rattle.theorems.specs.Accepted.{Accepted};
-ghost use Rattle.held_region.specs.Meaning.{said};
+ghost use Rattle.definitions.specs.Basics.{true};
+ghost use Rattle.held_region.specs.Meaning.{optional, said};
+ghost use Rattle.held_region.specs.Asked.{noneOrBelow};
+ghost use Rattle.buckets.specs.Permitted.{firstOf, endOf};
 ghost use Rattle.buckets.specs.WithTables.{withTables};
 ghost use Rattle.buckets.specs.Among.{isAmong};
 ghost use Rattle.buckets.specs.Terms.{Prepared};
 ghost use Rattle.buckets.specs.Least.{leastNumber};
-ghost use Rattle.buckets.specs.Written.{PatientsWritten, MembersWritable, MembersWritten, LastKnown, lastOf, TermKnown, TermAdded};
+ghost use Rattle.buckets.specs.Written.{FixedFit, PatientsWritten, MembersWritable, MembersWritten, LastKnown, lastOf, TermKnown, TermAdded};
 
-// For each patient three words: its count of beds, the sum of the least numbers of its bucket, and the first term of its bucket.
+// For each patient five words: its count of beds, its first permitted bed, the end of these, the sum of the least numbers of its bucket, and the first term of its bucket.
 // For each table a term of ten words: the start of its entries, the next term of the bucket, four members and their strides.
 pub struct Buckets {
-    pub patients: [u32; 96],
+    pub patients: [u32; 160],
     pub terms: [u32; 640],
 }
 
 // The end of a bucket: no table has this number.
 const NO_TERM: u32 = 64;
 
+// The permitted beds are all, or the fixed one: the first, and the end behind the last.
+fn first_permitted(fixed: Optional) -> u32
+    ensures { λ n. ⌜ n ≡ firstOf (optional fixed) ⌝ }
+{
+    match fixed {
+        Optional::Hyphen => 0,
+        Optional::Number(bed) => bed,
+    }
+}
+
+fn permitted_end(fixed: Optional, beds: u32) -> u32
+    requires { ⌜ noneOrBelow (optional fixed) beds ≡ true ⌝ }
+    ensures { λ n. ⌜ n ≡ endOf (optional fixed) beds ⌝ }
+{
+    match fixed {
+        Optional::Hyphen => beds,
+        Optional::Number(bed) => bed + 1,
+    }
+}
+
 // The words of the patients before any table is put into its bucket.
-fn patient_words(patients: [Patient; 32], v: usize) -> [u32; 96]
-    requires { ⌜ v ≤ 32 ⌝ }
+fn patient_words(patients: [Patient; 32], v: usize) -> [u32; 160]
+    requires { ⌜ (v ≤ 32) × FixedFit patients v ⌝ }
     ensures { λ words. ⌜ PatientsWritten patients v words ⌝ }
 {
-    let mut words = [0u32; 96];
+    let mut words = [0u32; 160];
     let mut s = 0;
     while s < v {
         let patient = patients[s];
-        words[s * 3] = patient.beds;
-        words[s * 3 + 2] = NO_TERM;
+        let fixed = patient.fixed;
+        words[s * 5] = patient.beds;
+        words[s * 5 + 1] = first_permitted(fixed);
+        words[s * 5 + 2] = permitted_end(fixed, patient.beds);
+        words[s * 5 + 4] = NO_TERM;
         s += 1;
     }
     words
@@ -60,7 +87,7 @@ fn least_number(entries: &[u32; 4096], from: usize, to: usize) -> u32
 }
 
 // The members of a table, and for each the product of the bed counts of the members after it.
-fn write_members(terms: &mut [u32; 640], patients: &[u32; 96], table: Table, k: usize)
+fn write_members(terms: &mut [u32; 640], patients: &[u32; 160], table: Table, k: usize)
     requires { ⌜ MembersWritable (now patients) table k (now terms) ⌝ }
     ensures { λ r. ⌜ MembersWritten (now (patients .entry)) table k (now (terms .entry)) (now (terms .exit)) ⌝ }
 {
@@ -72,7 +99,7 @@ fn write_members(terms: &mut [u32; 640], patients: &[u32; 96], table: Table, k: 
         let s = member as usize;
         terms[k * 10 + 2 + j] = member;
         terms[k * 10 + 6 + j] = stride;
-        stride = stride * patients[s * 3];
+        stride = stride * patients[s * 5];
     }
 }
 
@@ -87,7 +114,7 @@ fn highest_member(table: Table) -> usize
 
 // A table as a term in front of the bucket of its highest member.
 fn add_term(
-    patients: &mut [u32; 96],
+    patients: &mut [u32; 160],
     terms: &mut [u32; 640],
     entries: &[u32; 4096],
     table: Table,
@@ -101,9 +128,9 @@ fn add_term(
     write_members(terms, patients, table, k);
     let s = highest_member(table);
     terms[k * 10] = start as u32;
-    terms[k * 10 + 1] = patients[s * 3 + 2];
-    patients[s * 3 + 1] += least;
-    patients[s * 3 + 2] = k as u32;
+    terms[k * 10 + 1] = patients[s * 5 + 4];
+    patients[s * 5 + 3] += least;
+    patients[s * 5 + 4] = k as u32;
 }
 
 // Every table among the patients of a set as a term in the bucket of its highest member.

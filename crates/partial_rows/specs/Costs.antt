@@ -37,16 +37,15 @@ holds-split {D} {E} {F} split t = go (t .members)
     go [] = refl
     go (s ∷ members) = ap (λ b. D s || b) (go members) ∙ one (any E members) (any F members) (split s)
 
--- So the sum over its tables is that over the tables of the second part and that over the tables that are decided without it.
-pub cost-split : (region : Region) {D E F : Patients} → Splits D E F → (plan : Plan)
-    → costOver (tablesOf region D) region plan ≡ plus (costOver (tablesOf region F) region plan) (costOver (decidedTables region E F) region plan)
-unfolding costOver tablesOf decidedTables
-cost-split region {D} {E} {F} split plan =
-    sum-split (entryFor region plan) (holds F) (keep (holds D) (constraints region))
+-- So the sum over its tables is that over the tables of the second part and that over the tables that are decided without it: of some tables,
+pub tables-split : (region : Region) {D E F : Patients} → Splits D E F → (plan : Plan) (l : List Table)
+    → costOver (keep (holds D) l) region plan ≡ plus (costOver (keep (holds F) l) region plan) (costOver (keep (λ t. holds E t && not (holds F t)) l) region plan)
+unfolding costOver
+tables-split region {D} {E} {F} split plan l =
+    sum-split (entryFor region plan) (holds F) (keep (holds D) l)
     ∙ ap₂ (λ l k. plus (costOver l region plan) (costOver k region plan))
-    (keep-keep (holds F) (holds D) (constraints region) ∙ keep-same _ _ (constraints region) (λ t k. rw (holds-split split t) (in-second (holds E t) (holds F t))))
-    (keep-keep (λ t. not (holds F t)) (holds D) (constraints region)
-    ∙ keep-same _ _ (constraints region) (λ t k. rw (holds-split split t) (not-in-second (holds E t) (holds F t))))
+    (keep-keep (holds F) (holds D) l ∙ keep-same _ _ l (λ t k. rw (holds-split split t) (in-second (holds E t) (holds F t))))
+    (keep-keep (λ t. not (holds F t)) (holds D) l ∙ keep-same _ _ l (λ t k. rw (holds-split split t) (not-in-second (holds E t) (holds F t))))
   where
     in-second : (a b : Bool) → ((a || b) && b) ≡ b
     in-second true b = refl
@@ -57,3 +56,9 @@ cost-split region {D} {E} {F} split plan =
     not-in-second true b = refl
     not-in-second false true = refl
     not-in-second false false = refl
+
+-- and of all constraints.
+pub cost-split : (region : Region) {D E F : Patients} → Splits D E F → (plan : Plan)
+    → costOver (tablesOf region D) region plan ≡ plus (costOver (tablesOf region F) region plan) (costOver (decidedTables region E F) region plan)
+unfolding tablesOf decidedTables
+cost-split region split plan = tables-split region split plan (constraints region)

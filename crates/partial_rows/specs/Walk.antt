@@ -1,6 +1,7 @@
 -- The moves of a walk: how the list of the first m rows found so far grows, bed by bed, by the rows of a branch.
 use mathlib.Core.Logic.{_⊎_, inl, inr, _↔_}
 use native.Mathlib.Nat.{eq-or-lt-of-le}
+use native.Mathlib.Decide.{decLt}
 use native.Mathlib.Omega.{arith}
 use lib.ListN.{set, length-replicate}
 use Prim.Native.Nat.{_≤_}
@@ -68,9 +69,11 @@ module _ {region : Region} {D F : Patients} (s : ℕ) (split : Splits D (only s)
   more : {b : ℕ} {mid l : List Row} → Grown rowOrder m old (Below b) mid → Grown rowOrder m mid (At b) l → Grown rowOrder m old (Below (suc b)) l
   more {b} h g = grown-iff (λ z. below-suc region D placed u s b z .1) (λ z. below-suc region D placed u s b z .0) (grown-then h g)
 
-  -- No bed yet.
-  pub walk-none : Grown rowOrder m old (Below 0) old
-  walk-none = grown-none ready (λ z h. omega (arith, h .1))
+  -- No bed yet: those below the first one are forbidden.
+  pub walk-none : (first : ℕ) → ((b : ℕ) → b < first → b < patientAt region s .bedCount → costOver (decidedTables region (only s) F) region (set placed s b) ≡ none)
+      → Grown rowOrder m old (Below first) old
+  walk-none first forbidden =
+      grown-none ready (λ z h. branch-forbidden s split position (bedOf (z .beds) s) (forbidden (bedOf (z .beds) s) (h .1) (branch-bed-below s split position (h .0))) z (h .0) refl)
 
   -- One more bed: the branch below it may be walked, and then its rows are found.
   module _ {b c : ℕ} {mid : List Row} (fits : b < patientAt region s .bedCount)
@@ -90,6 +93,13 @@ module _ {region : Region} {D F : Patients} (s : ℕ) (split : Splits D (only s)
       here : Ready rowOrder m mid (At b)
       here = ready-then (λ z h k. omega (arith, h .1, k .1)) (ready-iff (λ z k. k .0) ready) found
 
-  -- All beds.
-  pub walk-all : {l : List Row} → Grown rowOrder m old (Below (patientAt region s .bedCount)) l → Grown rowOrder m old (Branch region D placed u) l
-  walk-all h = grown-iff (λ z k. k .0) (λ z k. (k, branch-bed-below s split position k)) h
+  -- All beds: those from the end on are forbidden.
+  pub walk-all : {l : List Row} (end : ℕ) → ((b : ℕ) → end ≤ b → b < patientAt region s .bedCount → costOver (decidedTables region (only s) F) region (set placed s b) ≡ none)
+      → Grown rowOrder m old (Below end) l → Grown rowOrder m old (Branch region D placed u) l
+  walk-all end forbidden h = grown-iff (λ z k. k .0) (λ z k. (k, inside z k)) h
+    where
+      inside : (z : Row) → Branch region D placed u z → bedOf (z .beds) s < end
+      inside z k = elim (decLt (bedOf (z .beds) s) end) [
+        | yes l ↦ l
+        | no l ↦ absurd (branch-forbidden s split position (bedOf (z .beds) s) (forbidden (bedOf (z .beds) s) (omega arith) (branch-bed-below s split position k)) z k refl)
+      ]

@@ -36,41 +36,43 @@ add-number sum entry small number other fits =
 -- ---- one more entry for each bed
 
 -- Where the loop stands: the beds below the next one have their entry, the others wait.
-pub record Added (store : List ℕ) (from count : ℕ) (sums now : List ℕ) (bed : ℕ) : Type 0 where
-  pub few : bed ≤ count
+pub record Added (store : List ℕ) (from first end : ℕ) (sums now : List ℕ) (bed : ℕ) : Type 0 where
+  pub begun : first ≤ bed
+  pub few : bed ≤ end
   pub long : length now ≡ 16
-  pub done : (b : ℕ) → b < bed → sumIn (getD now b 0) ≡ plus (sumIn (getD sums b 0)) (entryIn (getD store (from + b) 0))
+  pub done : (b : ℕ) → first ≤ b → b < bed → sumIn (getD now b 0) ≡ plus (sumIn (getD sums b 0)) (entryIn (getD store (from + b) 0))
   pub waiting : (b : ℕ) → bed ≤ b → getD now b 0 ≡ getD sums b 0
 
-module _ {store : List ℕ} {from count : ℕ} {sums : List ℕ} (asks : AsksEntries store from count sums) where
-  pub added-start : Added store from count sums sums 0
-  added-start = record { few = omega arith; long = asks .long; done = λ b h. absurd (omega arith); waiting = λ b h. refl }
+module _ {store : List ℕ} {from first end : ℕ} {sums : List ℕ} (asks : AsksEntries store from first end sums) where
+  pub added-start : Added store from first end sums sums first
+  added-start = record { begun = omega arith; few = asks .ordered; long = asks .long; done = λ b l h. absurd (omega arith); waiting = λ b h. refl }
 
-  module _ {now : List ℕ} {bed : ℕ} (added : Added store from count sums now bed) (more : bed < count) where
+  module _ {now : List ℕ} {bed : ℕ} (added : Added store from first end sums now bed) (more : bed < end) where
     added-bed : bed < 16
     added-bed = omega (arith, asks .few)
 
     pub added-small : (word : ℕ) → word ≡ getD now bed 0 → Small word
-    added-small word is n e = asks .small bed more n (ap sumIn (sym (added .waiting bed (omega arith)) ∙ sym is) ∙ e)
+    added-small word is n e = asks .small bed (added .begun) more n (ap sumIn (sym (added .waiting bed (omega arith)) ∙ sym is) ∙ e)
 
     pub added-next : (sum entry word : ℕ) → sum ≡ getD now bed 0 → entry ≡ getD store (from + bed) 0 → sumIn word ≡ plus (sumIn sum) (entryIn entry)
-        → Added store from count sums (set now bed word) (bed + 1)
+        → Added store from first end sums (set now bed word) (bed + 1)
     added-next sum entry word isSum isEntry is = record {
+      begun = omega (arith, added .begun);
       few = omega arith;
       long = length-set now bed word ∙ added .long;
-      done = λ b h. each b h (eqb b bed) refl;
+      done = λ b l h. each b l h (eqb b bed) refl;
       waiting = λ b h. getD-set-other now bed b word 0 (λ e. omega arith) ∙ added .waiting b (omega arith);
     }
       where
-        each : (b : ℕ) → b < bed + 1 → (same : Bool) → eqb b bed ≡ same → sumIn (getD (set now bed word) b 0) ≡ plus (sumIn (getD sums b 0)) (entryIn (getD store (from + b) 0))
-        each b h true e =
+        each : (b : ℕ) → first ≤ b → b < bed + 1 → (same : Bool) → eqb b bed ≡ same → sumIn (getD (set now bed word) b 0) ≡ plus (sumIn (getD sums b 0)) (entryIn (getD store (from + b) 0))
+        each b l h true e =
             let here : b ≡ bed = eqb-true b bed e in
             let old : sum ≡ getD sums b 0 = rw here (isSum ∙ added .waiting bed (omega arith)) in
             ap sumIn (ap (λ i. getD (set now bed word) i 0) here ∙ getD-set-same now bed word 0 (omega (arith, added-bed, added .long)))
             ∙ is ∙ ap₂ (λ x y. plus (sumIn x) (entryIn y)) old (isEntry ∙ ap (λ i. getD store (from + i) 0) (sym here))
-        each b h false e =
+        each b l h false e =
             let other = eqb-false b bed e in
-            ap sumIn (getD-set-other now bed b word 0 other) ∙ added .done b (omega (arith, other))
+            ap sumIn (getD-set-other now bed b word 0 other) ∙ added .done b l (omega (arith, other))
 
-  pub added-done : {now : List ℕ} {bed : ℕ} → count ≤ bed → Added store from count sums now bed → GivesEntries store from count sums now
-  added-done end added = record { long = added .long; each = λ b h. added .done b (omega arith) }
+  pub added-done : {now : List ℕ} {bed : ℕ} → end ≤ bed → Added store from first end sums now bed → GivesEntries store from first end sums now
+  added-done past added = record { long = added .long; each = λ b l h. added .done b l (omega arith) }

@@ -1,4 +1,4 @@
--- The loop that follows the terms of a bucket and adds up their entries for each bed of a patient.
+-- The loop that follows the terms of a bucket and adds up their entries for each permitted bed of a patient.
 use mathlib.Core.Path.{_≡_, sym, ap, _∙_, subst}
 use Prim.Native.Nat.{_≤_}
 use native.Mathlib.Omega.{arith}
@@ -9,6 +9,7 @@ use Rattle.definitions.specs.Plans.{bedOf}
 use Rattle.theorems.specs.Sums.{plus, halves}
 use Rattle.theorems.specs.Accepted.{beds-few}
 use Rattle.bucket_words.specs.Words.{firstAt, nextAt}
+use Rattle.buckets.specs.Permitted.{permitted-some, permitted-most}
 use Rattle.buckets.specs.Terms.{Fitting, placeAt, Prepared}
 use Rattle.pricing.specs.Pricing.{sumIn, entryIn, Reads}
 use Rattle.pricing.specs.Costs.{fitting-set}
@@ -16,86 +17,95 @@ use Rattle.pricing.specs.BedCosts.{Small, AsksEntries, GivesEntries, Ask
 use Rattle.pricing.proofs.Chains.{Left, left-start, left-most, left-reads-unplaced, left-later, left-next-most, left-beside, left-inside, left-small, left-next, left-done}
 
 -- Where the loop stands: for each bed, the sum so far and the tables that are left, whose terms begin at k.
-pub record Sums (store patients terms : List ℕ) (s count : ℕ) (beds sums : List ℕ) (k : ℕ) : Type 0 where
+pub record Sums (store patients terms : List ℕ) (s first end : ℕ) (beds sums : List ℕ) (k : ℕ) : Type 0 where
   pub long : length sums ≡ 16
-  pub few : (bed n : ℕ) → bed < count → sumIn (getD sums bed 0) ≡ some n → n ≤ k * 1_000_000
+  pub few : (bed n : ℕ) → first ≤ bed → bed < end → sumIn (getD sums bed 0) ≡ some n → n ≤ k * 1_000_000
   pub left : (r : Region) → Prepared r store patients terms → Fitting r beds → s < length (r .patients)
-      → (bed : ℕ) → bed < patientAt r s .bedCount → Left r store terms s (set beds s bed) (sumIn (getD sums bed 0)) k
+      → (bed : ℕ) → first ≤ bed → bed < end → Left r store terms s (set beds s bed) (sumIn (getD sums bed 0)) k
 
-module _ {store patients terms : List ℕ} {s count : ℕ} {beds zeros : List ℕ} (asks : Asks store patients terms s count beds zeros) where
-  -- In every region that the words are prepared for, the patient has this count of beds.
-  counted : (r : Region) → Prepared r store patients terms → s < length (r .patients) → count ≡ patientAt r s .bedCount
-  counted r prepared known = asks .counts ∙ prepared .beds s known
+module _ {store patients terms : List ℕ} {s first end : ℕ} {beds zeros : List ℕ} (asks : Asks store patients terms s first end beds zeros) where
+  -- In every region that the words are prepared for, the permitted beds are among the patient's.
+  inside : (r : Region) → Prepared r store patients terms → s < length (r .patients) → (bed : ℕ) → bed < end → bed < patientAt r s .bedCount
+  inside r prepared known bed h = omega (arith, asks .ends, prepared .bedEnd s known, permitted-most r (prepared .accepted) s known)
 
-  few-beds : count ≤ 16
-  few-beds = omega (arith, counted (asks .region) (asks .prepared) (asks .known), beds-few (asks .region) (asks .prepared .accepted) s (asks .known))
+  own-inside : (bed : ℕ) → bed < end → bed < patientAt (asks .region) s .bedCount
+  own-inside = inside (asks .region) (asks .prepared) (asks .known)
 
-  nothing : (bed : ℕ) → bed < count → getD zeros bed 0 ≡ 0
+  -- There is one.
+  some-bed : first < end
+  some-bed = omega (arith, asks .firsts, asks .ends, asks .prepared .firstBed s (asks .known), asks .prepared .bedEnd s (asks .known), permitted-some (asks .region) (asks .prepared .accepted) s (asks .known))
+
+  few-beds : end ≤ 16
+  few-beds =
+      let most = permitted-most (asks .region) (asks .prepared .accepted) s (asks .known) in
+      omega (arith, asks .ends, asks .prepared .bedEnd s (asks .known), most, beds-few (asks .region) (asks .prepared .accepted) s (asks .known))
+
+  nothing : (bed : ℕ) → bed < end → getD zeros bed 0 ≡ 0
   nothing bed h = ap (λ (l : List ℕ). getD l bed 0) (asks .zeros) ∙ getD-replicate 16 bed 0 0 (omega (arith, few-beds))
 
-  pub sums-start : Sums store patients terms s count beds zeros (firstAt patients s)
+  pub sums-start : Sums store patients terms s first end beds zeros (firstAt patients s)
   sums-start = record {
     long = ap length (asks .zeros);
-    few = λ bed n h e. (let zero : some 0 ≡ some n = sym (ap sumIn (nothing bed h)) ∙ e in let none : n ≡ 0 = cc in omega arith);
-    left = λ r prepared fits known bed h.
-        subst (λ w. Left r store terms s (set beds s bed) (sumIn w) (firstAt patients s)) (sym (nothing bed (omega (arith, counted r prepared known)))) (left-start r store terms s (set beds s bed) (prepared .bucket s known));
+    few = λ bed n l h e. (let zero : some 0 ≡ some n = sym (ap sumIn (nothing bed h)) ∙ e in let none : n ≡ 0 = cc in omega arith);
+    left = λ r prepared fits known bed l h.
+        subst (λ w. Left r store terms s (set beds s bed) (sumIn w) (firstAt patients s)) (sym (nothing bed h)) (left-start r store terms s (set beds s bed) (prepared .bucket s known));
   }
 
-  module _ {sums : List ℕ} {k : ℕ} (so : Sums store patients terms s count beds sums k) where
-    own : (bed : ℕ) → bed < count → Left (asks .region) store terms s (set beds s bed) (sumIn (getD sums bed 0)) k
-    own bed h = so .left (asks .region) (asks .prepared) (asks .fits) (asks .known) bed (omega (arith, counted (asks .region) (asks .prepared) (asks .known)))
+  module _ {sums : List ℕ} {k : ℕ} (so : Sums store patients terms s first end beds sums k) where
+    own : (bed : ℕ) → first ≤ bed → bed < end → Left (asks .region) store terms s (set beds s bed) (sumIn (getD sums bed 0)) k
+    own = so .left (asks .region) (asks .prepared) (asks .fits) (asks .known)
 
-    -- The bed that the plan has for the patient is one of them.
-    some-bed : bedOf beds s < count
-    some-bed = omega (arith, asks .fits s (asks .known), counted (asks .region) (asks .prepared) (asks .known))
+    one : Left (asks .region) store terms s (set beds s first) (sumIn (getD sums first 0)) k
+    one = own first (omega arith) some-bed
 
     fits-bed : (r : Region) → Fitting r beds → (bed : ℕ) → bed < patientAt r s .bedCount → Fitting r (set beds s bed)
     fits-bed r fits bed h = fitting-set r beds s bed (omega (arith, asks .few, asks .long)) fits h
 
-    own-fits : (bed : ℕ) → bed < count → Fitting (asks .region) (set beds s bed)
-    own-fits bed h = fits-bed (asks .region) (asks .fits) bed (omega (arith, counted (asks .region) (asks .prepared) (asks .known)))
+    own-fits : (bed : ℕ) → bed < end → Fitting (asks .region) (set beds s bed)
+    own-fits bed h = fits-bed (asks .region) (asks .fits) bed (own-inside bed h)
 
     pub sums-most : k ≤ 64
-    sums-most = left-most (own (bedOf beds s) some-bed)
+    sums-most = left-most one
 
-    sums-small : (bed : ℕ) → bed < count → Small (getD sums bed 0)
-    sums-small bed h n e = omega (arith, so .few bed n h e, sums-most)
+    sums-small : (bed : ℕ) → first ≤ bed → bed < end → Small (getD sums bed 0)
+    sums-small bed l h n e = omega (arith, so .few bed n l h e, sums-most)
 
-    pub sums-done : 64 ≤ k → Gives store patients terms s count beds sums
-    sums-done end = record { small = sums-small; cost = λ r prepared fits known bed h. left-done (so .left r prepared fits known bed h) end }
+    pub sums-done : 64 ≤ k → Gives store patients terms s first end beds sums
+    sums-done past = record { small = sums-small; cost = λ r prepared fits known bed l h. left-done (so .left r prepared fits known bed l h) past }
 
     module _ (more : k < 64) where
       pub sums-reads : Reads terms k s beds
-      sums-reads = left-reads-unplaced (own (bedOf beds s) some-bed) more beds (asks .unplaced)
+      sums-reads = left-reads-unplaced one more beds (asks .unplaced)
 
       pub sums-later : (k < nextAt terms k) × (nextAt terms k ≤ 64)
-      sums-later = let l = own (bedOf beds s) some-bed in (left-later l more, left-next-most l more)
+      sums-later = (left-later one more, left-next-most one more)
 
       module _ {from : ℕ} (is : from ≡ placeAt terms k beds) where
         -- The patient has bed 0, so the place for a bed is that many further on.
         place : (bed : ℕ) → from + bed ≡ placeAt terms k (set beds s bed)
-        place bed = omega (arith, left-beside (own (bedOf beds s) some-bed) more beds bed (omega (arith, asks .few, asks .long)), asks .unplaced, is)
+        place bed = omega (arith, left-beside one more beds bed (omega (arith, asks .few, asks .long)), asks .unplaced, is)
 
-        pub sums-entries : AsksEntries store from count sums
+        pub sums-entries : AsksEntries store from first end sums
         sums-entries = record {
+          ordered = omega (arith, some-bed);
           few = few-beds;
-          inside = λ bed h. omega (arith, place bed, left-inside (own bed h) more (own-fits bed h));
+          inside = λ bed l h. omega (arith, place bed, left-inside (own bed l h) more (own-fits bed h));
           long = so .long;
           small = sums-small;
         }
 
-        module _ {after : List ℕ} (gives : GivesEntries store from count sums after) where
+        module _ {after : List ℕ} (gives : GivesEntries store from first end sums after) where
           -- A bed's sum has grown by the entry at the place for it.
-          grown : (bed : ℕ) → bed < count → sumIn (getD after bed 0) ≡ plus (sumIn (getD sums bed 0)) (entryIn (getD store (placeAt terms k (set beds s bed)) 0))
-          grown bed h = gives .each bed h ∙ ap (λ at. plus (sumIn (getD sums bed 0)) (entryIn (getD store at 0))) (place bed)
+          grown : (bed : ℕ) → first ≤ bed → bed < end → sumIn (getD after bed 0) ≡ plus (sumIn (getD sums bed 0)) (entryIn (getD store (placeAt terms k (set beds s bed)) 0))
+          grown bed l h = gives .each bed l h ∙ ap (λ at. plus (sumIn (getD sums bed 0)) (entryIn (getD store at 0))) (place bed)
 
-          pub sums-next : Sums store patients terms s count beds after (nextAt terms k)
+          pub sums-next : Sums store patients terms s first end beds after (nextAt terms k)
           sums-next = record {
             long = gives .long;
-            few = λ bed n h e.
-                let parts = halves (sumIn (getD sums bed 0)) (entryIn (getD store (placeAt terms k (set beds s bed)) 0)) n (sym (grown bed h) ∙ e) in
-                omega (arith, so .few bed (parts .x) h (parts .left), left-small (own bed h) more (own-fits bed h) (parts .y) (parts .right), parts .whole, sums-later .0);
-            left = λ r prepared fits known bed h.
-                subst (λ o. Left r store terms s (set beds s bed) o (nextAt terms k)) (sym (grown bed (omega (arith, counted r prepared known))))
-                (left-next (so .left r prepared fits known bed h) more (fits-bed r fits bed h));
+            few = λ bed n l h e.
+                let parts = halves (sumIn (getD sums bed 0)) (entryIn (getD store (placeAt terms k (set beds s bed)) 0)) n (sym (grown bed l h) ∙ e) in
+                omega (arith, so .few bed (parts .x) l h (parts .left), left-small (own bed l h) more (own-fits bed h) (parts .y) (parts .right), parts .whole, sums-later .0);
+            left = λ r prepared fits known bed l h.
+                subst (λ o. Left r store terms s (set beds s bed) o (nextAt terms k)) (sym (grown bed l h))
+                (left-next (so .left r prepared fits known bed l h) more (fits-bed r fits bed (inside r prepared known bed h)));
           }

@@ -8,18 +8,17 @@ use native.Mathlib.Nat.{eq-or-lt-of-le, zero-mul, mul-zero}
 use native.Mathlib.Omega.{arith}
 use Rattle.definitions.specs.Basics.{ℕ, suc, _+_, _*_, _<_, true, Option, some, List, [], _∷_, length, getD}
 use Rattle.definitions.specs.Syntax.{Table, Region}
-use Rattle.definitions.specs.Plans.{Plan, bedOf, constraints, entryFor, costOver}
+use Rattle.definitions.specs.Plans.{Plan, bedOf, entryFor, costOver}
 use Rattle.theorems.specs.Accepted.{mostTotal}
 use Rattle.lists.specs.Members.{_∈_, here, there}
 use Rattle.lists.specs.Keep.{keep-out}
-use Rattle.theorems.specs.Sums.{plus, plus-assoc}
-use Rattle.partial_rows.specs.Rows.{decidedTables}
+use Rattle.theorems.specs.Sums.{plus, plus-assoc, zero-plus, plus-zero}
 use Rattle.partial_rows.specs.Costs.{cost-cons}
 use Rattle.held_region.specs.Meaning.{mark}
 use Rattle.bucket_words.specs.Words.{firstAt, nextAt, memberAt, strideAt}
 use Rattle.buckets.specs.Terms.{Fitting, highest, bucketOf, placeAt, Term, Chain, Prepared}
 use Rattle.pricing.specs.Pricing.{entryIn, Reads, Asks, Gives}
-use Rattle.pricing.specs.Costs.{zero-plus, plus-zero, entry-number, entry-known}
+use Rattle.pricing.specs.Costs.{entry-number, entry-known}
 use Rattle.pricing.specs.declared.Cost.the-variants.{Forbidden, Of}
 
 -- Where the loop stands: the sum so far, and the tables of the bucket that are left, whose terms begin at k.
@@ -31,12 +30,12 @@ pub record Left (r : Region) (store terms : List ℕ) (s : ℕ) (beds : Plan) (s
   pub cost : plus sum (costOver tables r beds) ≡ costOver (bucketOf r s) r beds
 
 pub left-start : (r : Region) (store terms : List ℕ) (s : ℕ) (beds : Plan) {k : ℕ} → Chain r store terms 0 k (bucketOf r s) → Left r store terms s beds (some 0) k
-unfolding bucketOf decidedTables
+unfolding bucketOf
 left-start r store terms s beds chain = record {
   low = 0;
   tables = bucketOf r s;
   chain = chain;
-  own = λ t among. keep-out (highest s) (constraints r) among .1;
+  own = λ t among. keep-out (highest s) (r .tables) among .1;
   cost = zero-plus (costOver (bucketOf r s) r beds);
 }
 

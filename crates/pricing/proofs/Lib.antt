@@ -4,3 +4,4 @@ pub mod Totals
 pub mod Placed
 pub mod Adding
 pub mod BedSums
+pub mod Permitted

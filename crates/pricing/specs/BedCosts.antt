@@ -2,11 +2,11 @@
 use Prim.Native.Nat.{_≤_}
 use lib.ListN.{set}
 use Rattle.definitions.specs.Basics.{ℕ, _+_, _<_, _≡_, some, List, length, getD, replicate}
-use Rattle.definitions.specs.Syntax.{Region, patientAt}
+use Rattle.definitions.specs.Syntax.{Region}
 use Rattle.definitions.specs.Plans.{bedOf, costOver}
 use Rattle.theorems.specs.Accepted.{mostTotal}
 use Rattle.theorems.specs.Sums.{plus}
-use Rattle.bucket_words.specs.Words.{bedsAt}
+use Rattle.bucket_words.specs.Words.{firstBedAt, bedEndAt}
 use Rattle.buckets.specs.Terms.{Fitting, bucketOf, Prepared}
 use Rattle.pricing.specs.Pricing.{sumIn, entryIn}
 
@@ -14,30 +14,32 @@ use Rattle.pricing.specs.Pricing.{sumIn, entryIn}
 abbrev pub Small : ℕ → Type 0
 Small word = (n : ℕ) → sumIn word ≡ some n → n ≤ mostTotal
 
--- One more entry for each bed, from a place on.
-pub record AsksEntries (store : List ℕ) (from count : ℕ) (sums : List ℕ) : Type 0 where
-  pub few : count ≤ 16
-  pub inside : (bed : ℕ) → bed < count → from + bed < 4096
+-- One more entry for each bed from the first to before the end; that for bed 0 stands at a place.
+pub record AsksEntries (store : List ℕ) (from first end : ℕ) (sums : List ℕ) : Type 0 where
+  pub ordered : first ≤ end
+  pub few : end ≤ 16
+  pub inside : (bed : ℕ) → first ≤ bed → bed < end → from + bed < 4096
   pub long : length sums ≡ 16
-  pub small : (bed : ℕ) → bed < count → Small (getD sums bed 0)
+  pub small : (bed : ℕ) → first ≤ bed → bed < end → Small (getD sums bed 0)
 
-pub record GivesEntries (store : List ℕ) (from count : ℕ) (sums after : List ℕ) : Type 0 where
+pub record GivesEntries (store : List ℕ) (from first end : ℕ) (sums after : List ℕ) : Type 0 where
   pub long : length after ≡ 16
-  pub each : (bed : ℕ) → bed < count → sumIn (getD after bed 0) ≡ plus (sumIn (getD sums bed 0)) (entryIn (getD store (from + bed) 0))
+  pub each : (bed : ℕ) → first ≤ bed → bed < end → sumIn (getD after bed 0) ≡ plus (sumIn (getD sums bed 0)) (entryIn (getD store (from + bed) 0))
 
--- The costs of all beds of a patient that has none yet.
-pub record Asks (store patients terms : List ℕ) (s count : ℕ) (beds sums : List ℕ) : Type 0 where
+-- The costs of all permitted beds of a patient that has none yet.
+pub record Asks (store patients terms : List ℕ) (s first end : ℕ) (beds sums : List ℕ) : Type 0 where
   pub region : Region
   pub prepared : Prepared region store patients terms
   pub fits : Fitting region beds
   pub known : s < length (region .patients)
   pub few : s < 32
-  pub counts : count ≡ bedsAt patients s
+  pub firsts : first ≡ firstBedAt patients s
+  pub ends : end ≡ bedEndAt patients s
   pub long : length beds ≡ 32
   pub unplaced : bedOf beds s ≡ 0
   pub zeros : sums ≡ replicate 16 0
 
-pub record Gives (store patients terms : List ℕ) (s count : ℕ) (beds sums : List ℕ) : Type 0 where
-  pub small : (bed : ℕ) → bed < count → Small (getD sums bed 0)
+pub record Gives (store patients terms : List ℕ) (s first end : ℕ) (beds sums : List ℕ) : Type 0 where
+  pub small : (bed : ℕ) → first ≤ bed → bed < end → Small (getD sums bed 0)
   pub cost : (r : Region) → Prepared r store patients terms → Fitting r beds → s < length (r .patients)
-      → (bed : ℕ) → bed < patientAt r s .bedCount → sumIn (getD sums bed 0) ≡ costOver (bucketOf r s) r (set beds s bed)
+      → (bed : ℕ) → first ≤ bed → bed < end → sumIn (getD sums bed 0) ≡ costOver (bucketOf r s) r (set beds s bed)

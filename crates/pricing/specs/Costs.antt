@@ -2,25 +2,15 @@
 use mathlib.Core.Path.{_≡_, refl, sym, ap}
 use Prim.Native.Nat.{_≤_}
 use native.Mathlib.Omega.{arith}
-use native.Mathlib.Nat.{zero-add, add-zero}
 use lib.ListN.{set}
 use lib.Seq.{getD-set-same, getD-set-other}
 use borrow.Author.Tests.{ne-eqb, eqb-true, eqb-false}
 use Rattle.definitions.specs.Basics.{ℕ, _<_, Bool, true, false, cond, Option, none, some, length, eqb}
 use Rattle.definitions.specs.Syntax.{Region, patientAt}
 use Rattle.definitions.specs.Plans.{Plan, bedOf}
-use Rattle.theorems.specs.Sums.{plus}
 use Rattle.held_region.specs.Meaning.{mark, codeOf}
 use Rattle.buckets.specs.Terms.{Fitting}
 use Rattle.pricing.specs.Pricing.{noSum, sumIn, entryIn}
-
-pub zero-plus : (o : Option ℕ) → plus (some 0) o ≡ o
-zero-plus none = refl
-zero-plus (some n) = ap {B = Option ℕ} some (zero-add n)
-
-pub plus-zero : (o : Option ℕ) → plus o (some 0) ≡ o
-plus-zero none = refl
-plus-zero (some n) = ap {B = Option ℕ} some (add-zero n)
 
 -- A code that is not the mark is a number; a word that is not the largest is a sum.
 pub entry-number : (e : ℕ) → (e ≡ mark → ⊥) → entryIn e ≡ some e

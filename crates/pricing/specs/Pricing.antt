@@ -1,12 +1,12 @@
 -- What pricing asks for and gives.
 use Prim.Native.Nat.{_≤_}
-use Rattle.definitions.specs.Basics.{ℕ, _*_, _<_, _≡_, Bool, cond, Option, none, some, List, length, take, eqb}
+use Rattle.definitions.specs.Basics.{ℕ, _*_, _<_, _≡_, Bool, _&&_, cond, Option, none, some, List, length, take, eqb, leb, ltb}
 use Rattle.definitions.specs.Syntax.{Region, patientAt}
 use Rattle.definitions.specs.Questions.{planFits}
 use Rattle.definitions.specs.Plans.{bedOf, costOver, total}
 use Rattle.theorems.specs.Accepted.{mostTotal}
 use Rattle.held_region.specs.Meaning.{mark}
-use Rattle.bucket_words.specs.Words.{startAt, memberAt, strideAt, bedsAt}
+use Rattle.bucket_words.specs.Words.{startAt, memberAt, strideAt, bedsAt, firstBedAt, bedEndAt}
 use Rattle.buckets.specs.Terms.{Fitting, bucketOf, Prepared}
 use Rattle.pricing.specs.declared.Cost.{Cost}
 use Rattle.pricing.specs.declared.Cost.the-variants.{Forbidden, Of}
@@ -45,7 +45,7 @@ pub record Gives (store patients terms : List ℕ) (s : ℕ) (beds : List ℕ) (
   pub most : (n : ℕ) → costIn c ≡ some n → n ≤ mostTotal
   pub cost : (r : Region) → Prepared r store patients terms → Fitting r beds → s < length (r .patients) → costIn c ≡ costOver (bucketOf r s) r beds
 
--- The total of a plan.
+-- What all tables cost for a plan, and its total.
 pub record AsksAll (store patients terms : List ℕ) (v : ℕ) (beds : List ℕ) : Type 0 where
   pub region : Region
   pub prepared : Prepared region store patients terms
@@ -53,9 +53,17 @@ pub record AsksAll (store patients terms : List ℕ) (v : ℕ) (beds : List ℕ)
   pub all : v ≡ length (region .patients)
   pub few : v ≤ 32
 
+abbrev pub GivesTables : List ℕ → List ℕ → List ℕ → ℕ → List ℕ → Cost → Type 0
+GivesTables store patients terms v beds c =
+    (r : Region) → Prepared r store patients terms → Fitting r beds → v ≡ length (r .patients) → costIn c ≡ costOver (r .tables) r (take v beds)
+
 abbrev pub GivesAll : List ℕ → List ℕ → List ℕ → ℕ → List ℕ → Cost → Type 0
 GivesAll store patients terms v beds c =
     (r : Region) → Prepared r store patients terms → Fitting r beds → v ≡ length (r .patients) → costIn c ≡ total r (take v beds)
+
+-- Lies the patient's bed between the first permitted one and the end?
+abbrev pub bedPermitted : List ℕ → List ℕ → ℕ → Bool
+bedPermitted patients beds s = leb (firstBedAt patients s) (bedOf beds s) && ltb (bedOf beds s) (bedEndAt patients s)
 
 -- Question 14, of a plan's beds.
 abbrev pub PlanAsked : List ℕ → ℕ → List ℕ → Bool → Type 0

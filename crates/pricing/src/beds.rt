@@ -28,36 +28,43 @@ fn add_entry(sum: u64, entry: u32) -> u64
     sum + entry as u64
 }
 
-// Adds to the sum of each bed the entry for it: the entries lie side by side.
-fn add_entries(sums: &mut [u64; 16], entries: &[u32; 4096], from: usize, count: usize)
-    requires { ⌜ AsksEntries (now entries) from count (now sums) ⌝ }
-    ensures { λ _. ⌜ GivesEntries (now (entries .entry)) from count (now (sums .entry)) (now (sums .exit)) ⌝ }
+// Adds to the sum of each bed from the first to before the end the entry for it: the entries lie side by side, that for bed 0 at a place.
+fn add_entries(
+    sums: &mut [u64; 16],
+    entries: &[u32; 4096],
+    from: usize,
+    first: usize,
+    end: usize,
+)
+    requires { ⌜ AsksEntries (now entries) from first end (now sums) ⌝ }
+    ensures { λ _. ⌜ GivesEntries (now (entries .entry)) from first end (now (sums .entry)) (now (sums .exit)) ⌝ }
 {
-    let mut bed: usize = 0;
-    while bed < count {
+    let mut bed = first;
+    while bed < end {
         sums[bed] = add_entry(sums[bed], entries[from + bed]);
         bed += 1;
     }
 }
 
-// What the tables of a patient's bucket cost together, for each of its beds, in sums that were zero.
+// What the tables of a patient's bucket cost together, for each of its permitted beds, in sums that were zero.
 // The patient has no bed yet, which is bed 0, so the plan's place is that of its bed 0.
 pub fn bed_costs(
     sums: &mut [u64; 16],
-    patients: &[u32; 96],
+    patients: &[u32; 160],
     terms: &[u32; 640],
     entries: &[u32; 4096],
     s: usize,
-    count: usize,
+    first: usize,
+    end: usize,
     beds: &[u8; 32],
 )
-    requires { ⌜ Asks (now entries) (now patients) (now terms) s count (now beds) (now sums) ⌝ }
-    ensures { λ _. ⌜ Gives (now (entries .entry)) (now (patients .entry)) (now (terms .entry)) s count (now (beds .entry)) (now (sums .exit)) ⌝ }
+    requires { ⌜ Asks (now entries) (now patients) (now terms) s first end (now beds) (now sums) ⌝ }
+    ensures { λ _. ⌜ Gives (now (entries .entry)) (now (patients .entry)) (now (terms .entry)) s first end (now (beds .entry)) (now (sums .exit)) ⌝ }
 {
     let mut k = first_term(patients, s);
     while k < 64 {
         let from = entry_place(terms, k, s, beds);
-        add_entries(sums, entries, from, count);
+        add_entries(sums, entries, from, first, end);
         k = next_term(terms, k);
     }
 }

@@ -4,11 +4,13 @@ pub mod beds;
 ghost use mathlib.Core.Path.{_≡_};
 ghost use Prim.Native.Nat.{_+_, _<_, _≤_};
 ghost use lib.ListN.{set, length, take};
-ghost use Rattle.definitions.specs.Basics.{replicate};
+ghost use Rattle.definitions.specs.Basics.{replicate, below, every};
 ghost use Rattle.buckets.specs.Terms.{placeAt};
-ghost use Rattle.pricing.specs.Pricing.{Reads, Asks, Gives, AsksAll, GivesAll, PlanAsked};
+ghost use Rattle.pricing.specs.Pricing.{Reads, Asks, Gives, AsksAll, GivesTables, GivesAll, bedPermitted, PlanAsked};
 use bucket_words::bed_count;
+use bucket_words::bed_end;
 use bucket_words::entry_start;
+use bucket_words::first_bed;
 use bucket_words::first_term;
 use bucket_words::member;
 use bucket_words::next_term;
@@ -78,7 +80,7 @@ fn entry_place(terms: &[u32; 640], k: usize, unplaced: usize, beds: &[u8; 32]) -
 
 // What the tables of a patient's bucket cost together.
 fn bucket_cost(
-    patients: &[u32; 96],
+    patients: &[u32; 160],
     terms: &[u32; 640],
     entries: &[u32; 4096],
     s: usize,
@@ -102,15 +104,15 @@ fn bucket_cost(
 }
 
 // What all tables cost together, a bucket after the other.
-pub fn total(
-    patients: &[u32; 96],
+pub fn tables_cost(
+    patients: &[u32; 160],
     terms: &[u32; 640],
     entries: &[u32; 4096],
     v: usize,
     plan: Plan,
 ) -> Cost
     requires { ⌜ AsksAll (now entries) (now patients) (now terms) v (plan .beds) ⌝ }
-    ensures { λ c. ⌜ GivesAll (now (entries .entry)) (now (patients .entry)) (now (terms .entry)) v (plan .beds) c ⌝ }
+    ensures { λ c. ⌜ GivesTables (now (entries .entry)) (now (patients .entry)) (now (terms .entry)) v (plan .beds) c ⌝ }
 {
     let mut sum: u64 = 0;
     let mut s = 0;
@@ -129,8 +131,44 @@ pub fn total(
     Cost::Of(sum)
 }
 
+// Has each patient a permitted bed?
+fn keeps_fixed(patients: &[u32; 160], v: usize, beds: &[u8; 32]) -> bool
+    requires { ⌜ v ≤ 32 ⌝ }
+    ensures { λ a. ⌜ a ≡ every (bedPermitted (now (patients .entry)) (now (beds .entry))) (below v) ⌝ }
+{
+    let mut s = 0;
+    while s < v {
+        let bed = wide(beds[s]);
+        if bed < first_bed(patients, s) {
+            return false;
+        }
+        if bed_end(patients, s) <= bed {
+            return false;
+        }
+        s += 1;
+    }
+    true
+}
+
+// The total of a plan: where each fixed bed is kept, what the tables cost.
+pub fn total(
+    patients: &[u32; 160],
+    terms: &[u32; 640],
+    entries: &[u32; 4096],
+    v: usize,
+    plan: Plan,
+) -> Cost
+    requires { ⌜ AsksAll (now entries) (now patients) (now terms) v (plan .beds) ⌝ }
+    ensures { λ c. ⌜ GivesAll (now (entries .entry)) (now (patients .entry)) (now (terms .entry)) v (plan .beds) c ⌝ }
+{
+    if !keeps_fixed(patients, v, &plan.beds) {
+        return Cost::Forbidden;
+    }
+    tables_cost(patients, terms, entries, v, plan)
+}
+
 // 14. Are there exactly v beds, each below its patient's count?
-pub fn plan_fits(patients: &[u32; 96], v: usize, beds: &[u8]) -> bool
+pub fn plan_fits(patients: &[u32; 160], v: usize, beds: &[u8]) -> bool
     requires { ⌜ v ≤ 32 ⌝ }
     ensures { λ a. ⌜ PlanAsked (now (patients .entry)) v (now (beds .entry)) a ⌝ }
 {

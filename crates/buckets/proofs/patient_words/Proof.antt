@@ -14,7 +14,7 @@ abbrev μ-loop : tie.MeasureT-loop
 μ-loop v patients words₀ s₀ words s = v - s
 
 loop-holds : tie.Need-loop-holds Inv-loop μ-loop
-loop-holds c = (omega arith, record { wide = refl; beds = λ s h. absurd (omega arith); least = λ s. zeros 96 (s * 3 + 1); first = λ s h. absurd (omega arith) })
+loop-holds c = (omega arith, record { wide = refl; beds = λ s h. absurd (omega arith); firstBed = λ s h. absurd (omega arith); bedEnd = λ s h. absurd (omega arith); least = λ s. zeros 160 (s * 5 + 3); first = λ s h. absurd (omega arith) })
 
 mul-patient : tie.Need-mul-patient Inv-loop μ-loop
 mul-patient c = search needs
@@ -31,6 +31,9 @@ mul-words-2 c = search needs
 array-write-words : tie.Need-array-write-words Inv-loop μ-loop
 array-write-words c = search needs
 
+first-permitted-requires : tie.Need-first-permitted-requires Inv-loop μ-loop
+first-permitted-requires c κs = search needs
+
 mul-words-3 : tie.Need-mul-words-3 Inv-loop μ-loop
 mul-words-3 c = search needs
 
@@ -43,6 +46,33 @@ mul-words-4 c = search needs
 array-write-words-2 : tie.Need-array-write-words-2 Inv-loop μ-loop
 array-write-words-2 c = search needs
 
+permitted-end-requires : tie.Need-permitted-end-requires Inv-loop μ-loop
+permitted-end-requires c κs = c .before .before .before .before .pre .1 _ (omega (arith, c .before .before .loop-test .taken))
+
+mul-words-5 : tie.Need-mul-words-5 Inv-loop μ-loop
+mul-words-5 c = search needs
+
+add-words-2 : tie.Need-add-words-2 Inv-loop μ-loop
+add-words-2 c = search needs
+
+mul-words-6 : tie.Need-mul-words-6 Inv-loop μ-loop
+mul-words-6 c = search needs
+
+array-write-words-3 : tie.Need-array-write-words-3 Inv-loop μ-loop
+array-write-words-3 c = search needs
+
+mul-words-7 : tie.Need-mul-words-7 Inv-loop μ-loop
+mul-words-7 c = search needs
+
+add-words-3 : tie.Need-add-words-3 Inv-loop μ-loop
+add-words-3 c = search needs
+
+mul-words-8 : tie.Need-mul-words-8 Inv-loop μ-loop
+mul-words-8 c = search needs
+
+array-write-words-4 : tie.Need-array-write-words-4 Inv-loop μ-loop
+array-write-words-4 c = search needs
+
 add-s : tie.Need-add-s Inv-loop μ-loop
 add-s c = search needs
 
@@ -50,7 +80,10 @@ loop-less : tie.Need-loop-less Inv-loop μ-loop
 loop-less c = search needs
 
 loop-again : tie.Need-loop-again Inv-loop μ-loop
-loop-again c = (search needs, patients-more _ _ _ (omega arith) (c .before .before .loop .inv .1))
+loop-again c =
+    let found = c .before .before .before .before in
+    let more = patients-more _ _ _ (omega (arith, c .before .before .before .before .before .pre .0)) (found .loop .inv .1) in
+    (search needs, rw (c .before .first-permitted .ensures, c .permitted-end .ensures) more)
 
 returns : tie.Need-returns Inv-loop μ-loop
 returns c =
@@ -69,10 +102,20 @@ patient-words-spec =
     mul-words
     mul-words-2
     array-write-words
+    first-permitted-requires
     mul-words-3
     add-words
     mul-words-4
     array-write-words-2
+    permitted-end-requires
+    mul-words-5
+    add-words-2
+    mul-words-6
+    array-write-words-3
+    mul-words-7
+    add-words-3
+    mul-words-8
+    array-write-words-4
     add-s
     loop-less
     loop-again

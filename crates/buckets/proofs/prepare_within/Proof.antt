@@ -2,7 +2,7 @@ use borrow.Author.Needs.{needs}
 use Rattle.held_region.specs.Sound.{accepted-sound}
 use Rattle.held_region.specs.Related.{members-known}
 use Rattle.buckets.specs.Among.{allIn, isAmong}
-use Rattle.buckets.proofs.Held.{members-asked}
+use Rattle.buckets.proofs.Held.{fixed-fit, members-asked}
 use Rattle.buckets.proofs.Filling.{Filling, counts-held, filling-none, filling-all, filling-start, filling-known, filling-place, filling-over, filling-more}
 use Rattle.buckets.proofs.prepare_within.Statement.{statement}
 use Rattle.buckets.proofs.prepare_within.Tie as tie
@@ -14,7 +14,7 @@ abbrev μ-loop : tie.MeasureT-loop
 μ-loop store of region patients₀ terms₀ start₀ i₀ patients terms start i = i
 
 patient-words-requires : tie.Need-patient-words-requires Inv-loop μ-loop
-patient-words-requires c κs = accepted-sound _ _ (c .before .pre) .places .patients
+patient-words-requires c κs = (accepted-sound _ _ (c .before .pre) .places .patients, fixed-fit _ _ (c .before .pre))
 
 entry-total-requires : tie.Need-entry-total-requires Inv-loop μ-loop
 entry-total-requires c κs = counts-held _ _ (c .before .before .pre)

@@ -7,10 +7,10 @@ use Rattle.pricing.proofs.beds.add_entries.Statement.{statement}
 use Rattle.pricing.proofs.beds.add_entries.Tie as tie
 
 abbrev Inv-loop : tie.InvT-loop
-Inv-loop sums₀ entries from count bed₀ sums bed = Added entries from count sums₀ sums bed
+Inv-loop sums₀ entries from first end bed₀ sums bed = Added entries from first end sums₀ sums bed
 
 abbrev μ-loop : tie.MeasureT-loop
-μ-loop sums₀ entries from count bed₀ sums bed = count - bed
+μ-loop sums₀ entries from first end bed₀ sums bed = end - bed
 
 loop-holds : tie.Need-loop-holds Inv-loop μ-loop
 loop-holds c = added-start (c .pre)
@@ -22,13 +22,13 @@ element-copy-out-add-entry : tie.Need-element-copy-out-add-entry Inv-loop μ-loo
 element-copy-out-add-entry c = search needs
 
 add-add-entry : tie.Need-add-add-entry Inv-loop μ-loop
-add-add-entry c = omega (arith, c .before .before .before .pre .inside _ (c .before .loop-test .taken))
+add-add-entry c = omega (arith, c .before .before .before .pre .inside _ (c .before .before .loop .inv .begun) (c .before .loop-test .taken))
 
 mul-add-entry-2 : tie.Need-mul-add-entry-2 Inv-loop μ-loop
-mul-add-entry-2 c = omega (arith, c .before .before .before .pre .inside _ (c .before .loop-test .taken))
+mul-add-entry-2 c = omega (arith, c .before .before .before .pre .inside _ (c .before .before .loop .inv .begun) (c .before .loop-test .taken))
 
 element-copy-out-add-entry-2 : tie.Need-element-copy-out-add-entry-2 Inv-loop μ-loop
-element-copy-out-add-entry-2 c = c .before .before .before .pre .inside _ (c .before .loop-test .taken)
+element-copy-out-add-entry-2 c = c .before .before .before .pre .inside _ (c .before .before .loop .inv .begun) (c .before .loop-test .taken)
 
 add-entry-requires : tie.Need-add-entry-requires Inv-loop μ-loop
 add-entry-requires c κs = added-small (c .before .before .before .before .pre) (c .before .before .before .loop .inv) (c .before .before .loop-test .taken) _ refl

@@ -6,10 +6,10 @@ use Rattle.pricing.proofs.beds.bed_costs.Statement.{statement}
 use Rattle.pricing.proofs.beds.bed_costs.Tie as tie
 
 abbrev Inv-loop : tie.InvT-loop
-Inv-loop sums₀ patients terms entries s count beds k₀ sums k = Sums entries patients terms s count beds sums k
+Inv-loop sums₀ patients terms entries s first end beds k₀ sums k = Sums entries patients terms s first end beds sums k
 
 abbrev μ-loop : tie.MeasureT-loop
-μ-loop sums₀ patients terms entries s count beds k₀ sums k = 64 - k
+μ-loop sums₀ patients terms entries s first end beds k₀ sums k = 64 - k
 
 first-term-requires : tie.Need-first-term-requires Inv-loop μ-loop
 first-term-requires c κs = search needs
