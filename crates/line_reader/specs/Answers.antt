@@ -24,7 +24,7 @@ regionRead (IsRegion v t m) = some (v, t, m)
 regionRead NoRegion = none
 
 abbrev pub patientRead : PatientLine → Option Patient
-patientRead (IsPatient c d p) = some (record { clinic = c; bedCount = d; parent = optional p })
+patientRead (IsPatient c d p b) = some (record { clinic = c; bedCount = d; parent = optional p; fixedBed = optional b })
 patientRead NoPatient = none
 
 abbrev pub endRead : EndLine → Option ℕ

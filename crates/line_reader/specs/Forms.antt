@@ -98,7 +98,7 @@ abbrev pub regionSaid : List ℕ → ℕ × ℕ × ℕ
 regionSaid values = (getD values 0 0, getD values 1 0, getD values 2 0)
 
 abbrev pub patientSaid : List ℕ → Patient
-patientSaid values = record { clinic = getD values 0 0; bedCount = getD values 1 0; parent = fieldSaid (getD values 2 0) }
+patientSaid values = record { clinic = getD values 0 0; bedCount = getD values 1 0; parent = fieldSaid (getD values 2 0); fixedBed = fieldSaid (getD values 3 0) }
 
 abbrev pub endSaid : List ℕ → ℕ
 endSaid values = getD values 0 0
@@ -108,7 +108,7 @@ module _ (xs : List ℕ) where
   unfolding regionLine fieldValues
   region-form = simp (number-by-value, bind-bind, bind-some, map-bind, map-cond)
 
-  pub patient-form : whole patientLine xs ≡ Option·map patientSaid (fieldValues (text "patient") (false ∷ false ∷ true ∷ []) xs)
+  pub patient-form : whole patientLine xs ≡ Option·map patientSaid (fieldValues (text "patient") (false ∷ false ∷ true ∷ true ∷ []) xs)
   unfolding patientLine fieldValues
   patient-form = simp (hyphen-by-value, number-by-value, bind-bind, bind-some, map-bind, map-cond)
 

@@ -166,18 +166,23 @@ pub fn region_line(line: &[u8]) -> RegionLine
     }
 }
 
-// A patient's clinic, count of beds and parent, which is none at a root.
+// A patient's clinic and count of beds; its parent, a hyphen at a root; its fixed bed, a hyphen where the patient is free.
 pub enum PatientLine {
-    Is(u32, u32, Optional),
+    Is(u32, u32, Optional, Optional),
     Other,
 }
 
 pub fn patient_line(line: &[u8]) -> PatientLine
     ensures { λ r. ⌜ patientRead r ≡ whole patientLine (now (line .entry)) ⌝ }
 {
-    let mut values = [0; 3];
-    if read_form(line, b"patient", &[NUMBER, NUMBER, OPTIONAL], &mut values) {
-        PatientLine::Is(values[0], values[1], said_by(values[2]))
+    let mut values = [0; 4];
+    if read_form(
+        line,
+        b"patient",
+        &[NUMBER, NUMBER, OPTIONAL, OPTIONAL],
+        &mut values,
+    ) {
+        PatientLine::Is(values[0], values[1], said_by(values[2]), said_by(values[3]))
     } else {
         PatientLine::Other
     }

@@ -28,8 +28,16 @@ array-read-said-by c = search needs
 said-by-requires : tie.Need-said-by-requires
 said-by-requires c κs = search needs
 
+array-read-said-by-2 : tie.Need-array-read-said-by-2
+array-read-said-by-2 c = search needs
+
+said-by-requires-2 : tie.Need-said-by-requires-2
+said-by-requires-2 c κs = search needs
+
 returns : tie.Need-returns
-returns c = rw (c .said-by .ensures) (said-there patientSaid _ (patient-form _) (c .before .before .before .read-form .ensures) (c .before .if1 .taken))
+returns c =
+    let there = c .before .before in
+    rw (c .before .said-by .ensures, c .said-by2 .ensures) (said-there patientSaid _ (patient-form _) (there .before .before .read-form .ensures) (there .if1 .taken))
 
 returns-2 : tie.Need-returns-2
 returns-2 c = said-missing patientSaid _ (patient-form _) (c .before .before .read-form .ensures) (c .if1 .left)
@@ -46,5 +54,7 @@ patient-line-spec =
     array-read-t18
     array-read-said-by
     said-by-requires
+    array-read-said-by-2
+    said-by-requires-2
     returns
     returns-2)
