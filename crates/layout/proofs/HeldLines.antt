@@ -8,18 +8,15 @@ use lib.ListN.{drop}
 use Rattle.definitions.specs.Syntax as Said
 use Rattle.definitions.specs.Layout.{many, whole, lines, patientLine}
 use Rattle.held_region.specs.declared.Patient.{Patient}
-use Rattle.held_region.specs.declared.Parent.{Parent}
-use Rattle.held_region.specs.Meaning.{parentOf, patientOf, noPatient}
+use Rattle.held_region.specs.Meaning.{patientOf, noPatient}
 use Rattle.scanner.specs.declared.Optional.{Optional}
-use Rattle.scanner.specs.declared.Optional.the-variants.{Hyphen, Number}
 use Rattle.line_reader.specs.declared.PatientLine.{PatientLine}
 use Rattle.line_reader.specs.declared.PatientLine.the-variants.{Is as IsPatient, Other as NoPatient}
-use Rattle.scanner.specs.Answers.{optional}
 use Rattle.line_reader.specs.Answers.{LineEnd, patientRead}
 use Rattle.layout.specs.Taken.{taken-none, taken-more, taken-other, taken-all}
 use Rattle.held_region.specs.FirstHeld.{held-none, held-more}
 use Rattle.held_region.specs.HeldFrom.{noneSaid, HoldsPatient}
-use Rattle.layout.specs.Reading.{held, PatientsSoFar, PatientLines}
+use Rattle.layout.specs.Reading.{PatientsSoFar, PatientLines}
 
 pub patients-none : (s : List ℕ) (at : ℕ) → PatientsSoFar s at (replicate 32 noPatient) 0 at
 patients-none s at = record { said = []; taken = taken-none; counted = refl; holds = held-none 32 HoldsPatient noPatient noneSaid (replicate 32 noPatient); wide = refl }
@@ -35,14 +32,9 @@ patients-more q {first} {count} p e h line is = record {
 }
 
 -- What a patient line says is what is held of it.
-parent-same : (f : Optional) → parentOf (held f) ≡ optional f
-parent-same Hyphen = refl
-parent-same (Number p) = refl
-
-pub patient-said : {line : PatientLine} {c d : ℕ} {f : Optional} {p : Parent} {o : Option Said.Patient} → line ≡ IsPatient c d f → p ≡ held f → patientRead line ≡ o
-    → some (patientOf (record { clinic = c; beds = d; parent = p })) ≡ o
-patient-said {c} {d} {f} {p} e q h =
-    ap {B = Option Said.Patient} (λ r. some (record { clinic = c; bedCount = d; parent = r })) (ap parentOf q ∙ parent-same f) ∙ sym (ap patientRead e) ∙ h
+pub patient-said : {line : PatientLine} {c d : ℕ} {p b : Optional} {o : Option Said.Patient} → line ≡ IsPatient c d p b → patientRead line ≡ o
+    → some (patientOf (record { clinic = c; beds = d; parent = p; fixed = b })) ≡ o
+patient-said e h = sym (ap patientRead e) ∙ h
 
 -- The lines end where one is no patient line, or where the file ends.
 module _ {s : List ℕ} {at : ℕ} {first : List Patient} {count i : ℕ} (p : PatientsSoFar s at first count i) where

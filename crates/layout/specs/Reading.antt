@@ -4,19 +4,10 @@ use lib.ListN.{drop}
 use Rattle.definitions.specs.Basics.{ℕ, _≡_, some, List, length}
 use Rattle.definitions.specs.Syntax as Said
 use Rattle.definitions.specs.Layout.{many, whole, lines, patientLine}
-use Rattle.scanner.specs.declared.Optional.{Optional}
-use Rattle.scanner.specs.declared.Optional.the-variants.{Hyphen, Number}
-use Rattle.held_region.specs.declared.Parent.{Parent}
-use Rattle.held_region.specs.declared.Parent.the-variants.{Root, Of}
 use Rattle.held_region.specs.declared.Patient.{Patient}
 use Rattle.held_region.specs.HeldFrom.{HeldPatients}
 use Rattle.layout.specs.declared.patients.Patients.{Patients}
 use Rattle.layout.specs.Taken.{Taken}
-
--- The parent field as it is held.
-abbrev pub held : Optional → Parent
-held Hyphen = Root
-held (Number p) = Of p
 
 -- On the way: the lines up to place i are taken, and the first 32 patients that they say are held.
 pub record PatientsSoFar (s : List ℕ) (at : ℕ) (first : List Patient) (count i : ℕ) : Type 0 where

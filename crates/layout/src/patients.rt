@@ -1,13 +1,10 @@
 // The patient lines of a file.
-ghost use Rattle.layout.specs.Reading.{held, PatientLines};
-ghost use mathlib.Core.Path.{_≡_};
+ghost use Rattle.layout.specs.Reading.{PatientLines};
 use held_region::NO_PATIENT;
-use held_region::Parent;
 use held_region::Patient;
 use line_reader::PatientLine;
 use line_reader::line_end;
 use line_reader::patient_line;
-use scanner::Optional;
 
 // The first 32 patients of the lines from a place on, how many there are, and the place after them.
 pub struct Patients {
@@ -22,15 +19,6 @@ pub const NO_PATIENTS: Patients = Patients {
     next: 0,
 };
 
-fn parent_of(field: Optional) -> Parent
-    ensures { λ r. ⌜ r ≡ held field ⌝ }
-{
-    match field {
-        Optional::Hyphen => Parent::Root,
-        Optional::Number(p) => Parent::Of(p),
-    }
-}
-
 // A line that is no patient line ends them.
 pub fn read_patients(file: &[u8], at: usize) -> Patients
     ensures { λ r. ⌜ PatientLines (now (file .entry)) at r ⌝ }
@@ -41,13 +29,13 @@ pub fn read_patients(file: &[u8], at: usize) -> Patients
     while i < file.len() {
         let end = line_end(file, i);
         match patient_line(&file[i..end]) {
-            PatientLine::Is(clinic, beds, field) => {
-                let parent = parent_of(field);
+            PatientLine::Is(clinic, beds, parent, fixed) => {
                 if count < 32 {
                     first[count] = Patient {
                         clinic: clinic,
                         beds: beds,
                         parent: parent,
+                        fixed: fixed,
                     };
                 }
                 count += 1;

@@ -38,9 +38,6 @@ patient-line-requires c κs = search needs
 enum-known-clinic : tie.Need-enum-known-clinic Inv-loop μ-loop
 enum-known-clinic c = search needs
 
-parent-of-requires : tie.Need-parent-of-requires Inv-loop μ-loop
-parent-of-requires c κs = search needs
-
 mul-first : tie.Need-mul-first Inv-loop μ-loop
 mul-first c = search needs
 
@@ -55,12 +52,13 @@ loop-less c = search needs
 
 loop-again : tie.Need-loop-again Inv-loop μ-loop
 loop-again c =
-    let l = c .before .before .before .before .before .before .before .before .before in
-    let given = c .before .before .before .clinic .given in
-    let q : Patient = record { clinic = given .0 .0; beds = given .0 .1 .0; parent = c .before .parent-of .result } in
+    let line = c .before .before .before .before in
+    let end = line .before .before in
+    let l = end .before .before in
+    let given = c .before .before .clinic .given in
+    let q : Patient = record { clinic = given .0 .0; beds = given .0 .1 .0; parent = given .0 .1 .1 .0; fixed = given .0 .1 .1 .1 .0 } in
     let full : length (l .loop .first) ≡ 32 = l .loop .inv .wide in
-    patients-more q (l .loop .inv) (c .before .before .before .before .before .before .before .line-end .ensures) (search needs)
-    (patient-said (given .1) (c .before .parent-of .ensures) (c .before .before .before .before .before .patient-line .ensures))
+    patients-more q (l .loop .inv) (end .line-end .ensures) (search needs) (patient-said (given .1) (line .patient-line .ensures))
     (elim (c .if1 .came) [ inl t ↦ t .1 | inr t ↦ t .1 ∙ set-full (l .loop .first) (l .loop .count) q (omega (arith, t .0)) ])
 
 enum-told : tie.Need-enum-told Inv-loop μ-loop
@@ -85,7 +83,6 @@ read-patients-spec =
     part-patient-line-end
     patient-line-requires
     enum-known-clinic
-    parent-of-requires
     mul-first
     array-set-from-first
     add-count
