@@ -1,15 +1,15 @@
 // Questions 5 to 7, asked of a held region: whatever its store says, the answers are the same.
-use held_region::Parent;
 use held_region::Patient;
 use held_region::Region;
 use held_region::Table;
 use limits::Field;
 use limits::within;
+use scanner::Optional;
 ghost use mathlib.Core.Path.{_≡_};
 ghost use Prim.Native.Nat.{_≤_};
 ghost use Rattle.definitions.specs.Basics.{ℕ, List, not, _&&_, _||_};
 ghost use Rattle.definitions.specs.Questions.{countsWithin, patientsWithin, parentsSmaller, membersRight};
-ghost use Rattle.held_region.specs.Meaning.{parentOf, patientOf, membersOf, said};
+ghost use Rattle.held_region.specs.Meaning.{optional, patientOf, membersOf, said};
 ghost use Rattle.held_region.specs.Members.{membersFit, risesFrom};
 ghost use Rattle.held_region.specs.Sound.{HasPlaces};
 ghost use Rattle.held_region.specs.Asked.{patientFits, noneOrBelow};
@@ -22,13 +22,26 @@ pub fn counts_fit(region: Region) -> bool
         && (within(Field::TableCount, region.t) && within(Field::PlansWanted, region.m))
 }
 
+// Is a field a hyphen, or a number below n?
+fn none_or_below(field: Optional, n: usize) -> bool
+    ensures { λ a. ⌜ a ≡ noneOrBelow (optional field) n ⌝ }
+{
+    match field {
+        Optional::Hyphen => true,
+        Optional::Number(k) => (k as usize) < n,
+    }
+}
+
 fn patient_fits(patient: Patient) -> bool
     ensures { λ a. ⌜ a ≡ patientFits (patientOf patient) ⌝ }
 {
-    within(Field::Clinic, patient.clinic as usize) && within(Field::BedCount, patient.beds as usize)
+    let beds = patient.beds as usize;
+    let fixed = patient.fixed;
+    within(Field::Clinic, patient.clinic as usize)
+        && (within(Field::BedCount, beds) && none_or_below(fixed, beds))
 }
 
-// 6, of clinics and bed counts: is each within its limits?
+// 6, but for parents: is each clinic and bed count within its limits, each fixed bed below the count?
 pub fn patients_fit(region: Region) -> bool
     requires { ⌜ HasPlaces region ⌝ }
     ensures { λ a. ⌜ ((store : List ℕ) → a ≡ patientsWithin (said region store)) ⌝ }
@@ -45,15 +58,6 @@ pub fn patients_fit(region: Region) -> bool
     true
 }
 
-fn parent_smaller(parent: Parent, s: usize) -> bool
-    ensures { λ a. ⌜ a ≡ noneOrBelow (parentOf parent) s ⌝ }
-{
-    match parent {
-        Parent::Root => true,
-        Parent::Of(p) => (p as usize) < s,
-    }
-}
-
 // 6, of parents: has each a smaller number than the patient's own?
 pub fn parents_smaller(region: Region) -> bool
     requires { ⌜ HasPlaces region ⌝ }
@@ -64,7 +68,7 @@ pub fn parents_smaller(region: Region) -> bool
     while s < region.v {
         let patient = patients[s];
         let parent = patient.parent;
-        if !parent_smaller(parent, s) {
+        if !none_or_below(parent, s) {
             return false;
         }
         s += 1;
