@@ -45,28 +45,28 @@ module _ (patients tables entries : List ℕ) where
   before : ℕ
   before = lentEntriesBefore tables (lentTableCount tables)
 
-  pub part-patient : (length patients % 24 ≡ 0 → ⊥) → false ≡ lentWhole patients tables entries
+  pub part-patient : (length patients % 32 ≡ 0 → ⊥) → false ≡ lentWhole patients tables entries
   unfolding lentWhole before
-  part-patient n = sym (ap (λ b. b && eqb (length tables % 48) 0 && eqb (length entries) (before * 8)) (ne-eqb (length patients % 24) 0 n))
+  part-patient n = sym (ap (λ b. b && eqb (length tables % 48) 0 && eqb (length entries) (before * 8)) (ne-eqb (length patients % 32) 0 n))
 
   pub part-table : (length tables % 48 ≡ 0 → ⊥) → false ≡ lentWhole patients tables entries
   unfolding lentWhole before
   part-table n =
-      sym (ap (λ b. eqb (length patients % 24) 0 && b && eqb (length entries) (before * 8)) (ne-eqb (length tables % 48) 0 n)
-      ∙ ap (λ b. b && eqb (length entries) (before * 8)) (and-false (eqb (length patients % 24) 0)))
+      sym (ap (λ b. eqb (length patients % 32) 0 && b && eqb (length entries) (before * 8)) (ne-eqb (length tables % 48) 0 n)
+      ∙ ap (λ b. b && eqb (length entries) (before * 8)) (and-false (eqb (length patients % 32) 0)))
 
   pub part-entry : (length entries % 8 ≡ 0 → ⊥) → false ≡ lentWhole patients tables entries
   unfolding lentWhole before
   part-entry n =
-      sym (ap (λ b. eqb (length patients % 24) 0 && eqb (length tables % 48) 0 && b) (ne-eqb (length entries) (before * 8) (λ e. n (omega arith)))
-      ∙ and-false (eqb (length patients % 24) 0 && eqb (length tables % 48) 0))
+      sym (ap (λ b. eqb (length patients % 32) 0 && eqb (length tables % 48) 0 && b) (ne-eqb (length entries) (before * 8) (λ e. n (omega arith)))
+      ∙ and-false (eqb (length patients % 32) 0 && eqb (length tables % 48) 0))
 
-  pub all-whole : length patients % 24 ≡ 0 → length tables % 48 ≡ 0 → length entries % 8 ≡ 0 → {answer : Bool}
+  pub all-whole : length patients % 32 ≡ 0 → length tables % 48 ≡ 0 → length entries % 8 ≡ 0 → {answer : Bool}
       → answer ≡ eqb (length entries / 8) (lentEntriesBefore tables (lentTableCount tables)) → answer ≡ lentWhole patients tables entries
   unfolding lentWhole before
   all-whole p t e is =
       is ∙ go (ℕ-discrete (length entries / 8) before)
-      ∙ sym (ap₂ (λ a b. a && b && eqb (length entries) (before * 8)) (eq-eqb (length patients % 24) 0 p) (eq-eqb (length tables % 48) 0 t))
+      ∙ sym (ap₂ (λ a b. a && b && eqb (length entries) (before * 8)) (eq-eqb (length patients % 32) 0 p) (eq-eqb (length tables % 48) 0 t))
     where
       go : Dec (length entries / 8 ≡ before) → eqb (length entries / 8) before ≡ eqb (length entries) (before * 8)
       go (yes k) = eq-eqb (length entries / 8) before k ∙ sym (eq-eqb (length entries) (before * 8) (omega arith))

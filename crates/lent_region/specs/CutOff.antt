@@ -21,7 +21,7 @@ abbrev pub cutOption : Option ℕ → Option ℕ
 cutOption o = Option·map cut o
 
 abbrev pub cutPatient : Patient → Patient
-cutPatient p = record { clinic = cut (p .clinic); bedCount = cut (p .bedCount); parent = cutOption (p .parent) }
+cutPatient p = record { clinic = cut (p .clinic); bedCount = cut (p .bedCount); parent = cutOption (p .parent); fixedBed = cutOption (p .fixedBed) }
 
 abbrev pub cutTable : Table → Table
 cutTable t = record { members = map cut (t .members); entries = map cutOption (t .entries) }

@@ -22,6 +22,7 @@ use Rattle.theorems.specs.Accepted.{at-most}
 use Rattle.held_region.specs.Members.{membersFit}
 use Rattle.held_region.specs.Asked.{patientFits, noneOrBelow}
 use Rattle.held_region.specs.Refusals.{asked, lastAsked}
+use Rattle.held_region.specs.HeldFrom.{noneSaid}
 use Rattle.held_region.specs.StandsFor.{Alike, same-left, one-asked, same-first, asked-yes, StandsFor}
 use Rattle.lent_region.specs.CutOff.{most, cut, cutOption, cutPatient, cutTable, cutOff, cut-low, cut-within, cut-below, cut-option-within, cut-option-below}
 
@@ -39,6 +40,28 @@ entry-stays : (o : Option ℕ) → noneOr (within entry) o ≡ true → cutOptio
 unfolding limits
 entry-stays none fits = refl
 entry-stays (some n) fits = ap some (cut-low n (omega (arith, at-most entry n fits)))
+
+-- ---- one patient
+
+-- A count of beds within its limits is not cut, and a fixed bed is below it once it is cut off where it was below it before. Any other count is refused.
+patient-fits-cut : (p : Patient) → patientFits (cutPatient p) ≡ patientFits p
+unfolding limits
+patient-fits-cut p = go (within bedCount (p .bedCount)) refl
+  where
+    same-beds : within bedCount (cut (p .bedCount)) ≡ within bedCount (p .bedCount)
+    same-beds = cut-within bedCount (p .bedCount) (omega arith)
+
+    refused : (q : Patient) → within bedCount (q .bedCount) ≡ false → patientFits q ≡ false
+    refused q e =
+        ap (λ b. within clinic (q .clinic) && b && noneOrBelow (q .fixedBed) (q .bedCount)) e
+        ∙ ap (λ b. b && noneOrBelow (q .fixedBed) (q .bedCount)) (and-false (within clinic (q .clinic)))
+
+    go : (b : Bool) → within bedCount (p .bedCount) ≡ b → patientFits (cutPatient p) ≡ patientFits p
+    go true e =
+        let few : p .bedCount ≤ most = omega (arith, at-most bedCount (p .bedCount) e) in
+        ap₂ (λ a b. a && b) (ap₂ (λ a b. a && b) (cut-within clinic (p .clinic) (omega arith)) same-beds)
+        (ap (noneOrBelow (cutOption (p .fixedBed))) (cut-low (p .bedCount) few) ∙ cut-option-below (p .fixedBed) (p .bedCount) few)
+    go false e = refused (cutPatient p) (same-beds ∙ e) ∙ sym (refused p e)
 
 -- ---- one table
 
@@ -75,11 +98,11 @@ module _ (r : Region) (counted : countsTrue r ≡ true) (five : countsWithin r �
   unfolding patientsWithin cutOff limits
   patients-within-cut =
       every-map patientFits cutPatient (r .patients)
-      ∙ every-same _ _ (r .patients) (λ p k. ap₂ (λ a b. a && b) (cut-within clinic (p .clinic) (omega arith)) (cut-within bedCount (p .bedCount) (omega arith)))
+      ∙ every-same _ _ (r .patients) (λ p k. patient-fits-cut p)
 
   patient-cut : (s : ℕ) → patientAt (cutOff r) s ≡ cutPatient (patientAt r s)
   unfolding patientAt cutOff
-  patient-cut s = List·getD-map cutPatient (r .patients) s (record { clinic = 0; bedCount = 0; parent = none })
+  patient-cut s = List·getD-map cutPatient (r .patients) s noneSaid
 
   parents-smaller-cut : parentsSmaller (cutOff r) ≡ parentsSmaller r
   unfolding parentsSmaller
@@ -97,20 +120,20 @@ module _ (r : Region) (counted : countsTrue r ≡ true) (five : countsWithin r �
     patient-stays s l =
         let two = both (patientsWithin r) six in
         let p = patientAt r s in
-        let fits = both (within clinic (p .clinic)) (every-at patientFits (r .patients) s (record { clinic = 0; bedCount = 0; parent = none }) l (two .0)) in
+        let three = both (within clinic (p .clinic) && within bedCount (p .bedCount)) (every-at patientFits (r .patients) s noneSaid l (two .0)) in
+        let fits = both (within clinic (p .clinic)) (three .0) in
         let smaller : noneOrBelow (p .parent) s ≡ true = every-place _ _ s (two .1) l in
         let c : cut (p .clinic) ≡ p .clinic = cut-low _ (omega (arith, at-most clinic _ (fits .0))) in
         let b : cut (p .bedCount) ≡ p .bedCount = cut-low _ (omega (arith, at-most bedCount _ (fits .1))) in
-        ap₂ (λ x y. record { clinic = x; bedCount = y; parent = cutOption (p .parent) }) c b
-        ∙ ap (λ o. record { clinic = p .clinic; bedCount = p .bedCount; parent = o }) (option-stays (p .parent) s (omega (arith, patient-lines)) smaller)
+        ap₂ (λ x y. record { clinic = x; bedCount = y; parent = cutOption (p .parent); fixedBed = cutOption (p .fixedBed) }) c b
+        ∙ ap₂ (λ q f. record { clinic = p .clinic; bedCount = p .bedCount; parent = q; fixedBed = f })
+        (option-stays (p .parent) s (omega (arith, patient-lines)) smaller)
+        (option-stays (p .fixedBed) (p .bedCount) (omega (arith, at-most bedCount _ (fits .1))) (three .1))
 
     patients-stay : cutOff r .patients ≡ r .patients
     unfolding cutOff patientAt
-    patients-stay = ext-getD none-there (map cutPatient (r .patients)) (r .patients) (length-map (r .patients) cutPatient)
-        (λ s l. List·getD-map cutPatient (r .patients) s none-there ∙ patient-stays s (omega (arith, length-map (r .patients) cutPatient)))
-      where
-        none-there : Patient
-        none-there = record { clinic = 0; bedCount = 0; parent = none }
+    patients-stay = ext-getD noneSaid (map cutPatient (r .patients)) (r .patients) (length-map (r .patients) cutPatient)
+        (λ s l. List·getD-map cutPatient (r .patients) s noneSaid ∙ patient-stays s (omega (arith, length-map (r .patients) cutPatient)))
 
   members-right-cut : membersRight (cutOff r) ≡ membersRight r
   unfolding membersRight cutOff
@@ -125,7 +148,7 @@ module _ (r : Region) (counted : countsTrue r ≡ true) (five : countsWithin r �
 
     bed-counts-stay : (members : List ℕ) → bedCounts (cutOff r) members ≡ bedCounts r members
     unfolding patientAt
-    bed-counts-stay members = ap (λ (ps : List Patient). map (λ s. getD ps s (record { clinic = 0; bedCount = 0; parent = none }) .bedCount) members) (patients-stay six)
+    bed-counts-stay members = ap (λ (ps : List Patient). map (λ s. getD ps s noneSaid .bedCount) members) (patients-stay six)
 
     entry-counts-cut : entryCountsRight (cutOff r) ≡ entryCountsRight r
     unfolding entryCountsRight cutOff

@@ -172,15 +172,15 @@ module _ (tables entries : List ℕ) where
 
 -- ---- patients as they are held
 
-patients-held : (patients : List ℕ) (held : List Patient) → PatientsLent patients (min (length patients / 24) 32) held → HeldPatients held (map cutPatient (lentPatients patients))
+patients-held : (patients : List ℕ) (held : List Patient) → PatientsLent patients (min (length patients / 32) 32) held → HeldPatients held (map cutPatient (lentPatients patients))
 unfolding lentPatients
 patients-held patients held lent s l k =
-    let inside : s < length patients / 24 = omega (arith, patients-long) in
-    lent .each s (omega arith) ∙ ap cutPatient (sym (at-place (lentPatient patients) noneSaid (length patients / 24) s inside))
+    let inside : s < length patients / 32 = omega (arith, patients-long) in
+    lent .each s (omega arith) ∙ ap cutPatient (sym (at-place (lentPatient patients) noneSaid (length patients / 32) s inside))
     ∙ sym (List·getD-map cutPatient (lentPatients patients) s noneSaid)
   where
-    patients-long : length (map cutPatient (map (lentPatient patients) (below (length patients / 24)))) ≡ length patients / 24
-    patients-long = length-map (map (lentPatient patients) (below (length patients / 24))) cutPatient ∙ length-by-places (lentPatient patients) 0 (length patients / 24)
+    patients-long : length (map cutPatient (map (lentPatient patients) (below (length patients / 32)))) ≡ length patients / 32
+    patients-long = length-map (map (lentPatient patients) (below (length patients / 32))) cutPatient ∙ length-by-places (lentPatient patients) 0 (length patients / 32)
 
 -- ---- the region
 
@@ -189,7 +189,7 @@ module _ (patients tables entries : List ℕ) (m : ℕ) where
   lent = lentRegion patients tables entries m
 
   abbrev pub regionHeld : List Patient → List Table → Region
-  regionHeld firstPatients firstTables = record { v = length patients / 24; t = length tables / 48; m = m; patients = firstPatients; tables = firstTables }
+  regionHeld firstPatients firstTables = record { v = length patients / 32; t = length tables / 48; m = m; patients = firstPatients; tables = firstTables }
 
   counted : countsTrue lent ≡ true
   unfolding countsTrue lentRegion regionFrom
@@ -201,16 +201,16 @@ module _ (patients tables entries : List ℕ) (m : ℕ) where
 
   whole-entries : lentWhole patients tables entries ≡ true → length entries ≡ lentEntriesBefore tables (lentTableCount tables) * 8
   unfolding lentWhole
-  whole-entries whole = eqb-true _ _ (both (eqb (length patients % 24) 0 && eqb (length tables % 48) 0) whole .1)
+  whole-entries whole = eqb-true _ _ (both (eqb (length patients % 32) 0 && eqb (length tables % 48) 0) whole .1)
 
   module _ (whole : lentWhole patients tables entries ≡ true) {firstPatients : List Patient} {firstTables : List Table} {store : List ℕ}
-      (ps : PatientsLent patients (min (length patients / 24) 32) firstPatients)
+      (ps : PatientsLent patients (min (length patients / 32) 32) firstPatients)
       (ts : TablesLent tables (min (length tables / 48) 64) firstTables)
       (es : EntriesLent entries (min (length entries / 8) 4096) store) where
     held-from : HeldFrom (regionHeld firstPatients firstTables) store (cutOff lent)
     unfolding cutOff lentRegion regionFrom lentPatients lentTables spellBody
     held-from = record {
-      patientCount = sym (length-by-places (lentPatient patients) 0 (length patients / 24));
+      patientCount = sym (length-by-places (lentPatient patients) 0 (length patients / 32));
       tableCount = sym (length-by-places (lentTable tables entries) 0 (length tables / 48));
       plansWanted = refl;
       counted = counted-cut;

@@ -3,7 +3,7 @@ ghost use mathlib.Core.Path.{_≡_};
 ghost use Prim.Native.Nat.{_+_, _*_, _/_, _≤_, min};
 ghost use Rattle.definitions.specs.Basics.{true, length, eqb};
 ghost use Rattle.definitions.specs.Boundary.{numberAt, optionAt, lentPatient, lentTableCount, lentEntriesBefore, lentRegion, lentWhole};
-ghost use Rattle.held_region.specs.Meaning.{parentOf, patientOf, said};
+ghost use Rattle.held_region.specs.Meaning.{optional, patientOf, said};
 ghost use Rattle.held_region.specs.StandsFor.{StandsFor};
 ghost use Rattle.lent_region.specs.CutOff.{cut, cutOption, cutPatient};
 ghost use Rattle.lent_region.specs.Lent.{TableLent, PatientsLent, TablesLent, EntriesLent, codeLent};
@@ -11,10 +11,10 @@ use byte_areas::number_at;
 use held_region::FORBIDDEN;
 use held_region::NO_PATIENT;
 use held_region::NO_TABLE;
-use held_region::Parent;
 use held_region::Patient;
 use held_region::Region;
 use held_region::Table;
+use scanner::Optional;
 
 // The number that stands for none.
 const NONE: u64 = 0xffff_ffff_ffff_ffff;
@@ -41,7 +41,7 @@ fn counts_add_up(tables: &[u8], total: usize) -> bool
 pub fn areas_whole(patients: &[u8], tables: &[u8], entries: &[u8]) -> bool
     ensures { λ a. ⌜ a ≡ lentWhole (now (patients .entry)) (now (tables .entry)) (now (entries .entry)) ⌝ }
 {
-    if patients.len() % 24 != 0 {
+    if patients.len() % 32 != 0 {
         return false;
     }
     if tables.len() % 48 != 0 {
@@ -72,29 +72,32 @@ fn field_at(area: &[u8], i: usize) -> u32
     cut_off(n)
 }
 
-fn parent_at(patients: &[u8], i: usize) -> Parent
+// A field of a patient that may be none: the parent, the fixed bed.
+fn optional_at(patients: &[u8], i: usize) -> Optional
     requires { ⌜ i * 8 + 8 ≤ length (now patients) ⌝ }
-    ensures { λ p. ⌜ parentOf p ≡ cutOption (optionAt (now (patients .entry)) i) ⌝ }
+    ensures { λ o. ⌜ optional o ≡ cutOption (optionAt (now (patients .entry)) i) ⌝ }
 {
     let n = number_at(patients, i);
     if n == NONE {
-        return Parent::Root;
+        return Optional::Hyphen;
     }
-    let p = cut_off(n);
-    Parent::Of(p)
+    let number = cut_off(n);
+    Optional::Number(number)
 }
 
 fn patient_at(patients: &[u8], s: usize) -> Patient
-    requires { ⌜ s * 24 + 24 ≤ length (now patients) ⌝ }
+    requires { ⌜ s * 32 + 32 ≤ length (now patients) ⌝ }
     ensures { λ p. ⌜ patientOf p ≡ cutPatient (lentPatient (now (patients .entry)) s) ⌝ }
 {
-    let clinic = field_at(patients, s * 3);
-    let beds = field_at(patients, s * 3 + 1);
-    let parent = parent_at(patients, s * 3 + 2);
+    let clinic = field_at(patients, s * 4);
+    let beds = field_at(patients, s * 4 + 1);
+    let parent = optional_at(patients, s * 4 + 2);
+    let fixed = optional_at(patients, s * 4 + 3);
     Patient {
         clinic: clinic,
         beds: beds,
         parent: parent,
+        fixed: fixed,
     }
 }
 
@@ -135,10 +138,10 @@ fn lesser(a: usize, b: usize) -> usize
 
 // The first 32 patients.
 fn first_patients(patients: &[u8]) -> [Patient; 32]
-    ensures { λ r. ⌜ PatientsLent (now (patients .entry)) (min (length (now (patients .entry)) / 24) 32) r ⌝ }
+    ensures { λ r. ⌜ PatientsLent (now (patients .entry)) (min (length (now (patients .entry)) / 32) 32) r ⌝ }
 {
     let mut first = [NO_PATIENT; 32];
-    let n = lesser(patients.len() / 24, 32);
+    let n = lesser(patients.len() / 32, 32);
     let mut s = 0;
     while s < n {
         first[s] = patient_at(patients, s);
@@ -189,7 +192,7 @@ pub fn region_lent(
     let held_patients = first_patients(patients);
     let held_tables = first_tables(tables);
     Region {
-        v: patients.len() / 24,
+        v: patients.len() / 32,
         t: tables.len() / 48,
         m: m as usize,
         patients: held_patients,

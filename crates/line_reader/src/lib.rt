@@ -83,7 +83,7 @@ pub fn checksum_of(s: &[u8]) -> u32
 const HYPHEN: u32 = 4_294_967_295;
 
 // The value of a field that may be a hyphen.
-fn value_of(field: Optional) -> u32
+pub fn value_of(field: Optional) -> u32
     ensures { λ r. ⌜ r ≡ fieldValue (optional field) ⌝ }
 {
     match field {

@@ -14,20 +14,20 @@ use Rattle.held_region.specs.declared.Patient.{Patient}
 use Rattle.held_region.specs.declared.Table.{Table}
 use Rattle.held_region.specs.declared.Region.{Region}
 use Rattle.held_region.specs.AsHeld.{sum-said}
-use Rattle.held_region.specs.Meaning.{mark, entryOf, codeOf, parentOf, patientOf, patientIn, membersOf, tableSaid, said}
-use Rattle.line_reader.specs.Forms.{number-unmarked}
+use Rattle.held_region.specs.Meaning.{entryOf, optional, patientOf, patientIn, membersOf, tableSaid, said}
+use Rattle.line_reader.specs.Forms.{fieldValue, number-unmarked}
 use Rattle.text_writer.specs.Parts.{apart, bracketed-apart}
 use Rattle.region_lines.specs.Codes.{spellCode, mark-spelled, number-spelled}
 
 -- ---- numbers and codes
 
--- The code of what a file can say is spelled as that is.
+-- The code of what a file can say is spelled as that is; that of a field is its value.
 number-code : (n : ℕ) → spellable n ≡ true → decimal n ≡ spellCode n
 number-code n h = sym (number-spelled n (λ e. let l = number-unmarked n h in omega arith))
 
-option-code : (o : Option ℕ) → noneOr spellable o ≡ true → hyphenOrDecimal o ≡ spellCode (codeOf o)
-option-code none h = sym (mark-spelled mark refl)
-option-code (some n) h = number-code n h
+option-code : (o : Option ℕ) {value : ℕ} → noneOr spellable o ≡ true → value ≡ fieldValue o → hyphenOrDecimal o ≡ spellCode value
+option-code none {value} h is = sym (mark-spelled value is)
+option-code (some n) h is = number-code n h ∙ ap spellCode (sym is)
 
 number-codes : (ns : List ℕ) → every spellable ns ≡ true → map decimal ns ≡ map spellCode ns
 number-codes ns all = map-same decimal spellCode ns (λ n k. number-code n (every-in spellable ns all k))
@@ -37,14 +37,16 @@ number-codes ns all = map-same decimal spellCode ns (λ n k. number-code n (ever
 pub head-codes : (v t m : ℕ) → okHead (v, t, m) ≡ true → line (text "region" ∷ decimal v ∷ decimal t ∷ decimal m ∷ []) ≡ line (text "region" ∷ map spellCode (v ∷ t ∷ m ∷ []))
 head-codes v t m ok = ap (λ (fields : List (List ℕ)). line (text "region" ∷ fields)) (number-codes (v ∷ t ∷ m ∷ []) ok)
 
-pub patient-codes : (p : Patient) (parent : ℕ) → okPatient (patientOf p) ≡ true → parent ≡ codeOf (parentOf (p .parent))
-    → spellPatient (patientOf p) ≡ line (text "patient" ∷ map spellCode (p .clinic ∷ p .beds ∷ parent ∷ []))
+pub patient-codes : (p : Patient) (parent fixed : ℕ) → okPatient (patientOf p) ≡ true → parent ≡ fieldValue (optional (p .parent)) → fixed ≡ fieldValue (optional (p .fixed))
+    → spellPatient (patientOf p) ≡ line (text "patient" ∷ map spellCode (p .clinic ∷ p .beds ∷ parent ∷ fixed ∷ []))
 unfolding spellPatient
-patient-codes p parent ok is =
-    let (two, third) = both (spellable (p .clinic) && spellable (p .beds)) ok in
+patient-codes p parent fixed ok parent-is fixed-is =
+    let (three, fourth) = both (spellable (p .clinic) && spellable (p .beds) && noneOr spellable (optional (p .parent))) ok in
+    let (two, third) = both (spellable (p .clinic) && spellable (p .beds)) three in
     let (first, second) = both (spellable (p .clinic)) two in
-    let last : hyphenOrDecimal (parentOf (p .parent)) ≡ spellCode parent = option-code (parentOf (p .parent)) third ∙ ap spellCode (sym is) in
-    (λ i. line (text "patient" ∷ number-code (p .clinic) first i ∷ number-code (p .beds) second i ∷ last i ∷ []))
+    let parent-spelled = option-code (optional (p .parent)) third parent-is in
+    let fixed-spelled = option-code (optional (p .fixed)) fourth fixed-is in
+    (λ i. line (text "patient" ∷ number-code (p .clinic) first i ∷ number-code (p .beds) second i ∷ parent-spelled i ∷ fixed-spelled i ∷ []))
 
 -- ---- a table's line
 

@@ -4,11 +4,10 @@ pub mod forms;
 use forms::write_code;
 use forms::write_codes;
 use forms::write_form;
-use held_region::FORBIDDEN;
-use held_region::Parent;
 use held_region::Patient;
 use held_region::Region;
 use held_region::Table;
+use line_reader::value_of;
 use text_writer::write_gap;
 use text_writer::write_text;
 ghost use mathlib.Core.Path.{_≡_};
@@ -16,30 +15,24 @@ ghost use Prim.Native.Nat.{_+_, _≤_};
 ghost use Rattle.definitions.specs.Basics.{true, map};
 ghost use Rattle.definitions.specs.Spelling.{spellPatient, spellTable, spellBody};
 ghost use Rattle.theorems.specs.Forms.{okPatient};
-ghost use Rattle.held_region.specs.Meaning.{codeOf, parentOf, patientOf, membersOf, said};
+ghost use Rattle.held_region.specs.Meaning.{patientOf, membersOf, said};
 ghost use Rattle.text_writer.specs.Wrote.{Room, Wrote};
 ghost use Rattle.text_writer.specs.Parts.{apart};
 ghost use Rattle.region_lines.specs.Codes.{spellCode};
 ghost use Rattle.region_lines.specs.Spelled.{codesFrom, tableFrom, patientLines, tableLines};
 ghost use Rattle.region_lines.specs.Writable.{PatientsFit, TableFits, Writable};
 
-// A parent as a field is written: the mark at a root.
-fn parent_code(parent: Parent) -> u32
-    ensures { λ r. ⌜ r ≡ codeOf (parentOf parent) ⌝ }
-{
-    match parent {
-        Parent::Root => FORBIDDEN,
-        Parent::Of(p) => p,
-    }
-}
-
+// The parent and the fixed bed go by their codes: the mark where there is none.
 fn write_patient(out: &mut [u8], at: usize, patient: Patient) -> usize
     requires { ⌜ (okPatient (patientOf patient) ≡ true) × (Room (spellPatient (patientOf patient)) at (now out)) ⌝ }
     ensures { λ r. ⌜ Wrote (spellPatient (patientOf patient)) at (now (out .entry)) (now (out .exit)) r ⌝ }
 {
     let parent = patient.parent;
-    let code = parent_code(parent);
-    write_form(out, at, b"patient", &[patient.clinic, patient.beds, code])
+    let fixed = patient.fixed;
+    let parent_code = value_of(parent);
+    let fixed_code = value_of(fixed);
+    let fields = [patient.clinic, patient.beds, parent_code, fixed_code];
+    write_form(out, at, b"patient", &fields)
 }
 
 fn write_patients(out: &mut [u8], at: usize, region: Region) -> usize

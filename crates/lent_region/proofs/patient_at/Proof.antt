@@ -17,17 +17,29 @@ add-field-at c = search needs
 field-at-requires-2 : tie.Need-field-at-requires-2
 field-at-requires-2 c κs = search needs
 
-mul-parent-at : tie.Need-mul-parent-at
-mul-parent-at c = search needs
+mul-optional-at : tie.Need-mul-optional-at
+mul-optional-at c = search needs
 
-add-parent-at : tie.Need-add-parent-at
-add-parent-at c = search needs
+add-optional-at : tie.Need-add-optional-at
+add-optional-at c = search needs
 
-parent-at-requires : tie.Need-parent-at-requires
-parent-at-requires c κs = search needs
+optional-at-requires : tie.Need-optional-at-requires
+optional-at-requires c κs = search needs
+
+mul-optional-at-2 : tie.Need-mul-optional-at-2
+mul-optional-at-2 c = search needs
+
+add-optional-at-2 : tie.Need-add-optional-at-2
+add-optional-at-2 c = search needs
+
+optional-at-requires-2 : tie.Need-optional-at-requires-2
+optional-at-requires-2 c κs = search needs
 
 returns : tie.Need-returns
-returns c = cc (c .before .before .field-at .ensures, c .before .field-at2 .ensures, c .parent-at .ensures)
+returns c =
+    let parent = c .before in
+    let beds = parent .before in
+    cc (beds .before .field-at .ensures, beds .field-at2 .ensures, parent .optional-at .ensures, c .optional-at2 .ensures)
 
 pub patient-at-spec : {M : Type 1} → statement M
 patient-at-spec =
@@ -38,7 +50,10 @@ patient-at-spec =
     mul-field-at-2
     add-field-at
     field-at-requires-2
-    mul-parent-at
-    add-parent-at
-    parent-at-requires
+    mul-optional-at
+    add-optional-at
+    optional-at-requires
+    mul-optional-at-2
+    add-optional-at-2
+    optional-at-requires-2
     returns)

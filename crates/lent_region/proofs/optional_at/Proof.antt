@@ -3,8 +3,8 @@ use mathlib.Core.Path.{sym, ap, _∙_}
 use Rattle.definitions.specs.Basics.{some}
 use Rattle.lent_region.specs.CutOff.{cutOption}
 use Rattle.lent_region.proofs.Areas.{option-none, option-some}
-use Rattle.lent_region.proofs.parent_at.Statement.{statement}
-use Rattle.lent_region.proofs.parent_at.Tie as tie
+use Rattle.lent_region.proofs.optional_at.Statement.{statement}
+use Rattle.lent_region.proofs.optional_at.Tie as tie
 
 number-at-requires : tie.Need-number-at-requires
 number-at-requires c κs = search needs
@@ -22,5 +22,5 @@ returns-2 c =
     let lent = c .before .before .before .before .args in
     ap some (c .cut-off .ensures) ∙ ap cutOption (sym (option-some (lent .patients .now) (lent .i) (c .before .before .number-at .ensures) (c .before .if1 .left)))
 
-pub parent-at-spec : {M : Type 1} → statement M
-parent-at-spec = tie.close (tie.spec number-at-requires returns cut-off-requires returns-2)
+pub optional-at-spec : {M : Type 1} → statement M
+optional-at-spec = tie.close (tie.spec number-at-requires returns cut-off-requires returns-2)
