@@ -1,18 +1,19 @@
 -- The numbers from a on, and those below n; what a function gives there, and what tests say of them.
-use mathlib.Core.Path.{sym, ap, _∙_}
+use mathlib.Core.Path.{sym, ap, ap₂, _∙_}
 use mathlib.Core.Logic.{inl, inr}
 use mathlib.Core.Bool.{and-assoc, and-true}
 use mathlib.Core.List.{map-append}
 use native.Mathlib.Nat.{eq-or-lt-of-le}
 use native.Mathlib.Omega.{arith}
+use borrow.Author.Tests.{eqb-true, eqb-false, ne-eqb}
 use lib.ListN.{length-map}
 use lib.Seq.{ext-getD, getD-take, length-take-le}
 use Prim.Native.Nat.{_≤_}
-use Rattle.definitions.specs.Basics.{ℕ, zero, suc, _+_, _<_, _≡_, refl, Bool, true, false, _&&_, cond}
+use Rattle.definitions.specs.Basics.{ℕ, zero, suc, _+_, _<_, _≡_, refl, Bool, true, false, _&&_, cond, eqb}
 use Rattle.definitions.specs.Basics.{List, [], _∷_, _++_, map, length, getD, take, numbersFrom, below, every, keep, contains}
 use Rattle.lists.specs.Members.{_∈_, here, there, here-or-there, none-in-nil, Enumerates}
 use Rattle.lists.specs.Every.{every-in, every-same, every-map, contains-in}
-use Rattle.lists.specs.Keep.{keep-same}
+use Rattle.lists.specs.Keep.{keep-same, keep-none}
 use Rattle.lists.specs.Maps.{map-same}
 
 pub numbers-enumerate : (a n : ℕ) → Enumerates (λ x. (a ≤ x) × (x < a + n)) (numbersFrom a n)
@@ -105,6 +106,20 @@ module _ (f g : ℕ → Bool) where
 
   pub same-keep : (k n : ℕ) → ((q : ℕ) → k ≤ q → q < k + n → f q ≡ g q) → keep f (numbersFrom k n) ≡ keep g (numbersFrom k n)
   same-keep k n same = keep-same f g (numbersFrom k n) (λ q i. let (h, l) = numbers-enumerate k n .only q i in same q h l)
+
+-- A test that one number passes keeps that one.
+keep-one-from : (k n s : ℕ) → k ≤ s → s < k + n → keep (eqb s) (numbersFrom k n) ≡ s ∷ []
+keep-one-from k zero s h l = absurd (omega arith)
+keep-one-from k (suc n) s h l = go (eqb s k) refl (λ other. keep-one-from (suc k) n s (omega (arith, other)) (omega arith))
+  where
+    go : (b : Bool) → eqb s k ≡ b → ((s ≡ k → ⊥) → keep (eqb s) (numbersFrom (suc k) n) ≡ s ∷ []) → cond b (k ∷ keep (eqb s) (numbersFrom (suc k) n)) (keep (eqb s) (numbersFrom (suc k) n)) ≡ s ∷ []
+    go true e later =
+        let same : s ≡ k = eqb-true s k e in
+        ap₂ {C = List ℕ} (λ x r. x ∷ r) (sym same) (keep-none (eqb s) (numbersFrom (suc k) n) (λ q i. ne-eqb s q (λ z. omega (arith, numbers-enumerate (suc k) n .only q i .0))))
+    go false e later = later (eqb-false s k e)
+
+pub keep-one : (n s : ℕ) → s < n → keep (eqb s) (below n) ≡ s ∷ []
+keep-one n s h = keep-one-from 0 n s (omega arith) (omega arith)
 
 module _ (f : ℕ → Bool) where
   -- A test that fails from v on keeps what it keeps of the first v numbers.

@@ -7,7 +7,7 @@ use native.Mathlib.Decide.{decLt}
 use native.Mathlib.Omega.{arith}
 use lib.Seq.{getD-take}
 use lib.ListN.{List·getD-eq-default}
-use Rattle.definitions.specs.Basics.{ℕ, zero, suc, _+_, _*_, _<_, Bool, true, false, _||_, some, List, [], _∷_, _++_, map, length, take, replicate, sum, eqb, contains}
+use Rattle.definitions.specs.Basics.{ℕ, zero, suc, _+_, _*_, _<_, Bool, true, false, _||_, some, List, [], _∷_, _++_, map, length, take, replicate, sum, eqb, any, contains}
 use Rattle.definitions.specs.Syntax.{Region}
 use Rattle.definitions.specs.Plans.{Plan, Row, bedOf}
 use mathlib.Core.Logic.{inl, inr}
@@ -145,7 +145,7 @@ module _ {r : Region} {D E : Patients} {store patients terms : List ℕ} {v m n 
 module _ (r : Region) (accepted : Accepted r) (D : Patients) (placed : Plan) where
   rows-cost : (z : Row) → RowOf r D placed z → z .cost ≤ mostTotal
   unfolding tablesOf
-  rows-cost z row = part-small r accepted (holds D) (addBeds placed (z .beds)) (z .cost) (row .priced)
+  rows-cost z row = part-small r accepted (any D) (addBeds placed (z .beds)) (z .cost) (row .priced)
 
   rows-bed : (z : Row) → RowOf r D placed z → (s : ℕ) → bedOf (z .beds) s < 16
   rows-bed z row s = go (D s) refl (decLt s (length (r .patients)))

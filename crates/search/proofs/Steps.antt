@@ -3,23 +3,24 @@ use mathlib.Core.Path.{_≡_, refl, sym, ap, _∙_, subst⁻¹}
 use Prim.Native.Nat.{_≤_}
 use native.Mathlib.Omega.{arith}
 use lib.ListN.{set, length-set}
-use lib.Seq.{take-set-lt}
+use lib.Seq.{take-set-lt, getD-set-same}
 use borrow.Author.Tests.{eq-eqb}
-use Rattle.definitions.specs.Basics.{ℕ, _+_, _<_, true, not, _&&_, _||_, Option, List, _∷_, map, length, getD, take, sum, eqb, isEmpty, contains, ltb, everyTwo, replicate}
+use Rattle.definitions.specs.Basics.{ℕ, _+_, _<_, true, not, _&&_, _||_, Option, none, List, _∷_, map, length, getD, take, sum, eqb, isEmpty, contains, ltb, everyTwo, replicate}
 use Rattle.definitions.specs.Syntax.{Region, patientAt}
-use Rattle.definitions.specs.Plans.{bedOf}
+use Rattle.definitions.specs.Plans.{bedOf, costOver}
 use Rattle.theorems.specs.Accepted.{mostTotal}
 use Rattle.patient_set.specs.Sets.{inSet, members, first}
 use Rattle.patient_set.specs.Laws.{rising, lowest-and-rest}
 use Rattle.partial_rows.specs.Sets.{only, Splits}
 use Rattle.partial_rows.specs.Rows.{Position, decidedTables, withBed, LowerBound}
 use Rattle.partial_rows.specs.Branches.{position-bed}
-use Rattle.bucket_words.specs.Words.{leastAt, bedsAt}
-use Rattle.buckets.specs.Terms.{Fitting, bucketOf, leastIn, fitting-low}
+use Rattle.bucket_words.specs.Words.{leastAt, firstBedAt, bedEndAt}
+use Rattle.buckets.specs.Terms.{Fitting, leastIn, fitting-low}
 use Rattle.pricing.specs.BedCosts as Price
 use Rattle.pricing.specs.Pricing.{sumIn}
 use Rattle.pricing.specs.Costs.{fitting-set}
 use Rattle.pricing.specs.declared.Plan as Code
+use Rattle.search.specs.Decided.{decidedAt, permitted-cost, forbidden-before, forbidden-from}
 use Rattle.search.specs.Lowest.{list-split, list-lowest, bucket-decided, upward-rest, bound-members}
 use Rattle.search.specs.Walks.{Branching, remaining, leftIn, headRow, SumsFit, Heads, AsksNext, Below, Decides, GivesRest}
 use Rattle.search.specs.declared.walk.Rest.{Rest}
@@ -46,19 +47,37 @@ module _ {r : Region} {store patients terms : List ℕ} {v : ℕ} {head : Branch
   low : (q : ℕ) → leftIn head q ≡ true → s ≤ q
   low = list-lowest (leftIn head) s others (λ q. ap (λ l. contains l q) lowest) up
 
-  pub decided : decidedTables r (only s) (contains others) ≡ bucketOf r s
+  pub decided : decidedTables r (only s) (contains others) ≡ decidedAt r s
   decided = bucket-decided r s split low (heads .upward)
 
   pub fits-next : SumsFit head → (bed : ℕ) → bed < patientAt r s .bedCount → Fitting r (set (head .plan .beds) s bed)
   fits-next sumsFit bed h = fitting-set r (head .plan .beds) s bed (omega (arith, known, heads .counted, heads .few, sumsFit .beds)) (heads .fits) h
 
+  -- The bed that is set.
+  pub next-bed : SumsFit head → (bed : ℕ) → bedOf (set (head .plan .beds) s bed) s ≡ bed
+  next-bed sumsFit bed = getD-set-same (head .plan .beds) s bed 0 (omega (arith, known, heads .counted, heads .few, sumsFit .beds))
+
+  -- Beds before the first permitted one, and from the end on, are forbidden.
+  module _ (sumsFit : SumsFit head) (bed : ℕ) (h : bed < patientAt r s .bedCount) where
+    pub not-before-first : {first : ℕ} → first ≡ firstBedAt patients s → bed < first → costOver (decidedTables r (only s) (contains others)) r (set (head .plan .beds) s bed) ≡ none
+    not-before-first firsts l =
+        let bed-is = next-bed sumsFit bed in
+        ap (λ l. costOver l r (set (head .plan .beds) s bed)) decided
+        ∙ forbidden-before r s (set (head .plan .beds) s bed) known (omega (arith, bed-is)) (omega (arith, bed-is, firsts, heads .prepared .firstBed s known))
+
+    pub not-from-end : {end : ℕ} → end ≡ bedEndAt patients s → end ≤ bed → costOver (decidedTables r (only s) (contains others)) r (set (head .plan .beds) s bed) ≡ none
+    not-from-end ends l =
+        let bed-is = next-bed sumsFit bed in
+        ap (λ l. costOver l r (set (head .plan .beds) s bed)) decided
+        ∙ forbidden-from r s (set (head .plan .beds) s bed) known (omega (arith, bed-is)) (omega (arith, bed-is, ends, heads .prepared .bedEnd s known))
+
   pub few : s < 32
   few = omega (arith, known, heads .counted, heads .few)
 
   -- What the costs of the patient's beds ask for.
-  pub asks-beds : SumsFit head → {count : ℕ} → count ≡ bedsAt patients s → Price.Asks store patients terms s count (head .plan .beds) (replicate 16 0)
-  asks-beds sumsFit counts =
-      record { region = r; prepared = heads .prepared; fits = heads .fits; known = known; few = few; counts = counts; long = sumsFit .beds; unplaced = heads .position .unplaced s here; zeros = refl }
+  pub asks-beds : SumsFit head → {first end : ℕ} → first ≡ firstBedAt patients s → end ≡ bedEndAt patients s → Price.Asks store patients terms s first end (head .plan .beds) (replicate 16 0)
+  asks-beds sumsFit firsts ends =
+      record { region = r; prepared = heads .prepared; fits = heads .fits; known = known; few = few; firsts = firsts; ends = ends; long = sumsFit .beds; unplaced = heads .position .unplaced s here; zeros = refl }
 
 -- Four bits hold each bed that fits.
 pub low-beds : {r : Region} {store patients terms : List ℕ} {v : ℕ} {head : Branching} → Heads r store patients terms v head → (beds : List ℕ) → Fitting r beds → (q : ℕ) → q < v → bedOf beds q < 16
@@ -72,10 +91,14 @@ module _ {store patients terms : List ℕ} {head : Branching} {s bed : ℕ} (ask
   pub asks-room : head .plan .len < 32
   asks-room = omega (arith, asks .sumsFit .placed, ap length (asks .lowest))
 
-  -- What the bed decides costs as much as the sum for it says.
-  pub decides : {count : ℕ} {sums : List ℕ} → Price.Gives store patients terms s count (head .plan .beds) sums → {o : Option ℕ} → sumIn (getD sums bed 0) ≡ o
-      → Decides store patients terms head s bed o
-  decides gives e r v heads h = sym (gives .cost r (heads .prepared) (heads .fits) (known heads (asks .lowest)) bed h) ∙ e
+  -- What a permitted bed decides costs as much as the sum for it says.
+  pub decides : {first end : ℕ} {sums : List ℕ} → first ≡ firstBedAt patients s → end ≡ bedEndAt patients s → first ≤ bed → bed < end
+      → Price.Gives store patients terms s first end (head .plan .beds) sums → {o : Option ℕ} → sumIn (getD sums bed 0) ≡ o → Decides store patients terms head s bed o
+  decides firsts ends low high gives e r v heads h =
+      let here = known heads (asks .lowest) in
+      let bed-is = next-bed heads (asks .lowest) (asks .sumsFit) bed in
+      permitted-cost r s (set (head .plan .beds) s bed) here (omega (arith, bed-is)) (omega (arith, bed-is, firsts, heads .prepared .firstBed s here)) (omega (arith, bed-is, ends, heads .prepared .bedEnd s here))
+      ∙ sym (gives .cost r (heads .prepared) (heads .fits) here bed low high) ∙ e
 
 -- Those who are left without the lowest.
 pub rest-left : (w s one rest : ℕ) (others : List ℕ) → members w ≡ s ∷ others → ((q : ℕ) → inSet one q ≡ eqb q s) → ((q : ℕ) → inSet rest q ≡ (inSet w q && not (inSet one q)))

@@ -1,4 +1,4 @@
--- The walk's loop over the beds of the lowest patient left.
+-- The walk's loop over the permitted beds of the lowest patient left.
 use mathlib.Core.Path.{_≡_, refl, sym, ap, _∙_, subst, subst⁻¹}
 use mathlib.Core.Bool.{true≢false, false≢true}
 use Prim.Native.Nat.{_≤_}
@@ -20,14 +20,15 @@ use Rattle.partial_rows.specs.Sets.{only, Splits}
 use Rattle.partial_rows.specs.Rows.{Branch, decidedTables, withBed}
 use Rattle.partial_rows.specs.Padding.{unpadded, Padded}
 use Rattle.partial_rows.specs.Walk.{BranchBelow, walk-leaf, walk-cut, walk-none, ready-bed, walk-bed, walk-skip, walk-all}
-use Rattle.bucket_words.specs.Words.{bedsAt}
+use Rattle.bucket_words.specs.Words.{firstBedAt, bedEndAt}
+use Rattle.buckets.specs.Permitted.{permitted-some, permitted-most}
 use Rattle.packed_rows.specs.declared.Row as Code
 use Rattle.packed_rows.specs.Packed.{rowOf, isBefore}
 use Rattle.packed_rows.specs.Packing.{packedRow}
 use Rattle.row_list.specs.Rows.{rowIn, rowsIn, Room, Inserted}
 use Rattle.row_list.specs.Laws.{unpadded-long, unpadded-at}
 use Rattle.search.specs.Walks.{Branching, remaining, leftIn, headRow, Heads, BranchOf, AsksNext, Below, Decides, AllPadded, isPast, AsksCut, Asks, Gives}
-use Rattle.search.proofs.Steps.{known, low-beds, split, decided, fits-next, asks-few, asks-room, below-split, row-below, sums-fit-below, heads-below, bound-holds}
+use Rattle.search.proofs.Steps.{known, not-before-first, not-from-end, low-beds, split, decided, fits-next, asks-few, asks-room, below-split, row-below, sums-fit-below, heads-below, bound-holds}
 use Rattle.search.proofs.Padded.{row-padded, row-unpadded, inserted-unpadded, inserted-padded}
 
 -- A row that is not before another.
@@ -40,11 +41,13 @@ not-before v w e h = go (rowOrder .view v w) e
     go (after k) f = rowOrder .irrefl {x = v} (rowOrder .trans {x = v} {y = w} {z = v} h k)
 
 -- Where the loop stands: the list has grown by the rows whose bed for s is below the next one.
-pub record Sofar (store patients terms : List ℕ) (v n m : ℕ) (area : List ℕ) (head : Branching) (s count : ℕ) (now : List ℕ) (found bed : ℕ) : Type 0 where
+pub record Sofar (store patients terms : List ℕ) (v n m : ℕ) (area : List ℕ) (head : Branching) (s first end : ℕ) (now : List ℕ) (found bed : ℕ) : Type 0 where
   pub others : List ℕ
   pub lowest : remaining head ≡ s ∷ others
-  pub counts : count ≡ bedsAt patients s
-  pub bed-most : bed ≤ count
+  pub firsts : first ≡ firstBedAt patients s
+  pub ends : end ≡ bedEndAt patients s
+  pub begun : first ≤ bed
+  pub bed-most : bed ≤ end
   pub few : found ≤ m
   pub long : length now ≡ length area
   pub padded : AllPadded v found now
@@ -79,33 +82,39 @@ module _ {store patients terms : List ℕ} {v n m : ℕ} {area : List ℕ} {head
       is = row-unpadded v (head .cost) (head .plan .beds) few (asks .sumsFit .beds) x packed (low-beds (asks .heads) (head .plan .beds) (asks .heads .fits))
 
   module _ (asks : Asks store patients terms v n m area head) {s : ℕ} where
-    pub sofar-start : {count : ℕ} (others : List ℕ) → remaining head ≡ s ∷ others → count ≡ bedsAt patients s → Sofar store patients terms v n m area head s count area n 0
-    sofar-start others lowest counts =
+    pub sofar-start : {first end : ℕ} (others : List ℕ) → remaining head ≡ s ∷ others → first ≡ firstBedAt patients s → end ≡ bedEndAt patients s
+        → Sofar store patients terms v n m area head s first end area n first
+    sofar-start {first} {end} others lowest firsts ends =
         record {
           others = others;
           lowest = lowest;
-          counts = counts;
-          bed-most = omega arith;
+          firsts = firsts;
+          ends = ends;
+          begun = omega arith;
+          bed-most = permitted (asks .region) (asks .heads);
           few = asks .room .held;
           long = refl;
           padded = asks .padded;
-          grown = λ r heads ready. walk-none s (split-of r heads) (heads .position) ready;
+          grown = λ r heads ready. walk-none s (split-of r heads) (heads .position) ready first (λ b l h. not-before-first heads lowest (asks .sumsFit) b h firsts l);
         }
       where
+        permitted : (r : Region) (heads : Heads r store patients terms v head) → first ≤ end
+        permitted r heads = omega (arith, firsts, ends, heads .prepared .firstBed s (known heads lowest), heads .prepared .bedEnd s (known heads lowest), permitted-some r (heads .prepared .accepted) s (known heads lowest))
+
         split-of : (r : Region) (heads : Heads r store patients terms v head) → Splits (leftIn head) (only s) (contains others)
         split-of r heads = split heads lowest
 
-  module _ (asks : Asks store patients terms v n m area head) {s count : ℕ} {now : List ℕ} {found bed : ℕ} (sofar : Sofar store patients terms v n m area head s count now found bed) where
+  module _ (asks : Asks store patients terms v n m area head) {s first end : ℕ} {now : List ℕ} {found bed : ℕ} (sofar : Sofar store patients terms v n m area head s first end now found bed) where
     -- At the end all beds were tried.
-    pub sofar-done : count ≤ bed → Gives store patients terms v n m area head now found
-    sofar-done end =
+    pub sofar-done : end ≤ bed → Gives store patients terms v n m area head now found
+    sofar-done past =
         record {
           count = sofar .few;
           long = sofar .long;
           padded = sofar .padded;
           grown = λ r heads ready.
-              let all : bed ≡ patientAt r s .bedCount = omega (arith, sofar .bed-most, sofar .counts, heads .prepared .beds s (known heads (sofar .lowest))) in
-              walk-all s (split heads (sofar .lowest)) (heads .position) ready
+              let all : bed ≡ end = omega (arith, sofar .bed-most) in
+              walk-all s (split heads (sofar .lowest)) (heads .position) ready end (λ b l h. not-from-end heads (sofar .lowest) (asks .sumsFit) b h (sofar .ends) l)
               (subst (λ b. Grown rowOrder m (rowsIn v n area) (BranchBelow r (leftIn head) (head .plan .beds) (headRow v head) s b) (rowsIn v found now)) all (sofar .grown r heads ready));
         }
 
@@ -114,9 +123,11 @@ module _ {store patients terms : List ℕ} {v n m : ℕ} {area : List ℕ} {head
         let room = asks .room in
         record { held = sofar .few; wanted = room .wanted; some = room .some; long = omega (arith, room .long, sofar .long) }
 
-    module _ (more : bed < count) where
+    module _ (more : bed < end) where
       fits : (r : Region) → Heads r store patients terms v head → bed < patientAt r s .bedCount
-      fits r heads = omega (arith, sofar .counts, heads .prepared .beds s (known heads (sofar .lowest)))
+      fits r heads =
+          let here = known heads (sofar .lowest) in
+          omega (arith, sofar .ends, heads .prepared .bedEnd s here, permitted-most r (heads .prepared .accepted) s here)
 
       pub bed-small : bed < 16
       bed-small = omega (arith, fits (asks .region) (asks .heads), beds-few (asks .region) (asks .heads .prepared .accepted) s (known (asks .heads) (sofar .lowest)))
@@ -149,12 +160,14 @@ module _ {store patients terms : List ℕ} {v n m : ℕ} {area : List ℕ} {head
       next-bed : {after : List ℕ} {grows : ℕ} → grows ≤ m → length after ≡ length now → AllPadded v grows after
           → ((r : Region) (heads : Heads r store patients terms v head) → Ready rowOrder m (rowsIn v n area) (BranchOf r v head)
           → Grown rowOrder m (rowsIn v n area) (BranchBelow r (leftIn head) (head .plan .beds) (headRow v head) s (suc bed)) (rowsIn v grows after))
-          → Sofar store patients terms v n m area head s count after grows (bed + 1)
+          → Sofar store patients terms v n m area head s first end after grows (bed + 1)
       next-bed {after} {grows} few long padded grown =
           record {
             others = sofar .others;
             lowest = sofar .lowest;
-            counts = sofar .counts;
+            firsts = sofar .firsts;
+            ends = sofar .ends;
+            begun = omega (arith, sofar .begun);
             bed-most = omega arith;
             few = few;
             long = long ∙ sofar .long;
@@ -164,7 +177,7 @@ module _ {store patients terms : List ℕ} {v n m : ℕ} {area : List ℕ} {head
           }
 
       -- A forbidden bed.
-      pub sofar-skip : Decides store patients terms head s bed none → Sofar store patients terms v n m area head s count now found (bed + 1)
+      pub sofar-skip : Decides store patients terms head s bed none → Sofar store patients terms v n m area head s first end now found (bed + 1)
       sofar-skip decides =
           next-bed (sofar .few) refl (sofar .padded) (λ r heads ready.
           walk-skip s (split heads (sofar .lowest)) (heads .position) ready
@@ -198,12 +211,12 @@ module _ {store patients terms : List ℕ} {v n m : ℕ} {area : List ℕ} {head
           grown-below then grows g = walk-bed s (below-split is heads) (heads .position) ready (fits r heads) priced (sofar .grown r heads ready)
               (subst (λ Q. Grown rowOrder m (rowsIn v found now) Q (rowsIn v grows then)) branch g)
 
-        pub sofar-walk : {after : List ℕ} {grows : ℕ} → Gives store patients terms v found m now below after grows → Sofar store patients terms v n m area head s count after grows (bed + 1)
+        pub sofar-walk : {after : List ℕ} {grows : ℕ} → Gives store patients terms v found m now below after grows → Sofar store patients terms v n m area head s first end after grows (bed + 1)
         sofar-walk {after = then} {grows} gives =
             next-bed (gives .count) (gives .long) (gives .padded) (λ r heads ready.
             grown-below r heads ready then grows (gives .grown r (heads-below is heads (asks .sumsFit) (fits r heads)) (ready-below r heads ready)))
 
-        pub sofar-cut : {r : Bool} → r ≡ isPast v found m now (below .cost + below .bound) (below .plan .beds) → not r ≡ false → Sofar store patients terms v n m area head s count now found (bed + 1)
+        pub sofar-cut : {r : Bool} → r ≡ isPast v found m now (below .cost + below .bound) (below .plan .beds) → not r ≡ false → Sofar store patients terms v n m area head s first end now found (bed + 1)
         unfolding isPast
         sofar-cut {r} past gone =
             let parts = both (eqb found m) (sym past ∙ not-false r gone) in

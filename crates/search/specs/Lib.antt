@@ -1,3 +1,4 @@
+pub mod Decided
 pub mod Lowest
 pub mod Walks
 pub mod Trees

@@ -17,6 +17,7 @@ use Rattle.partial_rows.specs.Bounds.{least-sum, bound-zero}
 use Rattle.partial_rows.specs.Adding.{addBeds}
 use Rattle.partial_rows.specs.Splitting.{row-apart}
 use Rattle.buckets.specs.Terms.{bucketOf, leastIn}
+use Rattle.search.specs.Decided.{decidedAt, decided-tables}
 
 -- Of a table with a member in the set, every higher member is in it.
 abbrev pub Upward : Region → Patients → Type 0
@@ -40,9 +41,9 @@ module _ (r : Region) {D F : Patients} (s : ℕ) (split : Splits D (only s) F) (
       go second d f = refl
       go neither d f = d
 
-  -- Where s gets its bed, its bucket is decided and nothing else.
-  pub bucket-decided : decidedTables r (only s) F ≡ bucketOf r s
-  unfolding decidedTables bucketOf
+  -- Where s gets its bed, what it is the highest member of is decided and nothing else.
+  pub bucket-decided : decidedTables r (only s) F ≡ decidedAt r s
+  unfolding decidedTables decidedAt
   bucket-decided = keep-same _ _ (constraints r) (λ t k. go t k (holds (only s) t) refl)
     where
       same : (t : Table) → t ∈ constraints r → holds (only s) t ≡ true → holds F t ≡ holds (ltb s) t
@@ -68,7 +69,7 @@ module _ (r : Region) {D F : Patients} (s : ℕ) (split : Splits D (only s) F) (
   unfolding leastIn
   bound-more placed n rest w row =
       let (u, step, branch) = row-apart r split placed w row in
-      let first-cost = least-sum r _ (bucketOf r s) (u .cost) (ap (λ l. costOver l r (addBeds placed (u .beds))) (sym bucket-decided) ∙ step .priced) in
+      let first-cost = least-sum r _ (bucketOf r s) (u .cost) (decided-tables r s (addBeds placed (u .beds)) (u .cost) (ap (λ l. costOver l r (addBeds placed (u .beds))) (sym bucket-decided) ∙ step .priced)) in
       let total : w .cost ≡ u .cost + branch .rest .cost = ap (λ (z : Row). z .cost) (branch .is) in
       omega (arith, first-cost, rest (addBeds placed (u .beds)) (branch .rest) (branch .inRest))
 

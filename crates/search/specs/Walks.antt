@@ -12,11 +12,12 @@ use Rattle.patient_set.specs.declared.PatientSet.{PatientSet}
 use Rattle.patient_set.specs.Sets.{members}
 use Rattle.partial_rows.specs.Rows.{Branch, Position}
 use Rattle.bucket_words.specs.Words.{leastAt}
-use Rattle.buckets.specs.Terms.{Fitting, bucketOf, leastIn, Prepared}
+use Rattle.buckets.specs.Terms.{Fitting, leastIn, Prepared}
 use Rattle.pricing.specs.declared.Plan as Code
 use Rattle.partial_rows.specs.Padding.{unpadded, Padded}
 use Rattle.packed_rows.specs.Packed.{isBefore}
 use Rattle.row_list.specs.Rows.{wholeRows, rowIn, rowsIn, Room}
+use Rattle.search.specs.Decided.{decidedAt}
 use Rattle.search.specs.Lowest.{Upward}
 use Rattle.search.specs.declared.walk.Head.{Head}
 use Rattle.search.specs.declared.walk.Rest.{Rest}
@@ -85,7 +86,7 @@ pub record Below (patients : List ℕ) (head : Branching) (s bed c : ℕ) (below
 -- What the bed decides costs so much, or is forbidden, in every region that the head is one of.
 abbrev pub Decides : List ℕ → List ℕ → List ℕ → Branching → ℕ → ℕ → Option ℕ → Type 0
 Decides store patients terms head s bed cost =
-    (r : Region) (v : ℕ) → Heads r store patients terms v head → bed < patientAt r s .bedCount → costOver (bucketOf r s) r (set (head .plan .beds) s bed) ≡ cost
+    (r : Region) (v : ℕ) → Heads r store patients terms v head → bed < patientAt r s .bedCount → costOver (decidedAt r s) r (set (head .plan .beds) s bed) ≡ cost
 
 -- What is left without the lowest patient.
 pub record AsksRest (patients : List ℕ) (bound s : ℕ) : Type 0 where

@@ -19,7 +19,7 @@ ghost use Rattle.patient_set.specs.Sets.{members};
 ghost use Rattle.search.specs.Trees.{LeastSummed, AsksStart, GivesStart, AsksTree, GivesTree, AsksForest, GivesForest, AsksRegion, GivesRegion};
 
 // The sum of the least numbers of the buckets of a set.
-fn least_sum(patients: &[u32; 96], set: PatientSet) -> u64
+fn least_sum(patients: &[u32; 160], set: PatientSet) -> u64
     ensures { λ n. ⌜ LeastSummed (now (patients .entry)) (members (set .0)) n ⌝ }
 {
     let mut rest = set;
@@ -45,7 +45,7 @@ fn start_list(work: &mut [u32], v: usize)
 // The list with one more tree: a walk lists the tree's rows, and the two lists are combined.
 fn add_tree(
     work: &mut [u32],
-    patients: &[u32; 96],
+    patients: &[u32; 160],
     terms: &[u32; 640],
     entries: &[u32; 4096],
     v: usize,
@@ -80,7 +80,7 @@ fn add_tree(
 // The list of all trees, one after the other.
 fn list_trees(
     work: &mut [u32],
-    patients: &[u32; 96],
+    patients: &[u32; 160],
     terms: &[u32; 640],
     entries: &[u32; 4096],
     roots: &[u32; 32],

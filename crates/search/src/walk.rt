@@ -1,5 +1,6 @@
 // Depth-first branch and bound over the patients of a set, the lowest first, beds rising.
-use bucket_words::bed_count;
+use bucket_words::bed_end;
+use bucket_words::first_bed;
 use bucket_words::least_cost;
 use packed_rows::pack;
 use patient_set::PatientSet;
@@ -30,7 +31,7 @@ pub struct Rest {
 }
 
 // The others, and the bound without the lowest patient's bucket.
-fn rest_of(patients: &[u32; 96], left: PatientSet, bound: u64, s: usize) -> Rest
+fn rest_of(patients: &[u32; 160], left: PatientSet, bound: u64, s: usize) -> Rest
     requires { ⌜ AsksRest (now patients) bound s ⌝ }
     ensures { λ rest. ⌜ GivesRest (now (patients .entry)) (members (left .0)) bound s rest ⌝ }
 {
@@ -69,10 +70,10 @@ fn is_cut(
     is_past(list, n, m, row)
 }
 
-// Adds the rows of the branch to the list: the m cheapest are kept. Each bed that is not cut gives a longer plan, whose beds are lent to the branch below.
+// Adds the rows of the branch to the list: the m cheapest are kept. Each permitted bed that is not cut gives a longer plan, whose beds are lent to the branch below.
 pub fn walk(
     list: &mut [u32],
-    patients: &[u32; 96],
+    patients: &[u32; 160],
     terms: &[u32; 640],
     entries: &[u32; 4096],
     beds: &[u8; 32],
@@ -90,19 +91,20 @@ pub fn walk(
         return insert(list, n, m, row);
     }
     let s = left.lowest() as usize;
-    let count = bed_count(patients, s);
+    let first = first_bed(patients, s);
+    let end = bed_end(patients, s);
     let rest = rest_of(patients, left, head.bound, s);
     let others = rest.left;
     let bound = rest.bound;
     let mut sums = [0u64; 16];
-    bed_costs(&mut sums, patients, terms, entries, s, count, beds);
+    bed_costs(&mut sums, patients, terms, entries, s, first, end, beds);
     let plan = Plan {
         beds: *beds,
         len: head.placed,
     };
     let mut found = n;
-    let mut bed: usize = 0;
-    while bed < count {
+    let mut bed = first;
+    while bed < end {
         let cost = bed_cost(&sums, bed);
         if let Cost::Of(n) = cost {
             let sum = head.cost + n;

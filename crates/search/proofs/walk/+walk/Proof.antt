@@ -17,7 +17,8 @@ use Rattle.search.proofs.walk.walk.Kinds as walk-kinds
 use Rattle.search.proofs.walk.+walk.Lts-walk as walk-lts
 use Rattle.patient_set.proofs.PatientSet.is_empty.Reads as is-empty-reads
 use Rattle.patient_set.proofs.PatientSet.lowest.Reads as lowest-reads
-use Rattle.bucket_words.proofs.bed_count.Reads as bed-count-reads
+use Rattle.bucket_words.proofs.first_bed.Reads as first-bed-reads
+use Rattle.bucket_words.proofs.bed_end.Reads as bed-end-reads
 use Rattle.pricing.proofs.beds.bed_cost.Reads as bed-cost-reads
 use Rattle.pricing.proofs.beds.bed_costs.Reads as bed-costs-reads
 use Rattle.pricing.proofs.Plan.place.Reads as place-reads
@@ -48,8 +49,10 @@ calls t = (
   insert-reads.Learnt,
   lowest-reads.Asked,
   lowest-reads.Learnt,
-  bed-count-reads.Asked,
-  bed-count-reads.Learnt,
+  first-bed-reads.Asked,
+  first-bed-reads.Learnt,
+  bed-end-reads.Asked,
+  bed-end-reads.Learnt,
   rest-of-reads.Asked,
   rest-of-reads.Learnt,
   bed-costs-reads.Asked,
@@ -65,12 +68,12 @@ calls t = (
 )
 
 abbrev walk-Inv-loop : walk-lts.InvT-loop
-walk-Inv-loop list₀ patients terms entries beds v n m head s count others bound sums plan found₀ bed₀ list found bed =
-    Sofar entries patients terms v n m list₀ (branchAt head beds) s count list found bed
+walk-Inv-loop list₀ patients terms entries beds v n m head s first end others bound sums plan found₀ bed₀ list found bed =
+    Sofar entries patients terms v n m list₀ (branchAt head beds) s first end list found bed
 
 abbrev walk-μ-loop : walk-lts.MeasureT-loop
-walk-μ-loop list₀ patients terms entries beds v n m head s count others bound sums plan found₀ bed₀ list found bed =
-    count - bed
+walk-μ-loop list₀ patients terms entries beds v n m head s first end others bound sums plan found₀ bed₀ list found bed =
+    end - bed
 
 walk-is-empty-requires : (t : ℕ) → walk-lts.Need-is-empty-requires (calls t) (walk-at t) walk.Post walk-Inv-loop walk-μ-loop
 walk-is-empty-requires t c κs = search needs
@@ -93,62 +96,65 @@ walk-lowest-requires t c κs = search needs
 walk-cast-s : (t : ℕ) → walk-lts.Need-cast-s (calls t) (walk-at t) walk.Post walk-Inv-loop walk-μ-loop
 walk-cast-s t c = search needs
 
-walk-bed-count-requires : (t : ℕ) → walk-lts.Need-bed-count-requires (calls t) (walk-at t) walk.Post walk-Inv-loop walk-μ-loop
-walk-bed-count-requires t c κs = few (c .before .before .before .before .before .pre .1 .heads) (lowest-first _ _ (sym (c .before .before .is-empty .ensures) ∙ c .before .if1 .left) (c .lowest .ensures))
+walk-first-bed-requires : (t : ℕ) → walk-lts.Need-first-bed-requires (calls t) (walk-at t) walk.Post walk-Inv-loop walk-μ-loop
+walk-first-bed-requires t c κs = few (c .before .before .before .before .before .pre .1 .heads) (lowest-first _ _ (sym (c .before .before .is-empty .ensures) ∙ c .before .if1 .left) (c .lowest .ensures))
+
+walk-bed-end-requires : (t : ℕ) → walk-lts.Need-bed-end-requires (calls t) (walk-at t) walk.Post walk-Inv-loop walk-μ-loop
+walk-bed-end-requires t c κs = few (c .before .before .before .before .before .before .pre .1 .heads) (lowest-first _ _ (sym (c .before .before .before .is-empty .ensures) ∙ c .before .before .if1 .left) (c .before .lowest .ensures))
 
 walk-rest-of-requires : (t : ℕ) → walk-lts.Need-rest-of-requires (calls t) (walk-at t) walk.Post walk-Inv-loop walk-μ-loop
 walk-rest-of-requires t c κs =
-    let lowest = lowest-first _ _ (sym (c .before .before .before .is-empty .ensures) ∙ c .before .before .if1 .left) (c .before .lowest .ensures) in
-    record { few = few (c .before .before .before .before .before .before .pre .1 .heads) lowest; least = least-most (c .before .before .before .before .before .before .pre .1 .heads) lowest }
+    let lowest = lowest-first _ _ (sym (c .before .before .before .before .is-empty .ensures) ∙ c .before .before .before .if1 .left) (c .before .before .lowest .ensures) in
+    record { few = few (c .before .before .before .before .before .before .before .pre .1 .heads) lowest; least = least-most (c .before .before .before .before .before .before .before .pre .1 .heads) lowest }
 
 walk-bed-costs-requires : (t : ℕ) → walk-lts.Need-bed-costs-requires (calls t) (walk-at t) walk.Post walk-Inv-loop walk-μ-loop
-walk-bed-costs-requires t c κs = asks-beds (c .before .before .before .before .before .before .before .before .before .pre .1 .heads) (lowest-first _ _ (sym (c .before .before .before .before .before .before .is-empty .ensures) ∙ c .before .before .before .before .before .if1 .left) (c .before .before .before .before .lowest .ensures)) (c .before .before .before .before .before .before .before .before .before .pre .1 .sumsFit) (c .before .before .before .bed-count .ensures)
+walk-bed-costs-requires t c κs = asks-beds (c .before .before .before .before .before .before .before .before .before .before .pre .1 .heads) (lowest-first _ _ (sym (c .before .before .before .before .before .before .before .is-empty .ensures) ∙ c .before .before .before .before .before .before .if1 .left) (c .before .before .before .before .before .lowest .ensures)) (c .before .before .before .before .before .before .before .before .before .before .pre .1 .sumsFit) (c .before .before .before .before .first-bed .ensures) (c .before .before .before .bed-end .ensures)
 
 walk-loop-holds : (t : ℕ) → walk-lts.Need-loop-holds (calls t) (walk-at t) walk.Post walk-Inv-loop walk-μ-loop
-walk-loop-holds t c = sofar-start (c .before .before .before .before .before .before .before .before .before .before .before .pre .1) (drop 1 (members (c .before .before .before .before .before .before .before .before .before .before .before .args .head .left .0))) (lowest-first _ _ (sym (c .before .before .before .before .before .before .before .before .is-empty .ensures) ∙ c .before .before .before .before .before .before .before .if1 .left) (c .before .before .before .before .before .before .lowest .ensures)) (c .before .before .before .before .before .bed-count .ensures)
+walk-loop-holds t c = sofar-start (c .before .before .before .before .before .before .before .before .before .before .before .before .pre .1) (drop 1 (members (c .before .before .before .before .before .before .before .before .before .before .before .before .args .head .left .0))) (lowest-first _ _ (sym (c .before .before .before .before .before .before .before .before .before .is-empty .ensures) ∙ c .before .before .before .before .before .before .before .before .if1 .left) (c .before .before .before .before .before .before .before .lowest .ensures)) (c .before .before .before .before .before .before .first-bed .ensures) (c .before .before .before .before .before .bed-end .ensures)
 
 walk-bed-cost-requires : (t : ℕ) → walk-lts.Need-bed-cost-requires (calls t) (walk-at t) walk.Post walk-Inv-loop walk-μ-loop
-walk-bed-cost-requires t c κs = bed-small (c .before .before .before .before .before .before .before .before .before .before .before .before .before .before .pre .1) (c .before .before .loop .inv) (c .before .loop-test .taken)
+walk-bed-cost-requires t c κs = bed-small (c .before .before .before .before .before .before .before .before .before .before .before .before .before .before .before .pre .1) (c .before .before .loop .inv) (c .before .loop-test .taken)
 
 walk-enum-known-cost : (t : ℕ) → walk-lts.Need-enum-known-cost (calls t) (walk-at t) walk.Post walk-Inv-loop walk-μ-loop
 walk-enum-known-cost t c = search needs
 
 walk-add-sum : (t : ℕ) → walk-lts.Need-add-sum (calls t) (walk-at t) walk.Post walk-Inv-loop walk-μ-loop
 walk-add-sum t c =
-    let most = c .before .before .before .before .before .before .before .before .before .bed-costs .ensures .small _ (c .before .before .before .before .before .before .loop-test .taken) _ (sym (c .before .before .before .before .bed-cost .ensures) ∙ ap costIn (c .before .before .cost .given .1)) in
-    let sumsFit = c .before .before .before .before .before .before .before .before .before .before .before .before .before .before .before .before .before .before .before .pre .1 .sumsFit in
+    let most = c .before .before .before .before .before .before .before .before .before .bed-costs .ensures .small _ (c .before .before .before .before .before .before .before .loop .inv .begun) (c .before .before .before .before .before .before .loop-test .taken) _ (sym (c .before .before .before .before .bed-cost .ensures) ∙ ap costIn (c .before .before .cost .given .1)) in
+    let sumsFit = c .before .before .before .before .before .before .before .before .before .before .before .before .before .before .before .before .before .before .before .before .pre .1 .sumsFit in
     omega (arith, most, sumsFit .cost, sumsFit .placed)
 
 walk-add-least : (t : ℕ) → walk-lts.Need-add-least (calls t) (walk-at t) walk.Post walk-Inv-loop walk-μ-loop
 walk-add-least t c =
-    let most = c .before .before .before .before .before .before .before .before .before .bed-costs .ensures .small _ (c .before .before .before .before .before .before .loop-test .taken) _ (sym (c .before .before .before .before .bed-cost .ensures) ∙ ap costIn (c .before .before .cost .given .1)) in
-    let sumsFit = c .before .before .before .before .before .before .before .before .before .before .before .before .before .before .before .before .before .before .before .pre .1 .sumsFit in
+    let most = c .before .before .before .before .before .before .before .before .before .bed-costs .ensures .small _ (c .before .before .before .before .before .before .before .loop .inv .begun) (c .before .before .before .before .before .before .loop-test .taken) _ (sym (c .before .before .before .before .bed-cost .ensures) ∙ ap costIn (c .before .before .cost .given .1)) in
+    let sumsFit = c .before .before .before .before .before .before .before .before .before .before .before .before .before .before .before .before .before .before .before .before .pre .1 .sumsFit in
     omega (arith, most, sumsFit .cost, sumsFit .placed, sumsFit .bound, c .before .before .before .before .before .before .before .before .before .before .before .before .rest-of .ensures .bound)
 
 walk-cast-is-cut : (t : ℕ) → walk-lts.Need-cast-is-cut (calls t) (walk-at t) walk.Post walk-Inv-loop walk-μ-loop
-walk-cast-is-cut t c = omega (arith, bed-small (c .before .before .before .before .before .before .before .before .before .before .before .before .before .before .before .before .before .before .before .before .pre .1) (c .before .before .before .before .before .before .before .before .loop .inv) (c .before .before .before .before .before .before .before .loop-test .taken))
+walk-cast-is-cut t c = omega (arith, bed-small (c .before .before .before .before .before .before .before .before .before .before .before .before .before .before .before .before .before .before .before .before .before .pre .1) (c .before .before .before .before .before .before .before .before .loop .inv) (c .before .before .before .before .before .before .before .loop-test .taken))
 
 walk-is-cut-requires : (t : ℕ) → walk-lts.Need-is-cut-requires (calls t) (walk-at t) walk.Post walk-Inv-loop walk-μ-loop
-walk-is-cut-requires t c κs = asks-cut (c .before .before .before .before .before .before .before .before .before .before .before .before .before .before .before .before .before .before .before .before .pre .1) (c .before .before .before .before .before .before .before .before .loop .inv) (c .before .before .before .before .before .before .before .loop-test .taken)
+walk-is-cut-requires t c κs = asks-cut (c .before .before .before .before .before .before .before .before .before .before .before .before .before .before .before .before .before .before .before .before .before .pre .1) (c .before .before .before .before .before .before .before .before .loop .inv) (c .before .before .before .before .before .before .before .loop-test .taken)
 
 walk-cast-place : (t : ℕ) → walk-lts.Need-cast-place (calls t) (walk-at t) walk.Post walk-Inv-loop walk-μ-loop
-walk-cast-place t c = omega (arith, bed-small (c .before .before .before .before .before .before .before .before .before .before .before .before .before .before .before .before .before .before .before .before .before .before .pre .1) (c .before .before .before .before .before .before .before .before .before .before .loop .inv) (c .before .before .before .before .before .before .before .before .before .loop-test .taken))
+walk-cast-place t c = omega (arith, bed-small (c .before .before .before .before .before .before .before .before .before .before .before .before .before .before .before .before .before .before .before .before .before .before .before .pre .1) (c .before .before .before .before .before .before .before .before .before .before .loop .inv) (c .before .before .before .before .before .before .before .before .before .loop-test .taken))
 
 walk-place-requires : (t : ℕ) → walk-lts.Need-place-requires (calls t) (walk-at t) walk.Post walk-Inv-loop walk-μ-loop
 walk-place-requires t c κs =
-    let next = asks-next (c .before .before .before .before .before .before .before .before .before .before .before .before .before .before .before .before .before .before .before .before .before .before .pre .1) (c .before .before .before .before .before .before .before .before .before .before .loop .inv) (c .before .before .before .before .before .before .before .before .before .loop-test .taken) in
+    let next = asks-next (c .before .before .before .before .before .before .before .before .before .before .before .before .before .before .before .before .before .before .before .before .before .before .before .pre .1) (c .before .before .before .before .before .before .before .before .before .before .loop .inv) (c .before .before .before .before .before .before .before .before .before .loop-test .taken) in
     (asks-few next, asks-room next)
 
 walk-walk-requires : (t : ℕ) → walk-lts.Need-walk-requires (calls t) (walk-at t) walk.Post walk-Inv-loop walk-μ-loop
 walk-walk-requires t c κs =
-    let pre = c .before .before .before .before .before .before .before .before .before .before .before .before .before .before .before .before .before .before .before .before .before .before .before .before .before .before .pre in
+    let pre = c .before .before .before .before .before .before .before .before .before .before .before .before .before .before .before .before .before .before .before .before .before .before .before .before .before .before .before .pre in
     let inv = c .before .before .before .before .before .before .before .before .before .before .before .before .before .before .loop .inv in
     let more = c .before .before .before .before .before .before .before .before .before .before .before .before .before .loop-test .taken in
     let costs = c .before .before .before .before .before .before .before .before .before .before .before .before .before .before .before .before .bed-costs .ensures in
     let priced = sym (c .before .before .before .before .before .before .before .before .before .before .before .bed-cost .ensures) ∙ ap costIn (c .before .before .before .before .before .before .before .before .before .cost .given .1) in
     let place = c .before .before .before .place in
-    let is = below-head {head = branchAt (c .before .before .before .before .before .before .before .before .before .before .before .before .before .before .before .before .before .before .before .before .before .before .before .before .before .before .args .head) (now (c .before .before .before .before .before .before .before .before .before .before .before .before .before .before .before .before .before .before .before .before .before .before .before .before .before .before .args .beds))} {bed = c .before .before .before .before .before .before .before .before .before .before .before .before .before .before .loop .bed} (place .result) (inv .others) (inv .lowest) (c .before .before .before .before .before .before .before .before .before .before .before .before .before .before .before .before .before .before .before .rest-of .ensures) (place .ensures .0) (place .ensures .1) (costs .small _ more _ priced) in
-    (omega (arith, pre .0, ap length (is .left)), asks-below (pre .1) inv more is (decides (asks-next (pre .1) inv more) costs priced))
+    let is = below-head {head = branchAt (c .before .before .before .before .before .before .before .before .before .before .before .before .before .before .before .before .before .before .before .before .before .before .before .before .before .before .before .args .head) (now (c .before .before .before .before .before .before .before .before .before .before .before .before .before .before .before .before .before .before .before .before .before .before .before .before .before .before .before .args .beds))} {bed = c .before .before .before .before .before .before .before .before .before .before .before .before .before .before .loop .bed} (place .result) (inv .others) (inv .lowest) (c .before .before .before .before .before .before .before .before .before .before .before .before .before .before .before .before .before .before .before .rest-of .ensures) (place .ensures .0) (place .ensures .1) (costs .small _ (inv .begun) more _ priced) in
+    (omega (arith, pre .0, ap length (is .left)), asks-below (pre .1) inv more is (decides (asks-next (pre .1) inv more) (inv .firsts) (inv .ends) (inv .begun) more costs priced))
 
 walk-enum-told : (t : ℕ) → walk-lts.Need-enum-told (calls t) (walk-at t) walk.Post walk-Inv-loop walk-μ-loop
 walk-enum-told t c = search needs
@@ -161,7 +167,7 @@ walk-loop-less t c = search needs
 
 walk-loop-again : (t : ℕ) → walk-lts.Need-loop-again (calls t) (walk-at t) walk.Post walk-Inv-loop walk-μ-loop
 walk-loop-again t c =
-    let pre = c .before .before .before .before .before .before .before .before .before .before .before .before .before .before .before .before .pre .1 in
+    let pre = c .before .before .before .before .before .before .before .before .before .before .before .before .before .before .before .before .before .pre .1 in
     let inv = c .before .before .before .before .loop .inv in
     let more = c .before .before .before .loop-test .taken in
     let costs = c .before .before .before .before .before .before .bed-costs .ensures in
@@ -170,19 +176,19 @@ walk-loop-again t c =
     ⊎-elim
     (λ w.
     let priced = sym price ∙ ap costIn (w .1 .given .1) in
-    rw (w .14, w .15) (sofar-walk pre inv more (below-head (w .7 .result) (inv .others) (inv .lowest) rest (w .7 .ensures .0) (w .7 .ensures .1) (costs .small _ more _ priced)) (decides (asks-next pre inv more) costs priced) (w .11 .ensures)))
+    rw (w .14, w .15) (sofar-walk pre inv more (below-head (w .7 .result) (inv .others) (inv .lowest) rest (w .7 .ensures .0) (w .7 .ensures .1) (costs .small _ (inv .begun) more _ priced)) (decides (asks-next pre inv more) (inv .firsts) (inv .ends) (inv .begun) more costs priced) (w .11 .ensures)))
     (⊎-elim
     (λ w.
     let priced = sym price ∙ ap costIn (w .1 .given .1) in
-    rw (w .7, w .8) (sofar-cut pre inv more (below-bed (inv .others) (inv .lowest) rest (costs .small _ more _ priced)) (decides (asks-next pre inv more) costs priced) (w .5 .ensures) (w .6 .left)))
-    (λ w. rw (w .2, w .3) (sofar-skip pre inv more (decides (asks-next pre inv more) costs (sym price ∙ ap costIn (w .1 .given .1))))))
+    rw (w .7, w .8) (sofar-cut pre inv more (below-bed (inv .others) (inv .lowest) rest (costs .small _ (inv .begun) more _ priced)) (decides (asks-next pre inv more) (inv .firsts) (inv .ends) (inv .begun) more costs priced) (w .5 .ensures) (w .6 .left)))
+    (λ w. rw (w .2, w .3) (sofar-skip pre inv more (decides (asks-next pre inv more) (inv .firsts) (inv .ends) (inv .begun) more costs (sym price ∙ ap costIn (w .1 .given .1))))))
     (c .match .came)
 
 walk-same-length-2 : (t : ℕ) → walk-lts.Need-same-length-2 (calls t) (walk-at t) walk.Post walk-Inv-loop walk-μ-loop
 walk-same-length-2 t c = search needs
 
 walk-returns-2 : (t : ℕ) → walk-lts.Need-returns-2 (calls t) (walk-at t) walk.Post walk-Inv-loop walk-μ-loop
-walk-returns-2 t c = sofar-done (c .before .before .before .before .before .before .before .before .before .before .before .before .before .pre .1) (c .before .loop .inv) (c .loop-test .left)
+walk-returns-2 t c = sofar-done (c .before .before .before .before .before .before .before .before .before .before .before .before .before .before .pre .1) (c .before .loop .inv) (c .loop-test .left)
 
 pub +walk-spec : {M : Type 1} → statement M
 +walk-spec = close μ-walk λ t. walk-lts.spec (calls t)
@@ -197,7 +203,8 @@ pub +walk-spec : {M : Type 1} → statement M
     (walk-returns t)
     (walk-lowest-requires t)
     (walk-cast-s t)
-    (walk-bed-count-requires t)
+    (walk-first-bed-requires t)
+    (walk-bed-end-requires t)
     (walk-rest-of-requires t)
     (walk-bed-costs-requires t)
     (walk-loop-holds t)
