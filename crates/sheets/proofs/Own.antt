@@ -7,7 +7,7 @@ use lib.Seq.{getD-take, length-take-le}
 use Rattle.definitions.specs.Basics.{ℕ, _<_, true, Option·getD, List, map, length, getD, take, ltb, below, every, keep, contains}
 use Rattle.definitions.specs.Syntax.{Region, patientAt, patientsOf}
 use Rattle.definitions.specs.Plans as Said
-use Rattle.definitions.specs.Plans.{bedOf, entryFor, costOver, constraints, total}
+use Rattle.definitions.specs.Plans.{bedOf, entryFor, costOver}
 use Rattle.definitions.specs.Sheets.{part, ownTables, ownCost, ownRow}
 use Rattle.lists.specs.Members.{_∈_, getD-in, in-map-cases}
 use Rattle.lists.specs.Every.{every-in, every-all}
@@ -69,7 +69,7 @@ module _ {r : Region} {clinic : ℕ} {store patients terms : List ℕ} {v set : 
       ∙ map-same (bedOf beds) (bedOf (take v beds)) (patientsOf r clinic) (λ s k. sym (getD-take v beds s 0 (ltb-true s v (every-in _ (patientsOf r clinic) patients-known k))))
 
   own-cost : (beds : List ℕ) (cost first : ℕ) → Fitting r beds → Priced store patients terms v beds first → first ≡ ownCost r clinic (record { cost = cost; beds = take v beds })
-  unfolding ownCost ownTables total constraints costOver entryFor patientAt
+  unfolding ownCost ownTables costOver entryFor patientAt
   own-cost beds cost first fits priced =
       priced (withTables r (isAmong set)) (own .prepared) (with-fits beds fits) (own .all)
       ∙ ap (λ l. Option·getD (costOver (keep (λ t. every (contains l) (t .members)) (r .tables)) r (take v beds)) 0) (own .ofClinic)

@@ -3,7 +3,7 @@ use Prim.Native.Nat.{_≤_}
 use Rattle.definitions.specs.Basics.{ℕ, _+_, _<_, _≡_, cond, Option·getD, List, [], _∷_, _++_, map, length, take, any}
 use Rattle.definitions.specs.Syntax.{Region, patientsOf}
 use Rattle.definitions.specs.Plans as Said
-use Rattle.definitions.specs.Plans.{bedOf, total, listOf}
+use Rattle.definitions.specs.Plans.{bedOf, costOver, listOf}
 use Rattle.definitions.specs.Sheets.{ownRow, sameBeds, sheetOf}
 use Rattle.patient_set.specs.Sets.{members}
 use Rattle.buckets.specs.Terms.{Fitting, Prepared}
@@ -19,10 +19,10 @@ use Rattle.row_sums.specs.Sums.{workPart, listAt}
 abbrev pub PartTaken : List ℕ → List ℕ → List ℕ → Type 0
 PartTaken beds patients taken = take (length patients) taken ≡ map (bedOf beds) patients
 
--- What a plan costs, 0 where it is forbidden.
+-- What the tables cost for a plan, 0 where one of them forbids it.
 abbrev pub Priced : List ℕ → List ℕ → List ℕ → ℕ → List ℕ → ℕ → Type 0
 Priced store patients terms v beds n =
-    (r : Region) → Prepared r store patients terms → Fitting r beds → v ≡ length (r .patients) → n ≡ Option·getD (total r (take v beds)) 0
+    (r : Region) → Prepared r store patients terms → Fitting r beds → v ≡ length (r .patients) → n ≡ Option·getD (costOver (r .tables) r (take v beds)) 0
 
 -- ---- a row of the list
 

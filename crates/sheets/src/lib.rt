@@ -8,7 +8,7 @@ use packed_rows::same_beds;
 use patient_set::PatientSet;
 use pricing::Cost;
 use pricing::Plan;
-use pricing::total;
+use pricing::tables_cost;
 use row_list::row_at;
 use row_list::set_row;
 use row_sums::SECOND;
@@ -41,9 +41,9 @@ fn clinic_beds(beds: [u8; 32], clinic: PatientSet) -> [u8; 32]
     taken
 }
 
-// What a plan costs, 0 where it is forbidden.
+// What the tables cost for a plan, 0 where one of them forbids it.
 fn price(
-    patients: &[u32; 96],
+    patients: &[u32; 160],
     terms: &[u32; 640],
     entries: &[u32; 4096],
     v: usize,
@@ -53,7 +53,7 @@ fn price(
     ensures { λ n. ⌜ Priced (now (entries .entry)) (now (patients .entry)) (now (terms .entry)) v beds n ⌝ }
 {
     let plan = Plan { beds: beds, len: v };
-    let cost = total(patients, terms, entries, v, plan);
+    let cost = tables_cost(patients, terms, entries, v, plan);
     match cost {
         Cost::Forbidden => 0,
         Cost::Of(n) => n,
@@ -62,7 +62,7 @@ fn price(
 
 // What the sheet holds of a row of the list: the clinic's own cost, and its part of the beds.
 fn own_row(
-    patients: &[u32; 96],
+    patients: &[u32; 160],
     terms: &[u32; 640],
     entries: &[u32; 4096],
     v: usize,
@@ -111,7 +111,7 @@ fn keep_new(sheet: &mut [u32], n: usize, row: Row) -> usize
 // Walks the n rows of the list, and keeps the clinic's own rows in the second part of the work area.
 fn keep_rows(
     work: &mut [u32],
-    patients: &[u32; 96],
+    patients: &[u32; 160],
     terms: &[u32; 640],
     entries: &[u32; 4096],
     v: usize,
