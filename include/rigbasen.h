@@ -137,7 +137,8 @@ struct rigbasen_table {
  * The entries are those of the first table, then those of the next, and so on. V and T are how many patients and tables are lent.
  * The file stands at the beginning of output, and its byte count in the first 8 bytes of result.
  *
- * A program that was built when a patient had three numbers must be built anew: four of those are as long as three of these.
+ * A program from when a patient had three numbers must be changed and built anew: four of those are as long as three of these,
+ * which question 2 does not see, and in an initialiser of three values the fixed bed is 0, a bed.
  *
  * Question 2 asks here whether the areas are whole: 32 bytes a patient, 48 a table, 8 an entry, and as many entries as the tables
  * count together. Every number is judged as it is lent, however large. Question 12 asks for 8 bytes of result,
