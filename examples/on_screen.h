@@ -14,11 +14,11 @@ static const struct {
     const char *text;
 } meanings[] = {
     {RIGBASEN_TOO_LONG, "the file is longer than 65,535 bytes"},
-    {RIGBASEN_LAYOUT, "the file is not laid out as a region file; it may be cut short"},
+    {RIGBASEN_LAYOUT, "the file is not laid out as a region file; it may be cut short, or of the old form without fixed beds"},
     {RIGBASEN_COUNTS, "the patient lines or table lines are not as many as the first line says"},
     {RIGBASEN_SUM, "the sum in the end line is wrong; the file was damaged"},
     {RIGBASEN_LIMITS, "the number of patients, of tables or of plans wanted is out of range"},
-    {RIGBASEN_PATIENTS, "a patient's clinic, bed count or parent is out of range"},
+    {RIGBASEN_PATIENTS, "a patient's clinic, bed count, parent or fixed bed is out of range"},
     {RIGBASEN_MEMBERS, "a table's members are too many, unknown or not in rising order"},
     {RIGBASEN_ENTRY_COUNTS, "a table has too few or too many entries"},
     {RIGBASEN_ENTRIES, "an entry is above 1,000,000"},

@@ -19,9 +19,9 @@ struct ward {
     uint64_t m;
 };
 
-/* Patients 0 and 1 are of clinic 0, and not both in bed 1; patient 2 is of clinic 1, and never in bed 1. */
+/* Patients 0 and 1 are of clinic 0, and not both in bed 1; patient 2 is of clinic 1, and stays in bed 0, though bed 2 is cheaper. */
 static const struct ward three_patients = {
-    {{0, 2, RIGBASEN_NONE}, {0, 2, 0}, {1, 3, RIGBASEN_NONE}},
+    {{0, 2, RIGBASEN_NONE, RIGBASEN_NONE}, {0, 2, 0, RIGBASEN_NONE}, {1, 3, RIGBASEN_NONE, 0}},
     {{1, {0, 0, 0, 0}, 2}, {2, {0, 1, 0, 0}, 4}, {1, {2, 0, 0, 0}, 3}},
     {3, 1, 0, 2, 1, RIGBASEN_NONE, 5, RIGBASEN_NONE, 4},
     4,
@@ -58,6 +58,9 @@ static int show_mistakes(size_t needed)
 {
     struct ward ward = three_patients;
     int wrong = mistaken("an area one byte shorter", &ward, needed - 1, RIGBASEN_SHORT_OUTPUT);
+    ward.patients[2].fixed_bed = 3;
+    wrong += mistaken("bed 3 fixed, of the beds 0 to 2", &ward, needed, RIGBASEN_PATIENTS);
+    ward.patients[2].fixed_bed = 0;
     ward.entries[0] = 1000001;
     wrong += mistaken("a price of 1000001", &ward, needed, RIGBASEN_ENTRIES);
     ward.patients[0].parent = 1;

@@ -52,7 +52,7 @@ static void *run_price(void *unused)
     return unused;
 }
 
-/* Writes the most of everything: patients in a chain, and tables over two of them with 64 entries each. */
+/* Writes the most of everything: patients in a chain, each with a fixed bed, and tables over two of them with 64 entries each. */
 static void *run_write(void *unused)
 {
     static struct rigbasen_patient patients[RIGBASEN_MOST_PATIENTS];
@@ -61,7 +61,7 @@ static void *run_write(void *unused)
     static uint8_t output[RIGBASEN_WRITTEN_BYTES];
     uint8_t result[RIGBASEN_WRITE_RESULT_BYTES];
     for (uint64_t i = 0; i < RIGBASEN_MOST_PATIENTS; i++) {
-        struct rigbasen_patient patient = {i / 2, 8, i == 0 ? RIGBASEN_NONE : i - 1};
+        struct rigbasen_patient patient = {i / 2, 8, i == 0 ? RIGBASEN_NONE : i - 1, i % 8};
         patients[i] = patient;
     }
     for (uint64_t i = 0; i < RIGBASEN_MOST_TABLES; i++) {

@@ -38,7 +38,7 @@ extern "C" {
 #define RIGBASEN_COSTS_BYTES (RIGBASEN_MOST_ROWS * RIGBASEN_NUMBER_BYTES)
 #define RIGBASEN_ROWS_RESULT_BYTES RIGBASEN_NUMBER_BYTES        /* list and sheet: the row count */
 #define RIGBASEN_PRICE_RESULT_BYTES (2 * RIGBASEN_NUMBER_BYTES) /* price: allowed, then the total */
-#define RIGBASEN_WRITTEN_BYTES 34942                            /* write: the output area */
+#define RIGBASEN_WRITTEN_BYTES 35038                            /* write: the output area */
 #define RIGBASEN_WRITE_RESULT_BYTES RIGBASEN_NUMBER_BYTES       /* write: the byte count */
 
 /* Stack that is enough for every call. */
@@ -48,11 +48,13 @@ extern "C" {
 enum rigbasen_number {
     RIGBASEN_FINE = 0,           /* every question of the call is answered yes */
     RIGBASEN_TOO_LONG = 1,       /* is the file at most 65,535 bytes? */
-    RIGBASEN_LAYOUT = 2,         /* is it laid out as a region file? (a cut or empty one is not); write: are the lent areas whole? */
+    RIGBASEN_LAYOUT = 2,         /* is it laid out as a region file? (a cut or empty one is not, nor one of the old form, see below);
+                                    write: are the lent areas whole? */
     RIGBASEN_COUNTS = 3,         /* are there V patient lines and T table lines? */
     RIGBASEN_SUM = 4,            /* is the end line's number the true sum? */
     RIGBASEN_LIMITS = 5,         /* is V 1 to 32, T 0 to 64, m 1 to 64? */
-    RIGBASEN_PATIENTS = 6,       /* is each clinic 0 to 15, each bed count 1 to 16, each parent - or a smaller number than the patient's own? */
+    RIGBASEN_PATIENTS = 6,       /* is each clinic 0 to 15, each bed count 1 to 16, each parent - or a smaller number than the patient's own,
+                                    each fixed bed - or below the bed count? */
     RIGBASEN_MEMBERS = 7,        /* has each table 1 to 4 members, all below V, strictly rising? */
     RIGBASEN_ENTRY_COUNTS = 8,   /* has each table the entries that its members' beds ask for, at most 4,096 in all? */
     RIGBASEN_ENTRIES = 9,        /* is each entry that is a number at most 1,000,000? */
@@ -65,13 +67,18 @@ enum rigbasen_number {
 };
 
 /*
+ * The old form: a patient line had three fields and no fixed bed, `(patient c d p)`. Such a file gets 2. To convert it, each
+ * patient line gains ` -` before its bracket, `(patient c d p -)`, and the end line its new sum: examples/add_fixed_field does it.
+ */
+
+/*
  * Questions 1 to 10 of a file.
  */
 uint64_t rigbasen_check(const uint8_t *file, size_t file_length);
 
 /*
  * The list: the m allowed plans of least cost, cheapest first, equal costs in order of the beds; all of them if there are fewer.
- * Questions 1 to 10, 12, 13.
+ * A plan is allowed where no table forbids it and each patient with a fixed bed has that bed. Questions 1 to 10, 12, 13.
  *
  * Row r has its V beds in beds[r * V] to beds[r * V + V - 1], one byte a patient in file order,
  * and its cost in the 8 bytes from costs[r * 8] on. The row count is in the first 8 bytes of result.
@@ -98,21 +105,23 @@ uint64_t rigbasen_sheet(const uint8_t *file, size_t file_length, uint64_t clinic
 /*
  * The price of one plan: a bed for each patient, one byte each, in file order. Questions 1 to 10, 12, 14.
  *
- * The first 8 bytes of result are 1 where the plan is allowed and 0 where a table forbids it; the next 8 are its total,
- * 0 for a forbidden plan. A forbidden plan is no refusal: the number is 0. Question 12 asks for 16 bytes of result.
+ * The first 8 bytes of result are 1 where the plan is allowed and 0 where it is not: a table forbids it, or a patient has another
+ * bed than the fixed one. The next 8 are its total, 0 for a plan that is not allowed, which is no refusal: the number is 0.
+ * Question 12 asks for 16 bytes of result.
  */
 uint64_t rigbasen_price(const uint8_t *file, size_t file_length,
                         const uint8_t *plan, size_t plan_length,
                         uint8_t *result, size_t result_length);
 
-/* Stands for `-`: a patient without a parent, a forbidden entry. */
+/* Stands for `-`: a patient without a parent, a patient without a fixed bed, a forbidden entry. */
 #define RIGBASEN_NONE UINT64_MAX
 
 /* A patient and a table as they are lent to write: an array of them is such an area. (x86-64 has the lowest byte first.) */
 struct rigbasen_patient {
     uint64_t clinic;
-    uint64_t beds;   /* how many there are */
-    uint64_t parent; /* or RIGBASEN_NONE */
+    uint64_t beds;      /* how many there are */
+    uint64_t parent;    /* or RIGBASEN_NONE */
+    uint64_t fixed_bed; /* the bed that the patient keeps, or RIGBASEN_NONE where any will do */
 };
 
 struct rigbasen_table {
@@ -124,11 +133,14 @@ struct rigbasen_table {
 /*
  * Writes the file of a region, end line included: what check then finds good. Questions 2, 5 to 10, 12, 15.
  *
- * A patient is three numbers of 8 bytes, a table six, as in the structures above; an entry is one, or RIGBASEN_NONE.
+ * A patient is four numbers of 8 bytes, a table six, as in the structures above; an entry is one, or RIGBASEN_NONE.
  * The entries are those of the first table, then those of the next, and so on. V and T are how many patients and tables are lent.
  * The file stands at the beginning of output, and its byte count in the first 8 bytes of result.
  *
- * Question 2 asks here whether the areas are whole: 24 bytes a patient, 48 a table, 8 an entry, and as many entries as the tables
+ * A program from when a patient had three numbers must be changed and built anew: four of those are as long as three of these,
+ * which question 2 does not see, and in an initialiser of three values the fixed bed is 0, a bed.
+ *
+ * Question 2 asks here whether the areas are whole: 32 bytes a patient, 48 a table, 8 an entry, and as many entries as the tables
  * count together. Every number is judged as it is lent, however large. Question 12 asks for 8 bytes of result,
  * and then 15 for as many bytes of output as the file has.
  */

@@ -6,18 +6,25 @@ use crate::region::{Patient, Region, Table};
 /// Stands for `-`.
 pub const NONE: u64 = u64::MAX;
 
-/// The numbers, of any size. A patient is its clinic, beds and parent; a table the count of its members, four of them,
+/// The numbers, of any size. A patient is its clinic, beds, parent and fixed bed; a table the count of its members, four of them,
 /// and the count of its entries.
 #[derive(Clone)]
 pub struct Numbers {
-    pub patients: Vec<[u64; 3]>,
+    pub patients: Vec<[u64; 4]>,
     pub tables: Vec<[u64; 6]>,
     pub entries: Vec<u64>,
     pub m: u64,
 }
 
+/// How many bytes a patient has.
+pub const PATIENT_BYTES: usize = 32;
+
 /// Where the count of entries stands in a table.
 pub const ENTRY_COUNT: usize = 5;
+
+fn numbers_of(patient: &Patient) -> [u64; 4] {
+    [patient.clinic, patient.beds, patient.parent.unwrap_or(NONE), patient.fixed.unwrap_or(NONE)]
+}
 
 impl Numbers {
     /// A region's numbers. A place of a member that is not there holds any number.
@@ -30,7 +37,7 @@ impl Numbers {
             numbers
         };
         Numbers {
-            patients: region.patients.iter().map(|p| [p.clinic, p.beds, p.parent.unwrap_or(NONE)]).collect(),
+            patients: region.patients.iter().map(numbers_of).collect(),
             tables: region.tables.iter().map(&mut table_of).collect(),
             entries: region.tables.iter().flat_map(|table| &table.entries).map(|entry| entry.unwrap_or(NONE)).collect(),
             m: region.m,
@@ -72,20 +79,25 @@ impl Lent {
         let tables = numbers_in(&self.tables);
         let counted: u128 =
             tables.chunks(6).filter_map(|table| table.get(ENTRY_COUNT)).map(|count| u128::from(*count)).sum();
-        let whole = self.patients.contents().len() % 24 == 0
+        let whole = self.patients.contents().len() % PATIENT_BYTES == 0
             && self.tables.contents().len() % 48 == 0
             && self.entries.contents().len() as u128 == counted * 8;
         if !whole {
             return Err(2);
         }
         let mut entries = numbers_in(&self.entries).into_iter().map(or_none);
-        let patient = |numbers: &[u64]| Patient::of(numbers[0], numbers[1], or_none(numbers[2]));
+        let patient = |numbers: &[u64]| Patient {
+            clinic: numbers[0],
+            beds: numbers[1],
+            parent: or_none(numbers[2]),
+            fixed: or_none(numbers[3]),
+        };
         let mut table = |numbers: &[u64]| Table {
             members: members_of(numbers),
             entries: entries.by_ref().take(numbers[ENTRY_COUNT] as usize).collect(),
         };
         Ok(Region {
-            patients: numbers_in(&self.patients).chunks(3).map(patient).collect(),
+            patients: numbers_in(&self.patients).chunks(4).map(patient).collect(),
             tables: tables.chunks(6).map(&mut table).collect(),
             m: self.m,
         })

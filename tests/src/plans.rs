@@ -19,8 +19,16 @@ fn entry(region: &Region, table: &Table, plan: &[u8]) -> Option<u64> {
     table.entries[place as usize]
 }
 
-/// A plan's total, or `None` where it is forbidden.
+/// Has every patient with a fixed bed that bed?
+fn all_stay(region: &Region, plan: &[u8]) -> bool {
+    plan.iter().zip(&region.patients).all(|(bed, patient)| patient.fixed.is_none_or(|fixed| u64::from(*bed) == fixed))
+}
+
+/// A plan's total, or `None` where it is not allowed: an entry is forbidden, or a patient has another bed than the fixed one.
 pub fn total(region: &Region, plan: &[u8]) -> Option<u64> {
+    if !all_stay(region, plan) {
+        return None;
+    }
     region.tables.iter().map(|table| entry(region, table, plan)).sum()
 }
 

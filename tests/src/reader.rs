@@ -30,6 +30,11 @@ pub fn read(file: &[u8]) -> Result<Region, u64> {
     Ok(lines.region)
 }
 
+/// What a laid-out file says, whatever it is.
+pub fn said(file: &[u8]) -> Option<Region> {
+    laid_out(file).map(|lines| lines.region)
+}
+
 /// Questions 5 to 10 of a region, V and T being what it has; the number of the first answered "no".
 pub fn judge(region: &Region) -> Result<(), u64> {
     let questions: [(u64, Question); 6] = [
@@ -57,6 +62,7 @@ fn patients_in_limits(region: &Region) -> bool {
         patient.clinic <= 15
             && (1..=16).contains(&patient.beds)
             && patient.parent.is_none_or(|parent| parent < number as u64)
+            && patient.fixed.is_none_or(|bed| bed < patient.beds)
     })
 }
 
@@ -101,11 +107,16 @@ fn laid_out(file: &[u8]) -> Option<Lines> {
     Some(Lines { v, t, region, end, true_sum })
 }
 
-/// `(patient c d p)`
+/// `(patient c d p b)`
 fn patient(line: &[u8]) -> Option<Patient> {
     let parts = parts(inside(line, b"(patient ", b")")?);
-    let [clinic, beds, parent] = parts[..] else { return None };
-    Some(Patient { clinic: number(clinic)?, beds: number(beds)?, parent: number_or_hyphen(parent)? })
+    let [clinic, beds, parent, fixed] = parts[..] else { return None };
+    Some(Patient {
+        clinic: number(clinic)?,
+        beds: number(beds)?,
+        parent: number_or_hyphen(parent)?,
+        fixed: number_or_hyphen(fixed)?,
+    })
 }
 
 /// `(cost (s ..) (e ..))`

@@ -1,17 +1,23 @@
 //! The region as the independent program holds it: plain vectors, numbers of one width, no limits.
 
-/// A patient (a variable): its clinic, how many beds it may have, its parent in the tree.
+/// A patient (a variable): its clinic, how many beds it may have, its parent in the tree, and the bed that it keeps, if it does.
 #[derive(Clone, Debug, PartialEq)]
 pub struct Patient {
     pub clinic: u64,
     pub beds: u64,
     pub parent: Option<u64>,
+    pub fixed: Option<u64>,
 }
 
 impl Patient {
     /// A patient with these fields. A field that few files use has its usual value here, and nowhere else.
     pub fn of(clinic: u64, beds: u64, parent: Option<u64>) -> Patient {
-        Patient { clinic, beds, parent }
+        Patient { clinic, beds, parent, fixed: None }
+    }
+
+    /// The same patient, who keeps this bed.
+    pub fn staying_in(self, bed: u64) -> Patient {
+        Patient { fixed: Some(bed), ..self }
     }
 }
 

@@ -1,7 +1,7 @@
 //! The four calls of a file over the baseline reader and search; the fifth is in `writer`.
 
 use crate::areas::Areas;
-use crate::baseline::held::{Held, Table, HYPHEN};
+use crate::baseline::held::{Held, Patient, Table, HYPHEN};
 use crate::baseline::reader::read;
 use crate::baseline::rows::Row;
 use crate::baseline::search;
@@ -29,9 +29,13 @@ fn priced(file: &[u8], plan: &[u8], result_length: usize) -> Result<Option<u64>,
     if result_length < 16 {
         return Err(12);
     }
-    let fits = |(bed, patient): (&u8, &crate::baseline::held::Patient)| u32::from(*bed) < patient.beds;
+    let fits = |(bed, patient): (&u8, &Patient)| u32::from(*bed) < patient.beds;
     if plan.len() != held.patient_count || !plan.iter().zip(held.patients()).all(fits) {
         return Err(14);
+    }
+    let moved = |(bed, patient): (&u8, &Patient)| patient.fixed != HYPHEN && u32::from(*bed) != patient.fixed;
+    if plan.iter().zip(held.patients()).any(moved) {
+        return Ok(None);
     }
     let mut total = 0;
     for table in held.tables() {

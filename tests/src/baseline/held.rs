@@ -1,11 +1,13 @@
 //! The region in fixed arrays.
 
+use std::ops::Range;
+
 pub const MOST_PATIENTS: usize = 32;
 pub const MOST_TABLES: usize = 64;
 pub const MOST_ENTRIES: usize = 4_096;
 pub const MOST_MEMBERS: usize = 4;
 
-/// A parent or an entry that is `-`. No number of a file is as large.
+/// A parent, a fixed bed or an entry that is `-`. No number of a file is as large.
 pub const HYPHEN: u32 = u32::MAX;
 
 #[derive(Clone, Copy)]
@@ -13,6 +15,18 @@ pub struct Patient {
     pub clinic: u32,
     pub beds: u32,
     pub parent: u32,
+    pub fixed: u32,
+}
+
+impl Patient {
+    /// The beds to try.
+    #[inline]
+    pub fn permitted(&self) -> Range<usize> {
+        match self.fixed {
+            HYPHEN => 0..self.beds as usize,
+            bed => bed as usize..bed as usize + 1,
+        }
+    }
 }
 
 /// The first members as they stand, how many there are in the file, and where the entries lie in
@@ -42,7 +56,7 @@ impl Held {
             table_count: 0,
             entry_count: 0,
             m: 0,
-            patients: [Patient { clinic: 0, beds: 0, parent: HYPHEN }; MOST_PATIENTS],
+            patients: [Patient { clinic: 0, beds: 0, parent: HYPHEN, fixed: HYPHEN }; MOST_PATIENTS],
             tables: [Table { members: [0; MOST_MEMBERS], member_count: 0, start: 0, entry_count: 0 }; MOST_TABLES],
             store: [HYPHEN; MOST_ENTRIES],
         }

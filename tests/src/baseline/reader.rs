@@ -68,9 +68,11 @@ fn patient_line(cursor: &mut Cursor, held: &mut Held) -> Option<()> {
     let beds = cursor.number()?;
     cursor.word(b" ")?;
     let parent = cursor.number_or_hyphen()?;
+    cursor.word(b" ")?;
+    let fixed = cursor.number_or_hyphen()?;
     cursor.word(b")\n")?;
     if let Some(patient) = held.patients.get_mut(held.patient_count) {
-        *patient = Patient { clinic, beds, parent };
+        *patient = Patient { clinic, beds, parent, fixed };
     }
     held.patient_count += 1;
     Some(())
@@ -129,6 +131,7 @@ pub fn questions_6_to_10(held: &Held) -> Result<(), u64> {
         patient.clinic <= 15
             && (1..=16).contains(&patient.beds)
             && (patient.parent == HYPHEN || (patient.parent as usize) < number)
+            && (patient.fixed == HYPHEN || patient.fixed < patient.beds)
     };
     if !held.patients().iter().enumerate().all(patient_fits) {
         return Err(6);

@@ -2,6 +2,7 @@
 
 use crate::baseline::held::{Held, HYPHEN, MOST_PATIENTS};
 use crate::baseline::rows::{Row, Rows};
+use std::ops::Range;
 use std::time::Instant;
 
 /// A sum of entries is forbidden from here on: numbers add up to at most 64,000,000.
@@ -75,16 +76,16 @@ impl Walk<'_> {
         }
     }
 
-    /// Tries every bed of the patient at a depth, rising.
+    /// Tries every bed of the patient at a depth, rising; of one who stays, the fixed bed alone.
     fn place(&mut self, depth: usize, cost: u64) {
         if depth == self.patients.len() {
             self.list.insert(Row { cost, beds: self.beds });
             return;
         }
         let patient = self.patients[depth];
-        let bed_count = self.held.patients[patient].beds as usize;
-        let costs = self.bed_costs(depth, bed_count);
-        for (bed, bed_cost) in costs[..bed_count].iter().enumerate() {
+        let permitted = self.held.patients[patient].permitted();
+        let costs = self.bed_costs(depth, &permitted);
+        for (bed, bed_cost) in permitted.zip(&costs) {
             self.beds_tried += 1;
             if self.out_of_time() {
                 return;
@@ -101,10 +102,11 @@ impl Walk<'_> {
         self.beds[patient] = 0;
     }
 
-    /// What each bed of the patient at a depth adds. The patient is its tables' last member, so
+    /// What each of these beds of the patient at a depth adds. The patient is its tables' last member, so
     /// its beds lie side by side in the store.
     #[inline]
-    fn bed_costs(&self, depth: usize, bed_count: usize) -> [u64; MOST_BEDS] {
+    fn bed_costs(&self, depth: usize, beds: &Range<usize>) -> [u64; MOST_BEDS] {
+        let bed_count = self.held.patients[self.patients[depth]].beds as usize;
         let mut costs = [0; MOST_BEDS];
         for table in &self.tables[depth] {
             let table = &self.held.tables[*table];
@@ -113,7 +115,7 @@ impl Walk<'_> {
                 place * self.held.patients[*member as usize].beds as usize + self.beds[*member as usize] as usize
             });
             let start = table.start + block * bed_count;
-            for (cost, entry) in costs.iter_mut().zip(&self.held.store[start..start + bed_count]) {
+            for (cost, entry) in costs.iter_mut().zip(&self.held.store[start + beds.start..start + beds.end]) {
                 *cost += u64::from(*entry);
             }
         }

@@ -6,7 +6,7 @@ use crate::baseline::reader::questions_6_to_10;
 use crate::lent::Lent;
 
 /// No file is longer.
-const MOST_BYTES: usize = 34_942;
+const MOST_BYTES: usize = 35_038;
 
 /// Write: one result number, the byte count.
 pub fn write(lent: &Lent, areas: &mut Outputs) -> u64 {
@@ -32,7 +32,7 @@ fn written(lent: &Lent, areas: &mut Outputs) -> Result<u64, u64> {
 
 /// Questions 2 and 5. Numbers that the held region has no room for become its highest ones, which are refused as well.
 fn hold(lent: &Lent, held: &mut Held) -> Result<(), u64> {
-    let (patients, patients_rest) = lent.patients.contents().as_chunks::<24>();
+    let (patients, patients_rest) = lent.patients.contents().as_chunks::<32>();
     let (tables, tables_rest) = lent.tables.contents().as_chunks::<48>();
     let (entries, entries_rest) = lent.entries.contents().as_chunks::<8>();
     let counted = tables.iter().try_fold(0u64, |sum, table| sum.checked_add(number(table, 5)));
@@ -48,8 +48,7 @@ fn hold(lent: &Lent, held: &mut Held) -> Result<(), u64> {
     held.table_count = tables.len();
     held.entry_count = entries.len();
     for (patient, bytes) in held.patients.iter_mut().zip(patients) {
-        let (clinic, beds, parent) = (number(bytes, 0), number(bytes, 1), number(bytes, 2));
-        *patient = Patient { clinic: cut_off(clinic), beds: cut_off(beds), parent: or_hyphen(parent) };
+        *patient = patient_in(bytes);
     }
     let mut start = 0;
     for (table, bytes) in held.tables.iter_mut().zip(tables) {
@@ -63,6 +62,12 @@ fn hold(lent: &Lent, held: &mut Held) -> Result<(), u64> {
         *entry = or_hyphen(u64::from_le_bytes(*bytes));
     }
     Ok(())
+}
+
+fn patient_in(bytes: &[u8]) -> Patient {
+    let (clinic, beds) = (number(bytes, 0), number(bytes, 1));
+    let (parent, fixed) = (number(bytes, 2), number(bytes, 3));
+    Patient { clinic: cut_off(clinic), beds: cut_off(beds), parent: or_hyphen(parent), fixed: or_hyphen(fixed) }
 }
 
 /// A number of a patient or table.
@@ -86,7 +91,7 @@ fn spelled(held: &Held) -> Vec<u8> {
     let mut text = Text(Vec::with_capacity(MOST_BYTES));
     text.numbers(b"(region ", [held.patient_count, held.table_count, held.m].map(|count| count as u32), b")\n");
     for patient in held.patients() {
-        text.numbers(b"(patient ", [patient.clinic, patient.beds, patient.parent], b")\n");
+        text.numbers(b"(patient ", [patient.clinic, patient.beds, patient.parent, patient.fixed], b")\n");
     }
     for table in held.tables() {
         text.numbers(b"(cost (", table.members().iter().copied(), b") (");

@@ -3,6 +3,7 @@
 use crate::compare::report::{Difference, Tally};
 use crate::compare::{CheckCall, Tested};
 use crate::generate::{clinics, damage, faults, full_size, layout_faults, parents, small, spelling};
+use crate::limits::HIGHEST_NUMBER;
 use crate::outcomes;
 use crate::random::Random;
 
@@ -13,6 +14,7 @@ pub fn run(tested: Tested<CheckCall>, seed: u64, count: usize) -> Result<Vec<Tal
         large_files(tested, seed, count)?,
         single_faults(tested, seed, count)?,
         double_faults(tested, seed, count)?,
+        fixed_beds(tested, seed, count / 4)?,
         damaged_files(tested, seed, count)?,
         random_files(tested, seed, count)?,
     ])
@@ -96,6 +98,25 @@ pub fn double_faults(tested: Tested<CheckCall>, seed: u64, count: usize) -> Resu
         }
     }
     tally.with_all(&[3, 4, 5, 6, 7, 8, 9])
+}
+
+/// Each patient of a region in turn with a fixed bed at the bed count and beside it.
+pub fn fixed_beds(tested: Tested<CheckCall>, seed: u64, count: usize) -> Result<Tally, Difference> {
+    let mut tally = Tally::of(&format!("{}, fixed beds", tested.name));
+    let mut random = Random::of(seed, "check, fixed beds");
+    for _ in 0..count {
+        let good = small::any_region(&mut random);
+        for (place, patient) in good.patients.iter().enumerate() {
+            let beds = patient.beds;
+            let numbered = [(0, 0), (beds - 1, 0), (beds, 6), (beds + 1, 6), (beds + 15, 6), (HIGHEST_NUMBER, 6)];
+            for (bed, number) in numbered {
+                let mut region = good.clone();
+                region.patients[place].fixed = Some(bed);
+                compare(&mut tally, tested, &spelling::file_of(&region), Some(number))?;
+            }
+        }
+    }
+    tally.with_all(&[0, 6])
 }
 
 pub fn damaged_files(tested: Tested<CheckCall>, seed: u64, count: usize) -> Result<Tally, Difference> {

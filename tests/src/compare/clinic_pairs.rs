@@ -4,7 +4,7 @@ use crate::areas::{Areas, Lengths};
 use crate::baseline;
 use crate::compare::report::{areas_text, Difference, Tally, MANY};
 use crate::compare::{SheetCall, Tested};
-use crate::generate::pairs::{self, Pair, Sizes, LARGE, SMALL};
+use crate::generate::pairs::{self, Pair, Sharing, Sizes, LARGE, SMALL};
 use crate::generate::spelling;
 use crate::outcomes::Outcomes;
 use crate::random::Random;
@@ -21,7 +21,7 @@ struct Sheet {
 }
 
 pub fn run(tested: Tested<SheetCall>, seed: u64, count: usize) -> Result<Vec<Tally>, Difference> {
-    Ok(vec![apart(tested, seed, count)?, joined(tested, seed, count)?])
+    Ok(vec![apart(tested, seed, count)?, joined(tested, seed, count)?, fixed_otherwise(tested, seed, count)?])
 }
 
 /// Pairs that demand 3 speaks of: no table joins the clinic.
@@ -50,7 +50,7 @@ fn compare_apart(
 ) -> Result<Tally, Difference> {
     let (mut printed, mut telling, mut uneven) = (0, 0, 0);
     for _ in 0..count {
-        let (one, other) = both_called(tested, due, &pairs::pair(sizes, false, &mut random), &mut random);
+        let (one, other) = both_called(tested, due, &pairs::pair(sizes, Sharing::All, &mut random), &mut random);
         let both = one.number == 0 && other.number == 0;
         let has_rows = |sheet: &Sheet| sheet.number != 0 || !sheet.rows.is_empty();
         let agree = one.as_due() && other.as_due() && has_rows(&one) && has_rows(&other);
@@ -67,14 +67,29 @@ fn compare_apart(
     enough(tally, telling.min(uneven), "pairs that tell something")
 }
 
-/// Pairs with a joining table, of which demand 3 says nothing: in some the sheets must differ, or
-/// the comparison above could not fail.
+/// Pairs with a joining table, of which demand 3 says nothing.
 pub fn joined(tested: Tested<SheetCall>, seed: u64, count: usize) -> Result<Tally, Difference> {
-    let mut tally = Tally::of(&format!("{}, joined pairs", tested.name));
-    let mut random = Random::of(seed, "sheet, joined pairs");
+    let tally = Tally::of(&format!("{}, joined pairs", tested.name));
+    compare_unlike(tally, tested, Sharing::Joined, Random::of(seed, "sheet, joined pairs"), count)
+}
+
+/// Pairs whose fixed beds differ in the clinic: demand 3 says nothing of them either.
+pub fn fixed_otherwise(tested: Tested<SheetCall>, seed: u64, count: usize) -> Result<Tally, Difference> {
+    let tally = Tally::of(&format!("{}, otherwise fixed pairs", tested.name));
+    compare_unlike(tally, tested, Sharing::FixedOtherwise, Random::of(seed, "sheet, otherwise fixed pairs"), count)
+}
+
+/// In some of these pairs the sheets must differ, or what is asked of a pair for demand 3 would not be needed.
+fn compare_unlike(
+    mut tally: Tally,
+    tested: Tested<SheetCall>,
+    sharing: Sharing,
+    mut random: Random,
+    count: usize,
+) -> Result<Tally, Difference> {
     let mut differ = 0;
     for _ in 0..count {
-        let pair = pairs::pair(SMALL, true, &mut random);
+        let pair = pairs::pair(SMALL, sharing, &mut random);
         let (one, other) = both_called(tested, independent_number, &pair, &mut random);
         if !one.as_due() || !other.as_due() {
             return Err(difference(&tally, &one, &other));
@@ -83,7 +98,7 @@ pub fn joined(tested: Tested<SheetCall>, seed: u64, count: usize) -> Result<Tall
         tally.count(one.number.max(other.number));
     }
     tally.remark(format!("(sheets differ in {differ} pairs)"));
-    enough(tally, differ, "joined pairs with differing sheets")
+    enough(tally, differ, "pairs with differing sheets")
 }
 
 /// The tally, if it has both numbers and such pairs came up. A run of few cases need not have them.

@@ -15,6 +15,7 @@ pub fn run(calls: Calls, seed: u64, count: usize) -> Result<Vec<Tally>, Differen
     Ok(vec![
         one_byte_changes(calls, seed, count)?,
         cuts(calls, seed, count)?,
+        old_form(calls, seed, count / 4)?,
         damaged_files(calls, seed, count)?,
         random_files(calls, seed, count)?,
     ])
@@ -81,6 +82,19 @@ pub fn cuts(calls: Calls, seed: u64, _: usize) -> Result<Tally, Difference> {
         }
     }
     tally.with_all(&[0, 2])
+}
+
+/// Files of the form that patients had before their fixed beds, with true sums: each is refused with 2.
+pub fn old_form(calls: Calls, seed: u64, count: usize) -> Result<Tally, Difference> {
+    let mut tally = Tally::of(&format!("{}, the old form", calls.name));
+    let mut random = Random::of(seed, "the old form");
+    for _ in 0..count {
+        let region = small::any_region(&mut random);
+        let old = spelling::in_old_form(&region);
+        check::compare(&mut tally, calls.check, &old, Some(2))?;
+        compare_refused(&mut tally, calls, &old, &mut random)?;
+    }
+    tally.with_all(&[2])
 }
 
 /// Damaged files, refused or not; accepted ones have few enough plans to walk them.

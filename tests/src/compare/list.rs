@@ -54,7 +54,11 @@ pub fn regions(tested: Tested<ListCall>, kind: small::Kind, seed: u64, count: us
             compare(&mut tally, tested, (&file, &outcomes), Areas::patterned(lengths, random.number()))?;
         }
     }
-    tally.with_all(&[if kind == small::Kind::NoneAllowed { 13 } else { 0 }, 12])
+    tally.with_all(match kind {
+        small::Kind::NoneAllowed => &[12, 13],
+        small::Kind::FixedBeds => &[0, 12, 13],
+        _ => &[0, 12],
+    })
 }
 
 /// Lengths at or beside what is asked for, or any.

@@ -143,6 +143,7 @@ fn run_few_writes(seed: u64) -> Result<(), Difference> {
     write::not_whole(BARE.write, seed, 48)?.print();
     write::large_numbers(BARE.write, seed, 96)?.print();
     write::limits(BARE.write, seed, 24)?.print();
+    write::fixed_beds(BARE.write, seed, 4)?.print();
     write::round_trips(BARE.write, seed, 12)?.print();
     Ok(())
 }

@@ -1,25 +1,27 @@
 //! Document 01's own files to try, with the answers that it gives, and the trial files: they bind
 //! the independent program itself, and how files are spelled here.
 
-use crate::areas::{Areas, Lengths};
+use crate::areas::{Area, Areas, Lengths};
 use crate::compare::report::{Difference, Tally};
-use crate::compare::{check, every_call, list, sheet, write, Calls};
+use crate::compare::{check, every_call, list, price, sheet, write, Calls};
 use crate::files::describe::{chain, flat_table, one_patient, paper, region, root, table};
 use crate::files::trial;
 use crate::generate::spelling::file_of;
+use crate::lent::numbers_in;
 use crate::limits::HIGHEST_ENTRY;
 use crate::outcomes::Outcomes;
 use crate::plans::{self, Row};
 use crate::printed;
 use crate::random::Random;
+use crate::region::Region;
 
 /// The file that the paper prints in full.
 pub const PRINTED: &str = "(region 2 2 3)
-(patient 0 2 -)
-(patient 0 2 0)
+(patient 0 2 - -)
+(patient 0 2 0 -)
 (cost (0) (3 1))
 (cost (0 1) (0 2 1 -))
-(end 5272)
+(end 5426)
 ";
 
 type Rows = &'static [(u64, &'static [u8])];
@@ -42,7 +44,7 @@ pub fn run(calls: Calls) -> Result<Tally, Difference> {
         check::compare(&mut tally, calls.check, &file, Some(number))?;
         every_call::compare(&mut tally, calls, &file, &mut random)?;
     }
-    for (file, list, sheet) in listed() {
+    for (file, list, sheet) in listed().into_iter().chain(staying()) {
         let outcomes = every_call::compare(&mut tally, calls, &file, &mut random)?;
         expect(&file, same(outcomes.rows(), list), list, outcomes.rows())?;
         let region = outcomes.region().expect("an accepted file");
@@ -52,6 +54,14 @@ pub fn run(calls: Calls) -> Result<Tally, Difference> {
         list::compare(&mut tally, calls.list, (&file, &outcomes), areas.clone())?;
         sheet::compare(&mut tally, calls.sheet, (&file, &outcomes), 0, areas)?;
         write::compare_back(&mut tally, calls.write, &file, &mut random)?;
+    }
+    for (plan, number, numbers) in priced() {
+        let file = file_of(&paper_with([Some(0), None]));
+        let outcomes = Outcomes::of(&file);
+        let mut result = Area::patterned(16, random.number());
+        price::compare(&mut tally, calls.price, (&file, &outcomes), plan, result.clone())?;
+        let given = (outcomes.price(plan, result.lent()), numbers_in(&result));
+        expect(&file, given == (number, numbers.to_vec()), (number, numbers), &given)?;
     }
     let spelled = file_of(&paper());
     expect(PRINTED.as_bytes(), spelled == PRINTED.as_bytes(), PRINTED, String::from_utf8_lossy(&spelled))?;
@@ -63,7 +73,7 @@ pub fn run(calls: Calls) -> Result<Tally, Difference> {
 /// All of them.
 pub fn files() -> Vec<Vec<u8>> {
     let numbered = numbered().into_iter().map(|(file, _)| file);
-    numbered.chain(listed().into_iter().map(|(file, ..)| file)).collect()
+    numbered.chain(listed().into_iter().chain(staying()).map(|(file, ..)| file)).collect()
 }
 
 fn same(rows: &[Row], paper: Rows) -> bool {
@@ -113,4 +123,30 @@ fn listed() -> Vec<(Vec<u8>, Rows, Rows)> {
         (two_clinics(3, "0 0"), &[(0, &[1, 0]), (0, &[1, 1]), (1, &[0, 0])], sheet),
         (two_clinics(2, "0 0"), &[(0, &[1, 0]), (0, &[1, 1])], &[(0, &[1])]),
     ]
+}
+
+/// The paper's region, where these beds are fixed.
+fn paper_with(fixed: [Option<u64>; 2]) -> Region {
+    let mut region = paper();
+    region.patients.iter_mut().zip(fixed).for_each(|(patient, bed)| patient.fixed = bed);
+    region
+}
+
+/// Files with fixed beds, with their lists and their sheets of clinic 0. In the fourth the two beds are forbidden together.
+fn staying() -> Vec<(Vec<u8>, Rows, Rows)> {
+    let dear: Rows = &[(3, &[0, 0]), (5, &[0, 1])];
+    let no_table: Rows = &[(0, &[1, 0]), (0, &[1, 1])];
+    let with = |first, second, rows: Rows| (file_of(&paper_with([first, second])), rows, rows);
+    vec![
+        with(Some(0), None, dear),
+        with(None, Some(1), &dear[1..]),
+        with(Some(0), Some(0), &dear[..1]),
+        with(Some(1), Some(1), &[]),
+        (file_of(&region(9, [root(0, 3).staying_in(1), root(0, 2)], [])), no_table, no_table),
+    ]
+}
+
+/// Plans of the paper's region with patient 0 in bed 0: price's number, and the numbers of the result area.
+fn priced() -> [(&'static [u8], u64, [u64; 2]); 3] {
+    [(&[0, 1], 0, [1, 5]), (&[1, 0], 0, [0, 0]), (&[2, 0], 14, [0, 0])]
 }

@@ -8,7 +8,7 @@ use crate::numbers;
 use crate::outcomes::Outcomes;
 use crate::plans;
 use crate::random::Random;
-use crate::region::Region;
+use crate::region::{Patient, Region};
 
 pub fn run(tested: Tested<PriceCall>, seed: u64, count: usize) -> Result<Vec<Tally>, Difference> {
     Ok(vec![regions(tested, seed, count)?, faulty_files(tested, seed, count)?])
@@ -37,7 +37,7 @@ pub fn compare(
     Err(Difference { kind: tally.kind().to_string(), file: file.to_vec(), answers })
 }
 
-/// Plans of small regions, and plans that are too long, too short, or have a bed too high.
+/// Plans of small regions, with the fixed beds and without, and plans that are too long, too short, or have a bed too high.
 pub fn regions(tested: Tested<PriceCall>, seed: u64, count: usize) -> Result<Tally, Difference> {
     let mut tally = Tally::of(&format!("{}, regions", tested.name));
     let mut random = Random::of(seed, "price, regions");
@@ -72,6 +72,20 @@ fn plans_to_try(region: &Region, random: &mut Random) -> Vec<Vec<u8>> {
         plans.push([&plan[..], &[0]].concat());
     }
     plans.push(vec![0; 33]);
+    plans.extend(plans_that_stay(region, &good[0]));
+    plans
+}
+
+/// A plan with the fixed beds; then with another bed for one of those patients, for each in turn.
+fn plans_that_stay(region: &Region, plan: &[u8]) -> Vec<Vec<u8>> {
+    let bed_of = |(bed, patient): (&u8, &Patient)| patient.fixed.map_or(*bed, |fixed| fixed as u8);
+    let staying: Vec<u8> = plan.iter().zip(&region.patients).map(bed_of).collect();
+    let mut plans = vec![staying.clone()];
+    for (place, patient) in region.patients.iter().enumerate().filter(|(_, patient)| patient.fixed.is_some()) {
+        let mut moved = staying.clone();
+        moved[place] = (moved[place] + 1) % patient.beds as u8;
+        plans.push(moved);
+    }
     plans
 }
 

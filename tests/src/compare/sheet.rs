@@ -4,7 +4,8 @@ use crate::areas::{Areas, Lengths};
 use crate::compare::list::{lengths_to_try, near};
 use crate::compare::report::{areas_text, Difference, Tally};
 use crate::compare::{SheetCall, Tested};
-use crate::generate::{faulty, pairs, small, spelling};
+use crate::generate::pairs::{self, Sharing};
+use crate::generate::{faulty, small, spelling};
 use crate::numbers;
 use crate::outcomes::Outcomes;
 use crate::random::Random;
@@ -84,7 +85,8 @@ pub fn joined_regions(tested: Tested<SheetCall>, seed: u64, count: usize) -> Res
     let mut tally = Tally::of(&format!("{}, clinics apart or joined", tested.name));
     let mut random = Random::of(seed, "sheet, clinics apart or joined");
     for case in 0..count {
-        let pair = pairs::pair(pairs::SMALL, case % 2 == 1, &mut random);
+        let sharing = if case % 2 == 1 { Sharing::Joined } else { Sharing::All };
+        let pair = pairs::pair(pairs::SMALL, sharing, &mut random);
         every_clinic(&mut tally, tested, &pair.one.0, &mut random)?;
     }
     tally.with_all(&[0, 11, 12, 13])

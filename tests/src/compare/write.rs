@@ -28,6 +28,7 @@ pub fn run(tested: Tested<WriteCall>, seed: u64, count: usize) -> Result<Vec<Tal
         not_whole(tested, seed, count)?,
         large_numbers(tested, seed, count * 2)?,
         limits(tested, seed, count)?,
+        fixed_beds(tested, seed, count / 4)?,
         counts(tested, seed, count)?,
         all_lengths(tested, seed, count)?,
         round_trips(tested, seed, count / 8)?,
@@ -205,6 +206,20 @@ pub fn limits(tested: Tested<WriteCall>, seed: u64, count: usize) -> Result<Tall
         compare_near(&mut tally, tested, &lent_faults::at_a_limit(&mut random), None, &mut random)?;
     }
     tally.with_all(&[0, 5, 6, 7, 8, 9])
+}
+
+/// A fixed bed of a good region at its limits, near 2^32 and 2^63, and one below what stands for none.
+pub fn fixed_beds(tested: Tested<WriteCall>, seed: u64, count: usize) -> Result<Tally, Difference> {
+    let mut tally = Tally::of(&format!("{}, fixed beds", tested.name));
+    let mut random = Random::of(seed, "write, fixed beds");
+    for _ in 0..count {
+        for (lent, number) in lent_faults::fixed_at_limits(&mut random) {
+            let file = outcomes::file_of_lent(&lent);
+            let needed = file.as_ref().map_or(SOME, Vec::len);
+            compare(&mut tally, tested, (&lent, &file), Outputs::patterned(needed, 8, random.number()), Some(number))?;
+        }
+    }
+    tally.with_all(&[0, 6])
 }
 
 /// 0 to 40 patients with 0 to 70 tables, many more of both, and stores at the limit.

@@ -19,6 +19,7 @@ pub fn made() -> Vec<Made> {
         ("forbidden", forbidden()),
         ("full_size", full_size()),
         ("one_tree", one_tree()),
+        ("stays_put", stays_put()),
     ];
     all.map(|(name, region)| Made { path: format!("{DIRECTORY}/{name}.region"), bytes: file_of(&region) }).into()
 }
@@ -94,4 +95,10 @@ fn full_size() -> Region {
 fn one_tree() -> Region {
     let tables: Vec<Table> = (0..31).map(|number| table(&[number, number + 1], "0 5 5 1")).collect();
     region(64, chain(32, 2), tables)
+}
+
+fn stays_put() -> Region {
+    let patients = [root(0, 2), child(0, 3, 0).staying_in(2), root(1, 2).staying_in(1), child(1, 2, 2)];
+    let tables = [table(&[0], "2 1"), table(&[0, 1], "0 1 4 3 - 0"), table(&[2], "1 3"), table(&[2, 3], "0 2 5 1")];
+    region(8, patients, tables)
 }

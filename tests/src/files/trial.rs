@@ -2,7 +2,9 @@
 
 use crate::files::describe::{chain, child, flat_table, full_table, one_patient, paper, region, root, siblings, table};
 use crate::files::Made;
-use crate::generate::spelling::{body_of, end_line, file_of, lines_of, patient_line, sum_of, with_end, Draft};
+use crate::generate::spelling::{
+    body_of, end_line, file_of, in_old_form, lines_of, patient_line, sum_of, with_end, Draft,
+};
 use crate::limits::HIGHEST_NUMBER;
 use crate::region::{Patient, Region};
 
@@ -28,7 +30,7 @@ pub fn made() -> Vec<Made> {
 
 /// All of them, in the order in which they are checked.
 pub fn all() -> Vec<Trial> {
-    [ends(), spellings(), tables(), patients(), sizes()].into_iter().flatten().collect()
+    [ends(), spellings(), tables(), patients(), fixed_beds(), sizes()].into_iter().flatten().collect()
 }
 
 /// The paper's file, whole and with faults at its end.
@@ -91,6 +93,21 @@ fn patients() -> Vec<Trial> {
         ("parent_above", 6, with_parents(&[root(0, 1), child(0, 1, 2), root(0, 1)])),
         ("parent_far_above", 6, with_parents(&[child(0, 1, HIGHEST_NUMBER)])),
         ("siblings", 10, file_of(&siblings())),
+    ]
+}
+
+/// The fourth field of a patient.
+fn fixed_beds() -> Vec<Trial> {
+    let staying = |bed: u64| file_of(&region(1, [root(0, 2).staying_in(bed)], []));
+    let instead = |text: &str| spelled(&one_patient([]), "(patient 0 1 - -)", text);
+    vec![
+        ("fixed_bed", 0, staying(1)),
+        ("fixed_bed_at_the_count", 6, staying(2)),
+        ("fixed_bed_far_above", 6, staying(HIGHEST_NUMBER)),
+        ("fixed_bed_missing", 2, in_old_form(&paper())),
+        ("fixed_bed_twice", 2, instead("(patient 0 1 - - -)")),
+        ("fixed_bed_leading_zero", 2, instead("(patient 0 1 - 00)")),
+        ("fixed_bed_eight_digits", 2, staying(HIGHEST_NUMBER + 1)),
     ]
 }
 

@@ -144,12 +144,15 @@ fn out_of_bounds(draft: &mut Draft, random: &mut Random) {
 fn wrong_patient(region: &mut Region, random: &mut Random) {
     let number = random.below(region.patients.len());
     let patient = &mut region.patients[number];
-    match random.below(5) {
+    match random.below(8) {
         0 => patient.clinic = random.pick(&[16, 17, 32, 256, HIGHEST_NUMBER]),
         1 => patient.beds = 0,
         2 => patient.beds = random.pick(&[17, 18, 256, HIGHEST_NUMBER]),
         3 => patient.parent = Some(number as u64),
-        _ => patient.parent = Some(number as u64 + random.pick(&[1, 2, 32, 256, HIGHEST_NUMBER - 999])),
+        4 => patient.parent = Some(number as u64 + random.pick(&[1, 2, 32, 256, HIGHEST_NUMBER - 999])),
+        5 => patient.fixed = Some(patient.beds),
+        6 => patient.fixed = Some(patient.beds + random.pick(&[1, 2, 16, 32, 256, HIGHEST_NUMBER - 999])),
+        _ => *patient = Patient { beds: 1, fixed: Some(1), ..patient.clone() },
     }
 }
 

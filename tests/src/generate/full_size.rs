@@ -5,11 +5,12 @@ use crate::limits::HIGHEST_ENTRY;
 use crate::random::Random;
 use crate::region::{Patient, Region, Table};
 
-/// 32 patients in a chain, 8 beds each, and 64 tables over two of them: 4,096 entries.
+/// 32 patients in a chain, 8 beds each, a quarter of them fixed, and 64 tables over two of them: 4,096 entries.
 pub fn region(random: &mut Random) -> Region {
     let mut region = Region { patients: Vec::new(), tables: Vec::new(), m: 64 };
     for number in 0..32u64 {
-        region.patients.push(Patient::of(number / 2, 8, number.checked_sub(1)));
+        let free = Patient::of(number / 2, 8, number.checked_sub(1));
+        region.patients.push(if number % 4 == 1 { free.staying_in(number % 8) } else { free });
     }
     for number in 0..64u64 {
         let first = number % 31;
@@ -21,10 +22,11 @@ pub fn region(random: &mut Random) -> Region {
 }
 
 /// A region whose file is about as long as one can be: the most of everything, numbers of the most digits,
-/// and 64 tables over four patients of two digits.
+/// 64 tables over four patients of two digits, and every patient in the last bed.
 pub fn longest_region() -> Region {
-    let beds_of = |number: u64| if number < 28 { 16 } else { [2, 2, 4, 4][number as usize - 28] };
-    let patients = (0..32u64).map(|number| Patient::of(15, beds_of(number), number.checked_sub(1))).collect();
+    let beds_of = |number: u64| if number < 28 { 16 } else { [16, 4, 1, 1][number as usize - 28] };
+    let patient = |number: u64| Patient::of(15, beds_of(number), number.checked_sub(1)).staying_in(beds_of(number) - 1);
+    let patients = (0..32).map(patient).collect();
     let table = Table { members: vec![28, 29, 30, 31], entries: vec![Some(HIGHEST_ENTRY); 64] };
     Region { patients, tables: vec![table; 64], m: 64 }
 }

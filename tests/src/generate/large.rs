@@ -1,13 +1,22 @@
 //! Regions with far more plans than can be walked, whose lists a search finds at once.
 
 use crate::generate::clinics::{self, Parameters};
+use crate::generate::fixed_beds::fix_share;
 use crate::generate::parents::chained;
 use crate::limits::HIGHEST_ENTRY;
 use crate::random::Random;
 use crate::region::{Patient, Region, Table};
 
-/// Many small clinics, a region of zero prices, or patients with no table at all.
+/// Many small clinics, a region of zero prices, or patients with no table at all; in half of them beds are fixed.
 pub fn region(random: &mut Random) -> Region {
+    let mut region = free_region(random);
+    if random.chance(50) {
+        fix_share(&mut region, random.pick(&[5, 20, 100]), random);
+    }
+    region
+}
+
+fn free_region(random: &mut Random) -> Region {
     let m = random.pick(&[1, 10, 63, 64]);
     match random.below(4) {
         0 => clinics::region(Parameters { clinics: 16, patients: 2, beds: 8, density: 1.0, m }, random),

@@ -12,12 +12,13 @@ type Lines = Vec<Vec<u8>>;
 pub fn file(random: &mut Random) -> Vec<u8> {
     let good = file_of(&sound_region(random));
     let mut lines: Lines = lines_of(&good).into_iter().map(<[u8]>::to_vec).collect();
-    match random.below(6) {
+    match random.below(7) {
         0 => in_a_number(&mut lines, random),
         1 => in_a_byte(&mut lines, random),
         2 => in_the_parts(&mut lines, random),
         3 => in_a_table(&mut lines, random),
         4 => in_the_lines(&mut lines, random),
+        5 => in_a_fixed_bed(&mut lines, random),
         _ => return at_the_end(good, random),
     }
     match lines.split_last() {
@@ -96,6 +97,29 @@ fn in_the_parts(lines: &mut Lines, random: &mut Random) {
             line.splice(first_space + 1..second_space, b"-".to_vec());
         }
     }
+}
+
+/// The fourth field of a patient missing, doubled or misspelt.
+fn in_a_fixed_bed(lines: &mut Lines, random: &mut Random) {
+    let patients = lines.iter().filter(|line| line.starts_with(b"(patient ")).count();
+    let line = &mut lines[1 + random.below(patients)];
+    let space = *places(line, |byte| byte == b' ').last().expect("a space");
+    let field = String::from_utf8(line[space + 1..line.len() - 2].to_vec()).expect("a good line");
+    let instead = match random.below(12) {
+        0 => String::new(),
+        1 => " ".to_string(),
+        2 => format!(" {field} {field}"),
+        3 => " --".to_string(),
+        4 => format!(" 0{}", random.below(16)),
+        5 => format!(" {}", HIGHEST_NUMBER + 1),
+        6 => format!("  {field}"),
+        7 => format!(" {field} "),
+        8 => format!(" -{}", random.below(16)),
+        9 => format!(" {}-", random.below(16)),
+        10 => " (0)".to_string(),
+        _ => field,
+    };
+    line.splice(space..line.len() - 2, instead.into_bytes());
 }
 
 fn in_a_table(lines: &mut Lines, random: &mut Random) {

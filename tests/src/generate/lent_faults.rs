@@ -5,7 +5,7 @@ use crate::areas::Area;
 use crate::files::describe::{chain, flat_table, full_table};
 use crate::generate::faults::sound_region;
 use crate::generate::{full_size, small};
-use crate::lent::{Lent, Numbers, ENTRY_COUNT, NONE};
+use crate::lent::{Lent, Numbers, ENTRY_COUNT, NONE, PATIENT_BYTES};
 use crate::limits::HIGHEST_ENTRY;
 use crate::random::Random;
 use crate::region::{Patient, Region, Table};
@@ -43,7 +43,7 @@ pub fn one_large_number(random: &mut Random) -> Lent {
     let entry = random.below(numbers.entries.len());
     let place = match random.below(16) {
         0..=1 => &mut numbers.m,
-        2..=7 => &mut numbers.patients[patient][random.below(3)],
+        2..=7 => &mut numbers.patients[patient][random.below(4)],
         8..=12 => &mut numbers.tables[table][random.below(6)],
         _ => &mut numbers.entries[entry],
     };
@@ -55,7 +55,7 @@ pub fn one_large_number(random: &mut Random) -> Lent {
 pub fn not_whole(region: &Region, random: &mut Random) -> Lent {
     let mut lent = lent(region, random);
     match random.below(if region.tables.is_empty() { 3 } else { 6 }) {
-        0 => lent.patients = another_length(&lent.patients, 24, random),
+        0 => lent.patients = another_length(&lent.patients, PATIENT_BYTES, random),
         1 => lent.tables = another_length(&lent.tables, 48, random),
         2 => lent.entries = another_length(&lent.entries, usize::MAX, random),
         _ => lent.tables = uncounted(region, random),
@@ -67,7 +67,7 @@ pub fn not_whole(region: &Region, random: &mut Random) -> Lent {
 fn another_length(area: &Area, size: usize, random: &mut Random) -> Area {
     let length = area.contents().len();
     loop {
-        let more = random.pick(&[1, 2, 4, 7, 8, 9, 16, 23, 25, 40, 47, 49, 56]);
+        let more = random.pick(&[1, 2, 4, 7, 8, 9, 16, 23, 24, 25, 31, 33, 40, 47, 49, 56]);
         let other = if random.chance(50) { length + more } else { length.saturating_sub(more) };
         if other != length && (size == usize::MAX || other % size != 0) {
             return area.resized(other);
@@ -143,19 +143,38 @@ pub fn at_a_limit(random: &mut Random) -> Lent {
     let mut numbers = Numbers::of(&region, || any_number(random));
     let (patient, table) = (random.below(numbers.patients.len()), random.below(numbers.tables.len()));
     let entry = random.below(numbers.entries.len());
-    match random.below(7) {
+    let beds = region.patients[patient].beds;
+    match random.below(8) {
         0 => numbers.m = random.pick(&[0, 1, 2, 63, 64, 65, 66]),
         1 => numbers.patients[patient][0] = random.pick(&[0, 1, 14, 15, 16, 17]),
         2 => numbers.patients[patient][1] = random.pick(&[0, 1, 2, 15, 16, 17]),
         3 => numbers.patients[patient][2] = random.between(0, region.patients.len() as u64 + 1),
-        4 => numbers.tables[table][0] = random.between(0, 6),
-        5 => numbers.tables[table][1 + random.below(4)] = random.between(0, region.patients.len() as u64 + 1),
+        4 => numbers.patients[patient][3] = random.pick(&[0, beds - 1, beds, beds + 1, 15, 16, NONE]),
+        5 => numbers.tables[table][0] = random.between(0, 6),
+        6 => numbers.tables[table][1 + random.below(4)] = random.between(0, region.patients.len() as u64 + 1),
         _ => {
             numbers.entries[entry] =
                 random.pick(&[0, HIGHEST_ENTRY - 1, HIGHEST_ENTRY, HIGHEST_ENTRY + 1, 9_999_999, 10_000_000])
         }
     }
     numbers.lent()
+}
+
+/// A good region with one patient's fixed bed at each number that may be mistaken, and the number of the call.
+pub fn fixed_at_limits(random: &mut Random) -> Vec<(Lent, u64)> {
+    let region = small::any_region(random);
+    let place = random.below(region.patients.len());
+    let beds = region.patients[place].beds;
+    let (mark, power) = (u64::from(u32::MAX), 1 << 32);
+    let refused = [beds, beds + 1, beds + 16, 256, mark - 1, mark, power, power + beds - 1, 1 << 63, NONE - 1];
+    let taken = [0, beds - 1, NONE];
+    let numbered = taken.map(|bed| (bed, 0)).into_iter().chain(refused.map(|bed| (bed, 6)));
+    let mut lent_with = |bed: u64| {
+        let mut numbers = Numbers::of(&region, || any_number(random));
+        numbers.patients[place][3] = bed;
+        numbers.lent()
+    };
+    numbered.map(|(bed, number)| (lent_with(bed), number)).collect()
 }
 
 /// Any small region, or one of one-bed patients in a chain with tables over one to four of them.
@@ -167,6 +186,7 @@ pub fn good_region(case: usize, random: &mut Random) -> Region {
     let mut region = of_counts(patients as usize, tables as usize, random.between(1, 64));
     for (number, patient) in region.patients.iter_mut().enumerate() {
         *patient = Patient::of(random.between(0, 15), 1, (number as u64).checked_sub(1));
+        patient.fixed = random.chance(30).then_some(0);
     }
     for table in &mut region.tables {
         let most = random.between(1, 4) as usize;

@@ -4,6 +4,7 @@ pub mod clinics;
 pub mod damage;
 pub mod faults;
 pub mod faulty;
+pub mod fixed_beds;
 pub mod full_size;
 pub mod large;
 pub mod layout_faults;

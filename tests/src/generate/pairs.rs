@@ -1,5 +1,5 @@
 //! Pairs of files that share a clinic, for demand 3: the same patients in the same order with the
-//! same beds and the same tables among them, each as often. All else is drawn anew for each file.
+//! same beds, the same fixed beds and the same tables among them, each as often. All else is drawn anew for each file.
 
 use crate::generate::parents::{join_some_roots, set_parents};
 use crate::generate::small::some_of;
@@ -12,10 +12,21 @@ pub struct Pair {
     pub other: (Region, u64),
 }
 
-/// Patients and tables over places: a table's members are places in `beds`.
+/// Patients, whose clinics and parents are given later, and tables over places: a table's members are places in `patients`.
 struct Part {
-    beds: Vec<u64>,
+    patients: Vec<Patient>,
     tables: Vec<Table>,
+}
+
+/// What the two files of a pair have in common.
+#[derive(Clone, Copy, PartialEq)]
+pub enum Sharing {
+    /// Everything that demand 3 asks for.
+    All,
+    /// The clinic, but each file has a table that joins it to a patient elsewhere.
+    Joined,
+    /// The clinic without its fixed beds, which differ.
+    FixedOtherwise,
 }
 
 /// The most patients of the shared clinic and elsewhere, beds a patient, and tables of each of the two.
@@ -33,36 +44,57 @@ pub const SMALL: Sizes = Sizes { patients: 3, strangers: 4, beds: 3, tables: 4 }
 /// Far more plans than can be walked.
 pub const LARGE: Sizes = Sizes { patients: 6, strangers: 20, beds: 5, tables: 12 };
 
-/// A pair; where `joined`, each file has a table that joins the clinic to a patient elsewhere,
-/// so that demand 3 says nothing of it.
-pub fn pair(sizes: Sizes, joined: bool, random: &mut Random) -> Pair {
+/// A pair. Demand 3 says nothing of it where less than all is shared.
+pub fn pair(sizes: Sizes, sharing: Sharing, random: &mut Random) -> Pair {
+    let joined = sharing == Sharing::Joined;
     let clinic = random.between(0, 15);
     let other_clinic = if random.chance(75) { clinic } else { random.between(0, 15) };
     let patients = random.between(1, sizes.patients);
     let shared = part(patients, sizes, random);
     let strangers = |random: &mut Random| part(random.between(u64::from(joined), sizes.strangers), sizes, random);
     let one = around(&shared, &strangers(random), clinic, joined, random);
-    let other = around(&shared, &strangers(random), other_clinic, joined, random);
+    let again = if sharing == Sharing::FixedOtherwise { fixed_otherwise(&shared, random) } else { shared };
+    let other = around(&again, &strangers(random), other_clinic, joined, random);
     Pair { one: (one, clinic), other: (other, other_clinic) }
 }
 
-/// Patients with few beds, and tables with many equal prices, some tables twice.
-fn part(patients: u64, sizes: Sizes, random: &mut Random) -> Part {
-    let beds: Vec<u64> = (0..patients).map(|_| random.between(1, sizes.beds)).collect();
+/// Patients with few beds, some of them fixed, and tables with many equal prices, some tables twice.
+fn part(count: u64, sizes: Sizes, random: &mut Random) -> Part {
+    let patients =
+        fixed_anew((0..count).map(|_| Patient::of(0, random.between(1, sizes.beds), None)).collect(), random);
     let mut tables: Vec<Table> = Vec::new();
     for _ in 0..random.between(0, sizes.tables) {
-        if beds.is_empty() {
+        if patients.is_empty() {
             break;
         }
         if !tables.is_empty() && random.chance(25) {
             tables.push(tables[random.below(tables.len())].clone());
             continue;
         }
-        let members = some_of((0..patients).collect(), random.pick(&[1, 2, 2, 3]), random);
-        let size = members.iter().map(|place| beds[*place as usize]).product();
+        let members = some_of((0..count).collect(), random.pick(&[1, 2, 2, 3]), random);
+        let size = members.iter().map(|place| patients[*place as usize].beds).product();
         tables.push(Table { entries: entries(size, random), members });
     }
-    Part { beds, tables }
+    Part { patients, tables }
+}
+
+/// The patients with fixed beds drawn anew; in half of all parts none.
+fn fixed_anew(mut patients: Vec<Patient>, random: &mut Random) -> Vec<Patient> {
+    let percent = random.pick(&[0, 0, 30, 60]);
+    for patient in &mut patients {
+        patient.fixed = random.chance(percent).then(|| random.between(0, patient.beds - 1));
+    }
+    patients
+}
+
+/// The same part with other fixed beds.
+fn fixed_otherwise(part: &Part, random: &mut Random) -> Part {
+    loop {
+        let patients = fixed_anew(part.patients.clone(), random);
+        if patients != part.patients {
+            return Part { patients, tables: part.tables.clone() };
+        }
+    }
 }
 
 fn entries(size: u64, random: &mut Random) -> Vec<Option<u64>> {
@@ -71,17 +103,17 @@ fn entries(size: u64, random: &mut Random) -> Vec<Option<u64>> {
 
 /// A region with the shared clinic, other patients put between its own, and tables in any order.
 fn around(shared: &Part, rest: &Part, clinic: u64, joined: bool, random: &mut Random) -> Region {
-    let all = shared.beds.len() + rest.beds.len();
-    let numbers = some_of((0..all as u64).collect(), shared.beds.len(), random);
+    let all = shared.patients.len() + rest.patients.len();
+    let numbers = some_of((0..all as u64).collect(), shared.patients.len(), random);
     let other_numbers: Vec<u64> = (0..all as u64).filter(|number| !numbers.contains(number)).collect();
     let blank = Patient::of(clinic, 0, None);
     let mut region = Region { patients: vec![blank; all], tables: Vec::new(), m: random.between(1, 64) };
-    for (number, beds) in numbers.iter().zip(&shared.beds) {
-        region.patients[*number as usize].beds = *beds;
+    for (number, patient) in numbers.iter().zip(&shared.patients) {
+        region.patients[*number as usize] = Patient { clinic, ..patient.clone() };
     }
-    for (number, beds) in other_numbers.iter().zip(&rest.beds) {
+    for (number, patient) in other_numbers.iter().zip(&rest.patients) {
         let elsewhere = (clinic + random.between(1, 3)) % 16;
-        region.patients[*number as usize] = Patient::of(elsewhere, *beds, None);
+        region.patients[*number as usize] = Patient { clinic: elsewhere, ..patient.clone() };
     }
     region.tables.extend(shared.tables.iter().map(|table| renumbered(table, &numbers)));
     region.tables.extend(rest.tables.iter().map(|table| renumbered(table, &other_numbers)));

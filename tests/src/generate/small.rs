@@ -1,5 +1,6 @@
 //! Random small regions, few enough plans to walk them all.
 
+use crate::generate::fixed_beds::fix_sometimes;
 use crate::generate::parents::{join_some_roots, set_parents};
 use crate::limits::HIGHEST_ENTRY;
 use crate::random::Random;
@@ -7,6 +8,9 @@ use crate::region::{Patient, Region, Table};
 
 /// No region made here has more plans than this.
 pub const MOST_PLANS: u64 = 2_048;
+
+/// In so many of a hundred regions of the other kinds, beds are fixed too.
+const FIXED: u64 = 30;
 
 /// What a region is made to try.
 #[derive(Clone, Copy, Debug, PartialEq)]
@@ -23,9 +27,10 @@ pub enum Kind {
     HighPrices,
     NoTables,
     ParentsMade,
+    FixedBeds,
 }
 
-pub const KINDS: [Kind; 12] = [
+pub const KINDS: [Kind; 13] = [
     Kind::Ties,
     Kind::ManyForbidden,
     Kind::NoneAllowed,
@@ -38,6 +43,7 @@ pub const KINDS: [Kind; 12] = [
     Kind::HighPrices,
     Kind::NoTables,
     Kind::ParentsMade,
+    Kind::FixedBeds,
 ];
 
 /// How a region's parts are drawn. Pairs are lowest and highest.
@@ -87,6 +93,7 @@ fn shape_of(kind: Kind) -> Shape {
         },
         Kind::NoTables => Shape { tables: (0, 0), ..usual },
         Kind::ParentsMade => Shape { trees: (1, 1), members: (1, 4), tables: (1, 5), forbidden: 20, ..usual },
+        Kind::FixedBeds => usual,
     }
 }
 
@@ -103,6 +110,7 @@ pub fn region(kind: Kind, random: &mut Random) -> Region {
         set_parents(&mut region);
         join_some_roots(&mut region, 30, random);
     }
+    fix_sometimes(if kind == Kind::FixedBeds { 100 } else { FIXED }, &mut region, random);
     region
 }
 

@@ -46,7 +46,20 @@ pub fn file_of(region: &Region) -> Vec<u8> {
 }
 
 pub fn patient_line(patient: &Patient) -> String {
-    format!("(patient {} {} {})\n", patient.clinic, patient.beds, or_hyphen(&patient.parent))
+    let (parent, fixed) = (or_hyphen(&patient.parent), or_hyphen(&patient.fixed));
+    format!("(patient {} {} {parent} {fixed})\n", patient.clinic, patient.beds)
+}
+
+/// The file of a region as it was spelled before a patient had a fourth field, which is left out.
+pub fn in_old_form(region: &Region) -> Vec<u8> {
+    let shortened = |line: &[u8]| match line.strip_prefix(b"(patient ") {
+        Some(_) => {
+            let space = line.iter().rposition(|byte| *byte == b' ').expect("a fourth field");
+            [&line[..space], b")\n"].concat()
+        }
+        None => line.to_vec(),
+    };
+    with_end(&lines_of(&body_of(region)).into_iter().map(shortened).collect::<Vec<_>>().concat())
 }
 
 pub fn table_line(table: &Table) -> String {

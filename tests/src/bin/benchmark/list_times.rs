@@ -10,12 +10,16 @@ use rigbasen_tests::boundary;
 use rigbasen_tests::generate::clinics::{self, Parameters};
 use rigbasen_tests::generate::{parents, spelling};
 use rigbasen_tests::random::Random;
+use rigbasen_tests::region::Region;
 use std::time::{Duration, Instant};
 
-const SEEDS: [u64; 3] = [1, 2, 3];
+pub const SEEDS: [u64; 3] = [1, 2, 3];
 
-/// Clinics, patients a clinic, beds a patient, density, m. The first four are also run chained.
-const REGIONS: [(u64, u64, u64, f64, u64); 7] = [
+/// Clinics, patients a clinic, beds a patient, density, m.
+pub type Shape = (u64, u64, u64, f64, u64);
+
+/// The first four are also run chained.
+pub const REGIONS: [Shape; 7] = [
     (8, 4, 4, 1.0, 10),
     (8, 4, 4, 1.0, 64),
     (4, 8, 6, 0.4, 64),
@@ -26,7 +30,7 @@ const REGIONS: [(u64, u64, u64, f64, u64); 7] = [
 ];
 
 /// Regions that differ in one thing, to see how the time grows with it.
-const GROWTH: [(&str, [(u64, u64, u64, f64, u64); 4]); 4] = [
+const GROWTH: [(&str, [Shape; 4]); 4] = [
     ("patients of one tree", [(1, 5, 4, 0.3, 10), (1, 10, 4, 0.3, 10), (1, 15, 4, 0.3, 10), (1, 18, 4, 0.3, 10)]),
     ("clinics", [(1, 4, 4, 1.0, 10), (2, 4, 4, 1.0, 10), (4, 4, 4, 1.0, 10), (8, 4, 4, 1.0, 10)]),
     ("beds", [(4, 4, 2, 1.0, 10), (4, 4, 4, 1.0, 10), (4, 4, 8, 1.0, 10), (4, 4, 12, 1.0, 10)]),
@@ -61,10 +65,15 @@ pub fn print(given: &[(String, Vec<u8>)], limit: Duration) {
     println!();
 }
 
-fn file_of(region: (u64, u64, u64, f64, u64), seed: u64, chained: bool) -> Vec<u8> {
-    let (clinics, patients, beds, density, m) = region;
-    let mut random = Random::of(seed, &format!("benchmark, list {region:?}"));
-    let made = clinics::region(Parameters { clinics, patients, beds, density, m }, &mut random);
+/// A region of a shape, no bed fixed.
+pub fn region_of(shape: Shape, seed: u64) -> Region {
+    let (clinics, patients, beds, density, m) = shape;
+    let mut random = Random::of(seed, &format!("benchmark, list {shape:?}"));
+    clinics::region(Parameters { clinics, patients, beds, density, m }, &mut random)
+}
+
+fn file_of(shape: Shape, seed: u64, chained: bool) -> Vec<u8> {
+    let made = region_of(shape, seed);
     spelling::file_of(&if chained { parents::chained(&made) } else { made })
 }
 

@@ -1,4 +1,4 @@
-//! Times of two programs, taken in turn so that what else the machine does meets both.
+//! Times of programs, taken in turn so that what else the machine does meets all of them.
 
 use std::hint::black_box;
 use std::time::{Duration, Instant};
@@ -45,21 +45,28 @@ pub fn ratio(first: &Times, second: &Times) -> String {
     format!("{:.2} ({:.2})", of(first.median, second.median), of(first.least, second.least))
 }
 
-/// Runs both in turn, as often as the time allows, at least three times each. What they give is the number
-/// that a call answers.
+/// Runs both in turn.
 pub fn in_turn(mut one: impl FnMut() -> u64, mut other: impl FnMut() -> u64) -> (Times, Times, u32) {
-    let once = timed(&mut one) + timed(&mut other);
-    let fitting = TOGETHER.as_nanos() / once.as_nanos().max(1);
-    let repetitions = fitting.clamp(3, u128::from(MOST_REPETITIONS)) as u32;
-    let mut times = (Vec::new(), Vec::new());
-    for _ in 0..repetitions {
-        times.0.push(timed(&mut one));
-        times.1.push(timed(&mut other));
-    }
-    (Times::of(times.0), Times::of(times.1), repetitions)
+    let ([one, other], repetitions) = all_in_turn([&mut one, &mut other]);
+    (one, other, repetitions)
 }
 
-fn timed(program: &mut impl FnMut() -> u64) -> Duration {
+/// Runs all in turn, as often as the time allows, at least three times each. What they give is the number
+/// that a call answers.
+pub fn all_in_turn<const N: usize>(mut programs: [&mut dyn FnMut() -> u64; N]) -> ([Times; N], u32) {
+    let once: Duration = programs.iter_mut().map(timed).sum();
+    let fitting = TOGETHER.as_nanos() / once.as_nanos().max(1);
+    let repetitions = fitting.clamp(3, u128::from(MOST_REPETITIONS)) as u32;
+    let mut times = [const { Vec::new() }; N];
+    for _ in 0..repetitions {
+        for (program, times) in programs.iter_mut().zip(&mut times) {
+            times.push(timed(program));
+        }
+    }
+    (times.map(Times::of), repetitions)
+}
+
+fn timed(program: &mut &mut dyn FnMut() -> u64) -> Duration {
     let start = Instant::now();
     black_box(program());
     start.elapsed()

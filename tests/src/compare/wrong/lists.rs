@@ -3,11 +3,14 @@
 use crate::areas::Areas;
 use crate::boundary;
 use crate::compare::wrong::checks::line_ended;
+use crate::compare::wrong::fixed_beds::{self, changed_file};
+use crate::generate::fixed_beds::freed;
 use crate::generate::spelling::with_right_sum;
 use crate::limits::HIGHEST_ENTRY;
 use crate::outcomes::Outcomes;
 use crate::plans::{self, Row};
 use crate::reader;
+use crate::region::Region;
 
 /// Writes other rows than the list's.
 fn other_rows(file: &[u8], areas: &mut Areas, rows: impl Fn(&[Row]) -> Vec<Row>) -> u64 {
@@ -120,4 +123,46 @@ pub fn without_sum(file: &[u8], areas: &mut Areas) -> u64 {
 
 pub fn line_end_added(file: &[u8], areas: &mut Areas) -> u64 {
     boundary::list(&line_ended(file), areas)
+}
+
+pub fn fixed_ignored(file: &[u8], areas: &mut Areas) -> u64 {
+    boundary::list(&changed_file(file, fixed_beds::all_free), areas)
+}
+
+pub fn first_fixed_alone(file: &[u8], areas: &mut Areas) -> u64 {
+    boundary::list(&changed_file(file, fixed_beds::all_but_the_first_free), areas)
+}
+
+pub fn last_fixed_ignored(file: &[u8], areas: &mut Areas) -> u64 {
+    boundary::list(&changed_file(file, fixed_beds::last_free), areas)
+}
+
+/// Where the fixed beds leave no plan, patients are free.
+pub fn fixed_ignored_for_13(file: &[u8], areas: &mut Areas) -> u64 {
+    match boundary::list(file, areas) {
+        13 => fixed_ignored(file, areas),
+        number => number,
+    }
+}
+
+/// Each fixed bed costs one.
+pub fn fixed_costs(file: &[u8], areas: &mut Areas) -> u64 {
+    let costing = |region: &Region, list: &[Row]| {
+        let more = fixed_beds::count(&region.patients);
+        list.iter().map(|row| Row { cost: row.cost + more, beds: row.beds.clone() }).collect()
+    };
+    Outcomes::of(file).rows_call(areas, |_| true, costing)
+}
+
+/// Behind the list come plans with other beds than the fixed ones.
+pub fn moved_behind(file: &[u8], areas: &mut Areas) -> u64 {
+    let with_moved = |region: &Region, list: &[Row]| {
+        let others = plans::list(&freed(region)).into_iter().filter(|row| !list.contains(row));
+        list.iter().cloned().chain(others).take(region.m as usize).collect()
+    };
+    Outcomes::of(file).rows_call(areas, |_| true, with_moved)
+}
+
+pub fn old_form_taken(file: &[u8], areas: &mut Areas) -> u64 {
+    boundary::list(&fixed_beds::in_new_form(file), areas)
 }

@@ -2,6 +2,7 @@
 //! could not fail.
 
 mod checks;
+mod fixed_beds;
 mod lists;
 mod prices;
 mod sheets;
@@ -30,19 +31,19 @@ const COUNT: usize = 4_800;
 /// Runs every comparison on its wrong calls. Each must end in a difference.
 pub fn run() -> Result<Tally, Difference> {
     let mut tally = Tally::of("wrong calls, each found");
-    for (name, comparison, call) in wrong_checks() {
+    for (name, comparison, call) in wrong_checks().into_iter().chain(fixed_checks()) {
         found(&mut tally, name, comparison(Tested { name, call }, SEED, COUNT))?;
     }
-    for (name, comparison, call) in wrong_prices() {
+    for (name, comparison, call) in wrong_prices().into_iter().chain(fixed_prices()) {
         found(&mut tally, name, comparison(Tested { name, call }, SEED, COUNT))?;
     }
-    for (name, comparison, call) in wrong_lists() {
+    for (name, comparison, call) in wrong_lists().into_iter().chain(fixed_lists()) {
         found(&mut tally, name, comparison(Tested { name, call }, SEED, COUNT))?;
     }
-    for (name, comparison, call) in wrong_sheets() {
+    for (name, comparison, call) in wrong_sheets().into_iter().chain(fixed_sheets()) {
         found(&mut tally, name, comparison(Tested { name, call }, SEED, COUNT))?;
     }
-    for (name, comparison, call) in wrong_writes().into_iter().chain(unlike_writes()) {
+    for (name, comparison, call) in wrong_writes().into_iter().chain(unlike_writes()).chain(fixed_writes()) {
         found(&mut tally, name, comparison(Tested { name, call }, SEED, COUNT))?;
     }
     for (name, comparison, calls) in wrong_calls() {
@@ -88,6 +89,22 @@ fn wrong_checks() -> Vec<(&'static str, Comparison<CheckCall>, CheckCall)> {
     ]
 }
 
+/// Checks that judge fixed beds otherwise.
+fn fixed_checks() -> Vec<(&'static str, Comparison<CheckCall>, CheckCall)> {
+    vec![
+        ("a fixed bed may be the bed count", check::single_faults, checks::bed_at_the_count_taken),
+        ("a fixed bed may be the bed count", check::fixed_beds, checks::bed_at_the_count_taken),
+        ("the limit of every fixed bed is 16", check::fixed_beds, checks::beds_below_16_taken),
+        ("the last patient's fixed bed is not asked", check::single_faults, checks::last_fixed_bed_taken),
+        ("the last patient's fixed bed is not asked", check::fixed_beds, checks::last_fixed_bed_taken),
+        ("only the first patient's fixed bed is asked", check::fixed_beds, checks::first_fixed_bed_asked_alone),
+        ("fixed beds are asked last", check::double_faults, checks::fixed_beds_last),
+        ("a missing fourth field is none", check::single_faults, checks::old_form_taken),
+        ("a fifth field is passed over", check::single_faults, checks::fifth_field_passed_over),
+        ("a fixed bed may have a leading zero", check::single_faults, checks::leading_zero_taken),
+    ]
+}
+
 fn wrong_prices() -> Vec<(&'static str, Comparison<PriceCall>, PriceCall)> {
     vec![
         ("a forbidden plan is allowed, for nothing", price::regions, prices::forbidden_for_nothing),
@@ -98,6 +115,18 @@ fn wrong_prices() -> Vec<(&'static str, Comparison<PriceCall>, PriceCall)> {
         ("8 bytes of result are enough", price::regions, prices::short_result),
         ("a refusal leaves the result area", price::regions, prices::result_left),
         ("question 12 is put before the file's", price::faulty_files, prices::result_first),
+    ]
+}
+
+fn fixed_prices() -> Vec<(&'static str, Comparison<PriceCall>, PriceCall)> {
+    vec![
+        ("fixed beds are ignored", price::regions, prices::fixed_ignored),
+        ("only the first patient's fixed bed is kept", price::regions, prices::first_fixed_alone),
+        ("the last patient's fixed bed is ignored", price::regions, prices::last_fixed_ignored),
+        ("another bed than the fixed one is refused with 14", price::regions, prices::moved_is_14),
+        ("another bed than the fixed one has a total", price::regions, prices::moved_with_total),
+        ("a fixed bed costs something", price::regions, prices::fixed_costs),
+        ("a fixed bed is allowed where a table forbids it", price::regions, prices::fixed_over_forbidden),
     ]
 }
 
@@ -120,6 +149,19 @@ fn wrong_lists() -> Vec<(&'static str, Comparison<ListCall>, ListCall)> {
         ("a short result area is written", list::all_lengths, lists::short_result_written),
         ("a refusal leaves the result area", list::faulty_files, lists::result_left),
         ("a row is lost in a large region", large::lists, lists::last_lost_in_large),
+    ]
+}
+
+fn fixed_lists() -> Vec<(&'static str, Comparison<ListCall>, ListCall)> {
+    vec![
+        ("fixed beds are ignored", list_of::<{ Kind::FixedBeds as usize }>, lists::fixed_ignored),
+        ("fixed beds are ignored without tables", list_of::<{ Kind::NoTables as usize }>, lists::fixed_ignored),
+        ("fixed beds are ignored in a large region", large::lists, lists::fixed_ignored),
+        ("only the first fixed bed is kept", list_of::<{ Kind::FixedBeds as usize }>, lists::first_fixed_alone),
+        ("the last fixed bed is ignored", list_of::<{ Kind::FixedBeds as usize }>, lists::last_fixed_ignored),
+        ("fixed beds yield to 13", list_of::<{ Kind::FixedBeds as usize }>, lists::fixed_ignored_for_13),
+        ("a fixed bed costs something", list_of::<{ Kind::FixedBeds as usize }>, lists::fixed_costs),
+        ("other beds come behind the fixed ones", list_of::<{ Kind::FixedBeds as usize }>, lists::moved_behind),
     ]
 }
 
@@ -149,6 +191,20 @@ fn wrong_sheets() -> Vec<(&'static str, Comparison<SheetCall>, SheetCall)> {
     ]
 }
 
+fn fixed_sheets() -> Vec<(&'static str, Comparison<SheetCall>, SheetCall)> {
+    vec![
+        ("fixed beds are ignored", sheet::regions, sheets::fixed_ignored),
+        ("fixed beds are ignored in a large region", large::sheets, sheets::fixed_ignored),
+        ("fixed beds are ignored", clinic_pairs::fixed_otherwise, sheets::fixed_ignored),
+        ("only the first patient's fixed bed is kept", sheet::regions, sheets::first_fixed_alone),
+        ("only the first patient's fixed bed is kept", clinic_pairs::apart, sheets::first_fixed_alone),
+        ("fixed beds of other clinics are ignored", sheet::regions, sheets::fixed_elsewhere_ignored),
+        ("a fixed bed costs something", sheet::regions, sheets::fixed_costs),
+        ("the cost tells of fixed beds elsewhere", clinic_pairs::apart, sheets::cost_with_fixed_beds),
+        ("the cost tells of fixed beds elsewhere", clinic_pairs::apart_large, sheets::cost_with_fixed_beds),
+    ]
+}
+
 /// Writes that judge otherwise.
 fn wrong_writes() -> Vec<(&'static str, Comparison<WriteCall>, WriteCall)> {
     vec![
@@ -162,7 +218,7 @@ fn wrong_writes() -> Vec<(&'static str, Comparison<WriteCall>, WriteCall)> {
         ("m is cut to 32 bits", write::large_numbers, writes::m_cut::<32>),
         ("m is cut to 8 bits", write::large_numbers, writes::m_cut::<8>),
         ("an entry 2^32 - 1 is forbidden", write::large_numbers, writes::mark_forbidden),
-        ("a parent 2^32 - 1 is none", write::large_numbers, writes::mark_as_root),
+        ("a parent 2^32 - 1 is none", write::large_numbers, writes::mark_as_none::<2>),
         ("the sum of counts wraps at 2^64", write::not_whole, writes::sum_wrapping::<64>),
         ("the bytes of entries wrap at 2^64", write::not_whole, writes::sum_wrapping::<61>),
         ("the sum of counts wraps at 2^32", write::not_whole, writes::sum_wrapping::<32>),
@@ -210,6 +266,25 @@ fn unlike_writes() -> Vec<(&'static str, Comparison<WriteCall>, WriteCall)> {
     ]
 }
 
+fn fixed_writes() -> Vec<(&'static str, Comparison<WriteCall>, WriteCall)> {
+    vec![
+        ("a fixed bed is cut to 32 bits", write::large_numbers, writes::patient_field_cut::<3, 32>),
+        ("a fixed bed is cut to 32 bits", write::fixed_beds, writes::patient_field_cut::<3, 32>),
+        ("a fixed bed is cut to 8 bits", write::large_numbers, writes::patient_field_cut::<3, 8>),
+        ("a fixed bed 2^32 - 1 is none", write::fixed_beds, writes::mark_as_none::<3>),
+        ("a fixed bed 2^64 - 2 is none", write::fixed_beds, writes::fixed_below_none_as_none),
+        ("a fixed bed may be the bed count", write::fixed_beds, writes::bed_at_the_count_taken),
+        ("a fixed bed may be the bed count", write::limits, writes::bed_at_the_count_taken),
+        ("the last patient's fixed bed is not asked", write::single_faults, writes::last_fixed_bed_taken),
+        ("patients have 24 bytes", write::good_regions, writes::patients_of_24_bytes),
+        ("patients have 24 bytes", write::not_whole, writes::patients_of_24_bytes),
+        ("fixed beds are not written", write::good_regions, writes::fixed_beds_dropped),
+        ("fixed beds are not written", write::round_trips, writes::fixed_beds_dropped),
+        ("fixed beds are shifted", write::round_trips, writes::fixed_beds_shifted),
+        ("fixed beds and parents are exchanged", write::good_regions, writes::fixed_beds_and_parents_exchanged),
+    ]
+}
+
 /// One wrong call among the four of a file.
 fn wrong_calls() -> Vec<(&'static str, ComparisonOfAll, Calls)> {
     let check = |call| Calls { check: Tested { call, ..LIBRARY.check }, ..LIBRARY };
@@ -225,6 +300,10 @@ fn wrong_calls() -> Vec<(&'static str, ComparisonOfAll, Calls)> {
         ("list adds a line end", every_call::cuts, list(lists::line_end_added)),
         ("price adds a line end", every_call::cuts, price(prices::line_end_added)),
         ("sheet adds a line end", every_call::cuts, sheet(sheets::line_end_added)),
+        ("check takes the old form", every_call::old_form, check(checks::old_form_taken)),
+        ("list takes the old form", every_call::old_form, list(lists::old_form_taken)),
+        ("price takes the old form", every_call::old_form, price(prices::old_form_taken)),
+        ("sheet takes the old form", every_call::old_form, sheet(sheets::old_form_taken)),
         ("sheet does not ask for the sum of damaged files", every_call::damaged_files, sheet(sheets::without_sum)),
         ("check does not ask question 2 of random bytes", every_call::random_files, check(checks::without::<2>)),
     ]
@@ -241,6 +320,7 @@ fn wrong_texts() -> Vec<(&'static str, TextCall)> {
         ("every sheet has the first clinic's rows", texts::sheet_of_the_first_clinic),
         ("a sheet is that of the clinic one higher", texts::clinic_one_higher),
         ("clinics without patients have sheets", texts::sheets_of_all_clinics),
+        ("fixed beds are ignored", texts::fixed_beds_ignored),
         ("the last line end is missing", texts::line_end_missing),
         ("there is a line end too many", texts::line_end_added),
         ("a zero byte follows", texts::zero_byte_added),

@@ -3,11 +3,12 @@
 use crate::areas::{Areas, Lengths};
 use crate::boundary;
 use crate::compare::wrong::checks::line_ended;
+use crate::compare::wrong::fixed_beds::{self, changed_file};
 use crate::generate::spelling::{file_of, with_right_sum};
 use crate::outcomes::Outcomes;
 use crate::plans::{self, Row};
 use crate::reader;
-use crate::region::{Region, Table};
+use crate::region::{Patient, Region, Table};
 
 /// Writes other rows than the sheet's.
 fn other_rows(file: &[u8], clinic: u64, areas: &mut Areas, rows: impl Fn(&Region, &[Row]) -> Vec<Row>) -> u64 {
@@ -163,4 +164,38 @@ pub fn without_sum(file: &[u8], clinic: u64, areas: &mut Areas) -> u64 {
 
 pub fn line_end_added(file: &[u8], clinic: u64, areas: &mut Areas) -> u64 {
     boundary::sheet(&line_ended(file), clinic, areas)
+}
+
+pub fn fixed_ignored(file: &[u8], clinic: u64, areas: &mut Areas) -> u64 {
+    boundary::sheet(&changed_file(file, fixed_beds::all_free), clinic, areas)
+}
+
+pub fn first_fixed_alone(file: &[u8], clinic: u64, areas: &mut Areas) -> u64 {
+    boundary::sheet(&changed_file(file, fixed_beds::all_but_the_first_free), clinic, areas)
+}
+
+pub fn fixed_elsewhere_ignored(file: &[u8], clinic: u64, areas: &mut Areas) -> u64 {
+    boundary::sheet(&changed_file(file, |region| fixed_beds::free_elsewhere(region, clinic)), clinic, areas)
+}
+
+/// Each fixed bed of the clinic costs one.
+pub fn fixed_costs(file: &[u8], clinic: u64, areas: &mut Areas) -> u64 {
+    other_rows(file, clinic, areas, |region, list| {
+        let inside: Vec<Patient> = region.patients.iter().filter(|patient| patient.clinic == clinic).cloned().collect();
+        let more = fixed_beds::count(&inside);
+        recosted(region, list, clinic, |row, _| row.cost + more)
+    })
+}
+
+/// The first row's cost has the number of all fixed beds in it.
+pub fn cost_with_fixed_beds(file: &[u8], clinic: u64, areas: &mut Areas) -> u64 {
+    let number = boundary::sheet(file, clinic, areas);
+    if number == 0 {
+        areas.costs.lent()[7] = reader::read(file).map_or(0, |region| fixed_beds::count(&region.patients) as u8);
+    }
+    number
+}
+
+pub fn old_form_taken(file: &[u8], clinic: u64, areas: &mut Areas) -> u64 {
+    boundary::sheet(&fixed_beds::in_new_form(file), clinic, areas)
 }

@@ -1,6 +1,7 @@
 //! Wrong printed texts, made from the independent program's, and programs that print something else.
 
 use crate::compare::printing::{output_of, Text};
+use crate::compare::wrong::fixed_beds::{self, changed_file};
 use crate::outcomes::Outcomes;
 use crate::plans::{self, Row};
 use crate::printed::{self, list_text, refusal_text, sheet_text};
@@ -80,6 +81,11 @@ pub fn sheets_of_all_clinics(file: &[u8]) -> Text {
         let sheets = (0..=15).map(|clinic| sheet_text(clinic, &plans::sheet(region, list, clinic)));
         list_text(list) + &sheets.collect::<String>()
     })
+}
+
+/// The text of the same region with no fixed bed.
+pub fn fixed_beds_ignored(file: &[u8]) -> Text {
+    Ok(right(&changed_file(file, fixed_beds::all_free)).into_bytes())
 }
 
 pub fn line_end_missing(file: &[u8]) -> Text {

@@ -2,8 +2,9 @@
 
 use crate::areas::{Area, Outputs};
 use crate::boundary;
+use crate::compare::wrong::fixed_beds;
 use crate::generate::spelling::{body_of, file_of, sum_of, with_stated_end};
-use crate::lent::{numbers_in, Lent, ENTRY_COUNT, NONE};
+use crate::lent::{numbers_in, Lent, ENTRY_COUNT, NONE, PATIENT_BYTES};
 use crate::limits::HIGHEST_ENTRY;
 use crate::outcomes;
 use crate::region::Region;
@@ -42,7 +43,7 @@ fn low_bits(number: u64, bits: u64) -> u64 {
 
 pub fn patient_field_cut<const FIELD: usize, const BITS: u64>(lent: &Lent, areas: &mut Outputs) -> u64 {
     let cut = |field: usize, number: u64| if field == FIELD { low_bits(number, BITS) } else { number };
-    boundary::write(&Lent { patients: changed(&lent.patients, 3, cut), ..lent.clone() }, areas)
+    boundary::write(&Lent { patients: changed(&lent.patients, 4, cut), ..lent.clone() }, areas)
 }
 
 /// The count of members is field 0, the members are the next.
@@ -68,10 +69,19 @@ pub fn mark_forbidden(lent: &Lent, areas: &mut Outputs) -> u64 {
     boundary::write(&Lent { entries: changed(&lent.entries, 1, marked), ..lent.clone() }, areas)
 }
 
-/// The same for a parent.
-pub fn mark_as_root(lent: &Lent, areas: &mut Outputs) -> u64 {
-    let marked = |field: usize, number: u64| if field == 2 && number == u64::from(u32::MAX) { NONE } else { number };
-    boundary::write(&Lent { patients: changed(&lent.patients, 3, marked), ..lent.clone() }, areas)
+/// A number is taken as none in this field of a patient.
+fn taken_as_none(lent: &Lent, areas: &mut Outputs, in_field: usize, none: u64) -> u64 {
+    let marked = |field: usize, number: u64| if field == in_field && number == none { NONE } else { number };
+    boundary::write(&Lent { patients: changed(&lent.patients, 4, marked), ..lent.clone() }, areas)
+}
+
+/// The mark of 32 bits is taken as none, for a parent or a fixed bed.
+pub fn mark_as_none<const FIELD: usize>(lent: &Lent, areas: &mut Outputs) -> u64 {
+    taken_as_none(lent, areas, FIELD, u64::from(u32::MAX))
+}
+
+pub fn fixed_below_none_as_none(lent: &Lent, areas: &mut Outputs) -> u64 {
+    taken_as_none(lent, areas, 3, NONE - 1)
 }
 
 /// Judges on, where the sum of the counts seems to be right in so few bits; question 8 is then the first to refuse.
@@ -103,7 +113,7 @@ pub fn no_members_taken(lent: &Lent, areas: &mut Outputs) -> u64 {
 
 /// One of the most patients or tables is too many.
 pub fn refusing_the_most<const PATIENTS: usize, const TABLES: usize>(lent: &Lent, areas: &mut Outputs) -> u64 {
-    let counts = (lent.patients.contents().len() / 24, lent.tables.contents().len() / 48);
+    let counts = (lent.patients.contents().len() / PATIENT_BYTES, lent.tables.contents().len() / 48);
     match boundary::write(lent, areas) {
         0 if counts.0 == PATIENTS || counts.1 == TABLES => 5,
         number => number,
@@ -112,13 +122,13 @@ pub fn refusing_the_most<const PATIENTS: usize, const TABLES: usize>(lent: &Lent
 
 /// Counts patients in so few bits.
 pub fn patients_counted_in<const BITS: usize>(lent: &Lent, areas: &mut Outputs) -> u64 {
-    let length = lent.patients.contents().len() % (24 << BITS);
+    let length = lent.patients.contents().len() % (PATIENT_BYTES << BITS);
     boundary::write(&Lent { patients: lent.patients.resized(length), ..lent.clone() }, areas)
 }
 
 /// Judges the places of members that are not there.
 pub fn unused_judged(lent: &Lent, areas: &mut Outputs) -> u64 {
-    let patients = lent.patients.contents().len() as u64 / 24;
+    let patients = (lent.patients.contents().len() / PATIENT_BYTES) as u64;
     let unknown = |table: &[u64]| table[1..ENTRY_COUNT].iter().any(|member| *member >= patients);
     match boundary::write(lent, areas) {
         0 if numbers_in(&lent.tables).chunks(6).any(unknown) => 7,
@@ -265,4 +275,53 @@ pub fn hyphen_as_price(lent: &Lent, areas: &mut Outputs) -> u64 {
 
 pub fn tables_turned(lent: &Lent, areas: &mut Outputs) -> u64 {
     changed_region(lent, areas, |region| region.tables.reverse())
+}
+
+pub fn fixed_beds_dropped(lent: &Lent, areas: &mut Outputs) -> u64 {
+    changed_region(lent, areas, fixed_beds::all_free)
+}
+
+/// Each patient has the fixed bed of the one before it.
+pub fn fixed_beds_shifted(lent: &Lent, areas: &mut Outputs) -> u64 {
+    changed_region(lent, areas, |region| {
+        for number in (1..region.patients.len()).rev() {
+            region.patients[number].fixed = region.patients[number - 1].fixed;
+        }
+    })
+}
+
+pub fn fixed_beds_and_parents_exchanged(lent: &Lent, areas: &mut Outputs) -> u64 {
+    changed_region(lent, areas, |region| {
+        region.patients.iter_mut().for_each(|patient| std::mem::swap(&mut patient.fixed, &mut patient.parent));
+    })
+}
+
+/// Reads patients as they were lent before they had a fixed bed.
+pub fn patients_of_24_bytes(lent: &Lent, areas: &mut Outputs) -> u64 {
+    let numbers = numbers_in(&lent.patients);
+    let with_fourth = |three: &[u64]| three.iter().copied().chain([NONE]).collect::<Vec<u64>>();
+    let patients = match lent.patients.contents().len() % 24 {
+        0 => Area::of_numbers(numbers.chunks(3).flat_map(with_fourth)),
+        _ => lent.patients.resized(1),
+    };
+    boundary::write(&Lent { patients, ..lent.clone() }, areas)
+}
+
+/// Judges anew a region that question 6 was the first to refuse, after a change of it.
+fn judged_after(lent: &Lent, areas: &mut Outputs, change: impl Fn(&mut Region)) -> u64 {
+    match (boundary::write(lent, areas), lent.region()) {
+        (6, Ok(mut region)) => {
+            change(&mut region);
+            boundary::write(&Lent::of(&region), areas)
+        }
+        (number, _) => number,
+    }
+}
+
+pub fn bed_at_the_count_taken(lent: &Lent, areas: &mut Outputs) -> u64 {
+    judged_after(lent, areas, fixed_beds::free_at_the_count)
+}
+
+pub fn last_fixed_bed_taken(lent: &Lent, areas: &mut Outputs) -> u64 {
+    judged_after(lent, areas, fixed_beds::last_free)
 }
