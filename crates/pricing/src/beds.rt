@@ -29,13 +29,7 @@ fn add_entry(sum: u64, entry: u32) -> u64
 }
 
 // Adds to the sum of each bed from the first to before the end the entry for it: the entries lie side by side, that for bed 0 at a place.
-fn add_entries(
-    sums: &mut [u64; 16],
-    entries: &[u32; 4096],
-    from: usize,
-    first: usize,
-    end: usize,
-)
+fn add_entries(sums: &mut [u64; 16], entries: &[u32; 4096], from: usize, first: usize, end: usize)
     requires { ⌜ AsksEntries (now entries) from first end (now sums) ⌝ }
     ensures { λ _. ⌜ GivesEntries (now (entries .entry)) from first end (now (sums .entry)) (now (sums .exit)) ⌝ }
 {
