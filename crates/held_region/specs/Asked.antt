@@ -9,7 +9,7 @@ use Rattle.definitions.specs.Syntax as Said
 use Rattle.definitions.specs.Syntax.{patientAt}
 use Rattle.definitions.specs.Questions.{patientsWithin, parentsSmaller}
 use Rattle.held_region.specs.declared.Region.{Region}
-use Rattle.held_region.specs.Meaning.{optional, patientOf, patientIn, mark, entryOf, codeOf, tableIn, membersOf, startIn, tableSaid, said}
+use Rattle.held_region.specs.Meaning.{optional, patientOf, patientIn, mark, saidBy, codeOf, tableIn, membersOf, startIn, tableSaid, said}
 use Rattle.lists.specs.Every.{every-map}
 use Rattle.lists.specs.Below.{length-by-places, at-place, same-tests}
 use Rattle.held_region.specs.Stores.{startOf, tableAt, start-next, HasEntries}
@@ -23,7 +23,7 @@ abbrev pub patientFits : Said.Patient → Bool
 patientFits p = within clinic (p .clinic) && within bedCount (p .bedCount) && noneOrBelow (p .fixedBed) (p .bedCount)
 
 -- A number of the store is that of the entry that it stands for.
-code-back : (code : ℕ) → codeOf (entryOf code) ≡ code
+code-back : (code : ℕ) → codeOf (saidBy code) ≡ code
 code-back code = go (eqb code mark) refl
   where
     go : (b : Bool) → eqb code mark ≡ b → codeOf (cond b none (some code)) ≡ code
@@ -89,4 +89,4 @@ module _ (h : Region) (store : List ℕ) where
       let there : q < tableIn h i .entries = omega (arith, entries-said i inside) in
       ap (λ n. getD store (n + q) 0) (starts-said i (omega arith))
       ∙ sym (code-back (getD store (startIn h i + q) 0))
-      ∙ ap codeOf (sym (ap (λ t. getD (t .entries) q none) (table-said i inside) ∙ at-place (λ k. entryOf (getD store (startIn h i + k) 0)) none (tableIn h i .entries) q there))
+      ∙ ap codeOf (sym (ap (λ t. getD (t .entries) q none) (table-said i inside) ∙ at-place (λ k. saidBy (getD store (startIn h i + k) 0)) none (tableIn h i .entries) q there))

@@ -17,7 +17,7 @@ use Rattle.definitions.specs.Questions.{entryCountsRight, entriesWithin}
 use Rattle.held_region.specs.declared.Patient.{Patient}
 use Rattle.held_region.specs.declared.Table.{Table}
 use Rattle.held_region.specs.declared.Region.{Region}
-use Rattle.held_region.specs.Meaning.{mark, entryOf, tableIn, membersOf, sumBefore, startIn, tableSaid, said}
+use Rattle.held_region.specs.Meaning.{mark, saidBy, tableIn, membersOf, sumBefore, startIn, tableSaid, said}
 use Rattle.held_region.specs.Stores.{startOf, entriesOf, start-all}
 use Rattle.held_region.specs.Asked.{patient-said, tables-by-places, tables-said, entries-count, starts-said}
 use Rattle.held_region.specs.Sound.{Sound, bedCountIn, beds-most, members-fit, members-few, members-held, member-below}
@@ -104,7 +104,7 @@ abbrev pub storeFits : ℕ → List ℕ → Bool
 storeFits total store = every (λ i. codeFits (getD store i 0)) (below total)
 
 -- A number fits where the entry that it stands for does.
-code-asked : (code : ℕ) → noneOr (within entry) (entryOf code) ≡ codeFits code
+code-asked : (code : ℕ) → noneOr (within entry) (saidBy code) ≡ codeFits code
 code-asked code = go (eqb code mark)
   where
     go : (b : Bool) → noneOr (within entry) (cond b none (some code)) ≡ (b || within entry code)

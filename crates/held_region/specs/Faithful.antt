@@ -15,7 +15,7 @@ use Rattle.lists.specs.Tests.{both}
 use Rattle.lists.specs.Below.{length-by-places, by-places, same-default, every-place, every-by-places, same-tests}
 use Rattle.theorems.specs.Accepted.{at-most}
 use Rattle.held_region.specs.declared.Region.{Region}
-use Rattle.held_region.specs.Meaning.{noPatient, patientOf, patientIn, mark, entryOf, codeOf, noTable, tableIn, membersOf, startIn, tableSaid, said}
+use Rattle.held_region.specs.Meaning.{noPatient, patientOf, patientIn, mark, saidBy, codeOf, noTable, tableIn, membersOf, startIn, tableSaid, said}
 use Rattle.held_region.specs.Stores.{startOf, entriesOf, tableAt, start-next, start-all}
 use Rattle.held_region.specs.Asked.{patientFits, noneOrBelow, tables-by-places}
 use Rattle.held_region.specs.Members.{membersFit, members-asked}
@@ -56,7 +56,7 @@ module _ (h : Region) (t : Said.Table) (i : ℕ) (holds : HoldsTable (getD (h .t
           ∙ sym (ap (λ b. b && every (λ s. ltb s v) (t .members) && everyTwo ltb (t .members)) e)
 
 -- The entry that the number of an entry stands for, where that is not the mark.
-entry-back : (o : Option ℕ) → noneOr (λ e. ltb e mark) o ≡ true → entryOf (codeOf o) ≡ o
+entry-back : (o : Option ℕ) → noneOr (λ e. ltb e mark) o ≡ true → saidBy (codeOf o) ≡ o
 entry-back none small = ap (λ b. cond b none (some mark)) (eq-eqb mark mark refl)
 entry-back (some e) small = ap (λ b. cond b none (some e)) (ne-eqb e mark (λ same. omega (arith, ltb-true e mark small)))
 
@@ -150,11 +150,11 @@ module _ (h : Region) (store : List ℕ) (r : Said.Region) (held : HeldFrom h st
 
       -- Where question 8 is too, all entries have their place, and the tables are those that are said.
       module _ (eight : entryCountsRight r ≡ true) where
-        entry-same : (i : ℕ) → i < h .t → (k : ℕ) → k < tableIn h i .entries → entryOf (getD store (startIn h i + k) 0) ≡ getD (tableAt r i .entries) k none
+        entry-same : (i : ℕ) → i < h .t → (k : ℕ) → k < tableIn h i .entries → saidBy (getD store (startIn h i + k) 0) ≡ getD (tableAt r i .entries) k none
         entry-same i l k m =
             let inside : k < length (tableAt r i .entries) = omega (arith, entries-counted h (tableAt r i) i (holds-table i l)) in
-            ap (λ n. entryOf (getD store (n + k) 0)) (starts-same i (omega arith))
-            ∙ ap entryOf (held .entries (total-most r eight) i k (omega (arith, table-lines)) inside)
+            ap (λ n. saidBy (getD store (n + k) 0)) (starts-same i (omega arith))
+            ∙ ap saidBy (held .entries (total-most r eight) i k (omega (arith, table-lines)) inside)
             ∙ entry-back (getD (tableAt r i .entries) k none) (each-unmarked i l k inside)
           where
             each-unmarked : (i : ℕ) → i < h .t → (k : ℕ) → k < length (tableAt r i .entries) → noneOr (λ e. ltb e mark) (getD (tableAt r i .entries) k none) ≡ true

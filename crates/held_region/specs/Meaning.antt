@@ -3,7 +3,7 @@ use Rattle.definitions.specs.Basics.{ℕ, zero, suc, _+_, cond, Option, none, s
 use Rattle.definitions.specs.Syntax as Said
 use Rattle.definitions.specs.Writer.{withSum}
 use Rattle.scanner.specs.declared.Optional.the-variants.{Hyphen}
-pub use Rattle.scanner.specs.Answers.{optional}
+pub use Rattle.scanner.specs.Answers.{optional, mark, codeOf, saidBy}
 use Rattle.held_region.specs.declared.Patient.{Patient}
 use Rattle.held_region.specs.declared.Table.{Table}
 use Rattle.held_region.specs.declared.Region.{Region}
@@ -21,17 +21,6 @@ abbrev pub patientIn : Region → ℕ → Patient
 patientIn h s = getD (h .patients) s noPatient
 
 -- ---- tables
-
--- A number of the store and the entry that it stands for: the mark is the forbidden one.
-abbrev pub mark : ℕ
-mark = 0xffff_ffff
-
-abbrev pub entryOf : ℕ → Option ℕ
-entryOf code = cond (eqb code mark) none (some code)
-
-abbrev pub codeOf : Option ℕ → ℕ
-codeOf none = mark
-codeOf (some e) = e
 
 -- What stands where no table is held; the table at a place. (Past the last place the code reads one without even places for members.)
 abbrev pub noTable : Table
@@ -54,7 +43,7 @@ startIn h = sumBefore (λ i. tableIn h i .entries)
 
 -- Table i with its members and the entries that stand in the store from its start on.
 abbrev pub tableSaid : Region → List ℕ → ℕ → Said.Table
-tableSaid h store i = record { members = membersOf (tableIn h i); entries = map (λ k. entryOf (getD store (startIn h i + k) 0)) (below (tableIn h i .entries)) }
+tableSaid h store i = record { members = membersOf (tableIn h i); entries = map (λ k. saidBy (getD store (startIn h i + k) 0)) (below (tableIn h i .entries)) }
 
 -- ---- the region
 

@@ -12,9 +12,9 @@ use borrow.Author.Tests.{leb-true, leb-false}
 use Rattle.definitions.specs.Basics.{Option, none, some, Option·map, bind}
 use Rattle.definitions.specs.Layout.{exactly, word, number, hyphenOrNumber}
 use Rattle.scanner.specs.Words.{formStart}
-use Rattle.scanner.specs.Answers.{ReadAt, there, missing}
+use Rattle.scanner.specs.Answers.{ReadAt, there, missing, codeOf}
 use Rattle.scanner.specs.Tokens.{Left, token, gives, token-there, token-missing, line-longer, line-whole}
-use Rattle.line_reader.specs.Forms.{fieldValue, field, fieldsLeft, form, fieldValues, valuesIf}
+use Rattle.line_reader.specs.Forms.{field, fieldsLeft, form, fieldValues, valuesIf}
 
 -- A field by its kind.
 module _ {k : Bool} {s : List ℕ} {at : ℕ} where
@@ -27,7 +27,7 @@ module _ {k : Bool} {s : List ℕ} {at : ℕ} where
     unfolding field bind
     hyphen-field-missing q = record { says = rw (e, missing h q); ahead = tt }
 
-    pub hyphen-field : {p : Option ℕ} {v next : ℕ} → o ≡ some (p, next) → v ≡ fieldValue p → ReadAt (field k) s at (some (v, next))
+    pub hyphen-field : {p : Option ℕ} {v next : ℕ} → o ≡ some (p, next) → v ≡ codeOf p → ReadAt (field k) s at (some (v, next))
     unfolding field bind
     hyphen-field q is = let a = rw q at h in record { says = rw (e, is, there h q); ahead = a .ahead }
 

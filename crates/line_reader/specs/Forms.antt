@@ -4,6 +4,7 @@ use native.Mathlib.Omega.{arith}
 use borrow.Author.Tests.{ltb-true, ne-eqb}
 use Rattle.theorems.specs.Numbers.{hyphen-reads}
 use Rattle.scanner.specs.Classes.{isLetter}
+use Rattle.scanner.specs.Answers.{mark, codeOf, saidBy}
 use Rattle.scanner.specs.Words.{formStart}
 use Rattle.scanner.specs.Tokens.{Form, token, gives, read}
 use Rattle.definitions.specs.Basics.{ℕ, _^_, _<_, _≡_, refl, Bool, true, false, cond, Option, none, some, Option·map, bind, List, [], _∷_, _++_, getD, length, eqb, text, every, noneOr}
@@ -12,20 +13,9 @@ use Rattle.definitions.specs.Spelling.{spellable}
 use Rattle.definitions.specs.Syntax.{Patient}
 use Rattle.definitions.specs.Layout.{Reader, _>>=_, _>>_, give, whole, exactly, word, number, hyphenOrNumber, regionLine, patientLine, endLine}
 
--- The value of a field: a number, or the mark of a hyphen, which is more than any number of a file.
-abbrev pub hyphenMark : ℕ
-hyphenMark = 4_294_967_295
-
-abbrev pub fieldValue : Option ℕ → ℕ
-fieldValue none = hyphenMark
-fieldValue (some n) = n
-
-abbrev pub fieldSaid : ℕ → Option ℕ
-fieldSaid v = cond (eqb v hyphenMark) none (some v)
-
 -- A field by its kind: may it be a hyphen?
 unfoldable pub field : Bool → Reader ℕ ℕ
-field true = do o ← hyphenOrNumber; give (fieldValue o)
+field true = do o ← hyphenOrNumber; give (codeOf o)
 field false = number
 
 -- The fields that are left, after those of these values.
@@ -70,13 +60,13 @@ module _ {A B : Type 0} where
   map-cond f false a = refl
 
 -- The mark tells a hyphen from every number that a file can say.
-pub number-unmarked : (n : ℕ) → spellable n ≡ true → n < hyphenMark
+pub number-unmarked : (n : ℕ) → spellable n ≡ true → n < mark
 unfolding limits
 number-unmarked n h = omega (arith, ltb-true n (10 ^ limits digitCount .highest) h)
 
-said-by : (o : Option ℕ) → noneOr spellable o ≡ true → fieldSaid (fieldValue o) ≡ o
+said-by : (o : Option ℕ) → noneOr spellable o ≡ true → saidBy (codeOf o) ≡ o
 said-by none h = refl
-said-by (some n) h = let l = number-unmarked n h in rw (ne-eqb n hyphenMark (λ e. omega arith))
+said-by (some n) h = let l = number-unmarked n h in rw (ne-eqb n mark (λ e. omega arith))
 
 module _ (xs : List ℕ) where
   -- What the definition reads, by the value of the field.
@@ -84,12 +74,12 @@ module _ (xs : List ℕ) where
   unfolding field
   number-by-value = refl
 
-  hyphen-by-value : hyphenOrNumber xs ≡ (do v ← field true; give (fieldSaid v)) xs
+  hyphen-by-value : hyphenOrNumber xs ≡ (do v ← field true; give (saidBy v)) xs
   unfolding field bind
   hyphen-by-value = go (hyphenOrNumber xs) (λ p ys e. hyphen-reads .only e .0)
     where
       go : (o : Option (Option ℕ × List ℕ)) → ((p : Option ℕ) (ys : List ℕ) → o ≡ some (p, ys) → noneOr spellable p ≡ true)
-          → o ≡ bind (bind {B = ℕ × List ℕ} o (λ r. some (fieldValue (r .0), r .1))) (λ r. some (fieldSaid (r .0), r .1))
+          → o ≡ bind (bind {B = ℕ × List ℕ} o (λ r. some (codeOf (r .0), r .1))) (λ r. some (saidBy (r .0), r .1))
       go none h = refl
       go (some r) h = ap (λ p. some (p, r .1)) (sym (said-by (r .0) (h (r .0) (r .1) refl)))
 
@@ -98,7 +88,7 @@ abbrev pub regionSaid : List ℕ → ℕ × ℕ × ℕ
 regionSaid values = (getD values 0 0, getD values 1 0, getD values 2 0)
 
 abbrev pub patientSaid : List ℕ → Patient
-patientSaid values = record { clinic = getD values 0 0; bedCount = getD values 1 0; parent = fieldSaid (getD values 2 0); fixedBed = fieldSaid (getD values 3 0) }
+patientSaid values = record { clinic = getD values 0 0; bedCount = getD values 1 0; parent = saidBy (getD values 2 0); fixedBed = saidBy (getD values 3 0) }
 
 abbrev pub endSaid : List ℕ → ℕ
 endSaid values = getD values 0 0

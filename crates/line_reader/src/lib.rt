@@ -3,11 +3,13 @@ use scanner::Entry;
 use scanner::Number;
 use scanner::Optional;
 use scanner::Passed;
+use scanner::code_of;
 use scanner::form_end_at;
 use scanner::form_start_at;
 use scanner::hyphen_or_number_at;
 use scanner::is_line_end;
 use scanner::number_at;
+use scanner::said_by;
 use scanner::space_at;
 ghost use mathlib.Core.Path.{_≡_};
 ghost use Prim.Native.Nat.{_+_, _≤_};
@@ -15,9 +17,9 @@ ghost use lib.ListN.{length};
 ghost use Rattle.definitions.specs.Layout.{whole, regionLine, patientLine, endLine};
 ghost use Rattle.definitions.specs.Limits.{fileLength, limits};
 ghost use Rattle.definitions.specs.Questions.{checksum};
-ghost use Rattle.scanner.specs.Answers.{ReadAt, numberRead, optional};
+ghost use Rattle.scanner.specs.Answers.{ReadAt, numberRead};
 ghost use Rattle.line_reader.specs.Answers.{LineEnd, regionRead, patientRead, endRead};
-ghost use Rattle.line_reader.specs.Forms.{FormAsked, fieldValue, fieldSaid, field, fieldValues, valuesIf};
+ghost use Rattle.line_reader.specs.Forms.{FormAsked, field, fieldValues, valuesIf};
 ghost use Rattle.line_reader.specs.Lines.{Seeking, noEndInFour};
 
 // Is none of the four bytes from a place on a line end?
@@ -79,30 +81,6 @@ pub fn checksum_of(s: &[u8]) -> u32
     sum % MODULUS
 }
 
-// The mark of a hyphen among the values of fields: more than any number of a file.
-const HYPHEN: u32 = 4_294_967_295;
-
-// The value of a field that may be a hyphen.
-pub fn value_of(field: Optional) -> u32
-    ensures { λ r. ⌜ r ≡ fieldValue (optional field) ⌝ }
-{
-    match field {
-        Optional::Hyphen => HYPHEN,
-        Optional::Number(n) => n,
-    }
-}
-
-// What such a value says.
-fn said_by(value: u32) -> Optional
-    ensures { λ r. ⌜ optional r ≡ fieldSaid value ⌝ }
-{
-    if value == HYPHEN {
-        Optional::Hyphen
-    } else {
-        Optional::Number(value)
-    }
-}
-
 // A field's kind: may it be a hyphen?
 const NUMBER: bool = false;
 
@@ -114,7 +92,7 @@ fn field_at(line: &[u8], at: usize, hyphen: bool) -> Number
 {
     if hyphen {
         match hyphen_or_number_at(line, at) {
-            Entry::Is(field, next) => Number::Value(value_of(field), next),
+            Entry::Is(field, next) => Number::Value(code_of(field), next),
             Entry::Nothing => Number::Nothing,
         }
     } else {

@@ -8,27 +8,27 @@ use borrow.Author.Tests.{eqb-true, eqb-false}
 use Rattle.definitions.specs.Basics.{ℕ, _+_, _<_, Bool, true, false, Option, none, some, List, length, getD, eqb}
 use Rattle.theorems.specs.Accepted.{mostTotal}
 use Rattle.theorems.specs.Sums.{plus}
-use Rattle.held_region.specs.Meaning.{mark}
-use Rattle.pricing.specs.Pricing.{noSum, sumIn, entryIn}
+use Rattle.held_region.specs.Meaning.{mark, saidBy}
+use Rattle.pricing.specs.Pricing.{noSum, sumIn}
 use Rattle.pricing.specs.Costs.{entry-number, sum-number}
 use Rattle.pricing.specs.BedCosts.{Small, AsksEntries, GivesEntries}
 
 -- ---- one more entry
 
-pub add-to-none : (sum entry : ℕ) → sum ≡ noSum → sumIn noSum ≡ plus (sumIn sum) (entryIn entry)
-add-to-none sum entry e = ap (λ w. plus (sumIn w) (entryIn entry)) (sym e)
+pub add-to-none : (sum entry : ℕ) → sum ≡ noSum → sumIn noSum ≡ plus (sumIn sum) (saidBy entry)
+add-to-none sum entry e = ap (λ w. plus (sumIn w) (saidBy entry)) (sym e)
 
 plus-none : (o : Option ℕ) → none ≡ plus o none
 plus-none none = refl
 plus-none (some n) = refl
 
-pub add-mark : (sum entry : ℕ) → entry ≡ mark → sumIn noSum ≡ plus (sumIn sum) (entryIn entry)
-add-mark sum entry e = plus-none (sumIn sum) ∙ ap (λ w. plus (sumIn sum) (entryIn w)) (sym e)
+pub add-mark : (sum entry : ℕ) → entry ≡ mark → sumIn noSum ≡ plus (sumIn sum) (saidBy entry)
+add-mark sum entry e = plus-none (sumIn sum) ∙ ap (λ w. plus (sumIn sum) (saidBy w)) (sym e)
 
 pub small-number : (sum : ℕ) → Small sum → (sum ≡ noSum → ⊥) → sum ≤ mostTotal
 small-number sum small other = small sum (sum-number sum other)
 
-pub add-number : (sum entry : ℕ) → Small sum → (sum ≡ noSum → ⊥) → (entry ≡ mark → ⊥) → entry < 4_294_967_296 → sumIn (sum + entry) ≡ plus (sumIn sum) (entryIn entry)
+pub add-number : (sum entry : ℕ) → Small sum → (sum ≡ noSum → ⊥) → (entry ≡ mark → ⊥) → entry < 4_294_967_296 → sumIn (sum + entry) ≡ plus (sumIn sum) (saidBy entry)
 add-number sum entry small number other fits =
     let most = small-number sum small number in
     sum-number (sum + entry) (λ e. omega (arith, most)) ∙ sym (rw (sum-number sum number, entry-number entry other) refl)
@@ -40,7 +40,7 @@ pub record Added (store : List ℕ) (from first end : ℕ) (sums now : List ℕ)
   pub begun : first ≤ bed
   pub few : bed ≤ end
   pub long : length now ≡ 16
-  pub done : (b : ℕ) → first ≤ b → b < bed → sumIn (getD now b 0) ≡ plus (sumIn (getD sums b 0)) (entryIn (getD store (from + b) 0))
+  pub done : (b : ℕ) → first ≤ b → b < bed → sumIn (getD now b 0) ≡ plus (sumIn (getD sums b 0)) (saidBy (getD store (from + b) 0))
   pub waiting : (b : ℕ) → bed ≤ b → getD now b 0 ≡ getD sums b 0
 
 module _ {store : List ℕ} {from first end : ℕ} {sums : List ℕ} (asks : AsksEntries store from first end sums) where
@@ -54,7 +54,7 @@ module _ {store : List ℕ} {from first end : ℕ} {sums : List ℕ} (asks : Ask
     pub added-small : (word : ℕ) → word ≡ getD now bed 0 → Small word
     added-small word is n e = asks .small bed (added .begun) more n (ap sumIn (sym (added .waiting bed (omega arith)) ∙ sym is) ∙ e)
 
-    pub added-next : (sum entry word : ℕ) → sum ≡ getD now bed 0 → entry ≡ getD store (from + bed) 0 → sumIn word ≡ plus (sumIn sum) (entryIn entry)
+    pub added-next : (sum entry word : ℕ) → sum ≡ getD now bed 0 → entry ≡ getD store (from + bed) 0 → sumIn word ≡ plus (sumIn sum) (saidBy entry)
         → Added store from first end sums (set now bed word) (bed + 1)
     added-next sum entry word isSum isEntry is = record {
       begun = omega (arith, added .begun);
@@ -64,12 +64,12 @@ module _ {store : List ℕ} {from first end : ℕ} {sums : List ℕ} (asks : Ask
       waiting = λ b h. getD-set-other now bed b word 0 (λ e. omega arith) ∙ added .waiting b (omega arith);
     }
       where
-        each : (b : ℕ) → first ≤ b → b < bed + 1 → (same : Bool) → eqb b bed ≡ same → sumIn (getD (set now bed word) b 0) ≡ plus (sumIn (getD sums b 0)) (entryIn (getD store (from + b) 0))
+        each : (b : ℕ) → first ≤ b → b < bed + 1 → (same : Bool) → eqb b bed ≡ same → sumIn (getD (set now bed word) b 0) ≡ plus (sumIn (getD sums b 0)) (saidBy (getD store (from + b) 0))
         each b l h true e =
             let here : b ≡ bed = eqb-true b bed e in
             let old : sum ≡ getD sums b 0 = rw here (isSum ∙ added .waiting bed (omega arith)) in
             ap sumIn (ap (λ i. getD (set now bed word) i 0) here ∙ getD-set-same now bed word 0 (omega (arith, added-bed, added .long)))
-            ∙ is ∙ ap₂ (λ x y. plus (sumIn x) (entryIn y)) old (isEntry ∙ ap (λ i. getD store (from + i) 0) (sym here))
+            ∙ is ∙ ap₂ (λ x y. plus (sumIn x) (saidBy y)) old (isEntry ∙ ap (λ i. getD store (from + i) 0) (sym here))
         each b l h false e =
             let other = eqb-false b bed e in
             ap sumIn (getD-set-other now bed b word 0 other) ∙ added .done b l (omega (arith, other))

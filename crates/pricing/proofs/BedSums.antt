@@ -11,7 +11,8 @@ use Rattle.theorems.specs.Accepted.{beds-few}
 use Rattle.bucket_words.specs.Words.{firstAt, nextAt}
 use Rattle.buckets.specs.Permitted.{permitted-some, permitted-most}
 use Rattle.buckets.specs.Terms.{Fitting, placeAt, Prepared}
-use Rattle.pricing.specs.Pricing.{sumIn, entryIn, Reads}
+use Rattle.held_region.specs.Meaning.{saidBy}
+use Rattle.pricing.specs.Pricing.{sumIn, Reads}
 use Rattle.pricing.specs.Costs.{fitting-set}
 use Rattle.pricing.specs.BedCosts.{Small, AsksEntries, GivesEntries, Asks, Gives}
 use Rattle.pricing.proofs.Chains.{Left, left-start, left-most, left-reads-unplaced, left-later, left-next-most, left-beside, left-inside, left-small, left-next, left-done}
@@ -96,14 +97,14 @@ module _ {store patients terms : List ℕ} {s first end : ℕ} {beds zeros : Lis
 
         module _ {after : List ℕ} (gives : GivesEntries store from first end sums after) where
           -- A bed's sum has grown by the entry at the place for it.
-          grown : (bed : ℕ) → first ≤ bed → bed < end → sumIn (getD after bed 0) ≡ plus (sumIn (getD sums bed 0)) (entryIn (getD store (placeAt terms k (set beds s bed)) 0))
-          grown bed l h = gives .each bed l h ∙ ap (λ at. plus (sumIn (getD sums bed 0)) (entryIn (getD store at 0))) (place bed)
+          grown : (bed : ℕ) → first ≤ bed → bed < end → sumIn (getD after bed 0) ≡ plus (sumIn (getD sums bed 0)) (saidBy (getD store (placeAt terms k (set beds s bed)) 0))
+          grown bed l h = gives .each bed l h ∙ ap (λ at. plus (sumIn (getD sums bed 0)) (saidBy (getD store at 0))) (place bed)
 
           pub sums-next : Sums store patients terms s first end beds after (nextAt terms k)
           sums-next = record {
             long = gives .long;
             few = λ bed n l h e.
-                let parts = halves (sumIn (getD sums bed 0)) (entryIn (getD store (placeAt terms k (set beds s bed)) 0)) n (sym (grown bed l h) ∙ e) in
+                let parts = halves (sumIn (getD sums bed 0)) (saidBy (getD store (placeAt terms k (set beds s bed)) 0)) n (sym (grown bed l h) ∙ e) in
                 omega (arith, so .few bed (parts .x) l h (parts .left), left-small (own bed l h) more (own-fits bed h) (parts .y) (parts .right), parts .whole, sums-later .0);
             left = λ r prepared fits known bed l h.
                 subst (λ o. Left r store terms s (set beds s bed) o (nextAt terms k)) (sym (grown bed l h))

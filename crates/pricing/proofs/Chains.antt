@@ -14,10 +14,10 @@ use Rattle.lists.specs.Members.{_∈_, here, there}
 use Rattle.lists.specs.Keep.{keep-out}
 use Rattle.theorems.specs.Sums.{plus, plus-assoc, zero-plus, plus-zero}
 use Rattle.partial_rows.specs.Costs.{cost-cons}
-use Rattle.held_region.specs.Meaning.{mark}
+use Rattle.held_region.specs.Meaning.{mark, saidBy}
 use Rattle.bucket_words.specs.Words.{firstAt, nextAt, memberAt, strideAt}
 use Rattle.buckets.specs.Terms.{Fitting, highest, bucketOf, placeAt, Term, Chain, Prepared}
-use Rattle.pricing.specs.Pricing.{entryIn, Reads, Asks, Gives}
+use Rattle.pricing.specs.Pricing.{Reads, Asks, Gives}
 use Rattle.pricing.specs.Costs.{entry-number, entry-known}
 use Rattle.pricing.specs.declared.Cost.the-variants.{Forbidden, Of}
 
@@ -139,13 +139,13 @@ module _ {r : Region} {store terms : List ℕ} {s : ℕ} {beds : Plan} {sum : Op
       left-inside = term-here h more .term .inside beds fits
 
       -- What the store has at the term's place is the table's entry.
-      entry : entryIn (getD store (placeAt terms k beds) 0) ≡ entryFor r beds (term-here h more .table)
-      entry = ap entryIn (term-here h more .term .finds beds fits) ∙ entry-known (entryFor r beds (term-here h more .table)) (term-here h more .term .small beds)
+      entry : saidBy (getD store (placeAt terms k beds) 0) ≡ entryFor r beds (term-here h more .table)
+      entry = ap saidBy (term-here h more .term .finds beds fits) ∙ entry-known (entryFor r beds (term-here h more .table)) (term-here h more .term .small beds)
 
-      pub left-small : (e : ℕ) → entryIn (getD store (placeAt terms k beds) 0) ≡ some e → e ≤ 1_000_000
+      pub left-small : (e : ℕ) → saidBy (getD store (placeAt terms k beds) 0) ≡ some e → e ≤ 1_000_000
       left-small e is = term-here h more .term .small beds e (sym entry ∙ is)
 
-      pub left-next : Left r store terms s beds (plus sum (entryIn (getD store (placeAt terms k beds) 0))) (nextAt terms k)
+      pub left-next : Left r store terms s beds (plus sum (saidBy (getD store (placeAt terms k beds) 0))) (nextAt terms k)
       left-next =
           let g = term-here h more in
           record {
@@ -185,18 +185,18 @@ module _ {store patients terms : List ℕ} {s : ℕ} {beds : Plan} (asks : Asks 
       goes-later = (left-later own more, left-next-most own more)
 
       -- With the next entry, for every region.
-      with-entry : {o : Option ℕ} → entryIn (getD store (placeAt terms k beds) 0) ≡ o → (r : Region) → Prepared r store patients terms → Fitting r beds → s < length (r .patients)
+      with-entry : {o : Option ℕ} → saidBy (getD store (placeAt terms k beds) 0) ≡ o → (r : Region) → Prepared r store patients terms → Fitting r beds → s < length (r .patients)
           → Left r store terms s beds (plus (some sum) o) (nextAt terms k)
       with-entry {o} is r prepared fits known =
           subst (λ e. Left r store terms s beds (plus (some sum) e) (nextAt terms k)) is (left-next (goes .left r prepared fits known) more fits)
 
       pub goes-forbidden : getD store (placeAt terms k beds) 0 ≡ mark → Gives store patients terms s beds Forbidden
       goes-forbidden e =
-          record { most = λ n no. absurd (Option·none-ne-some n no); cost = λ r prepared fits known. with-entry (ap entryIn e) r prepared fits known .cost }
+          record { most = λ n no. absurd (Option·none-ne-some n no); cost = λ r prepared fits known. with-entry (ap saidBy e) r prepared fits known .cost }
 
       module _ (e : ℕ) (is : e ≡ getD store (placeAt terms k beds) 0) (other : e ≡ mark → ⊥) where
-        number : entryIn (getD store (placeAt terms k beds) 0) ≡ some e
-        number = sym (ap entryIn is) ∙ entry-number e other
+        number : saidBy (getD store (placeAt terms k beds) 0) ≡ some e
+        number = sym (ap saidBy is) ∙ entry-number e other
 
         pub goes-small : e ≤ 1_000_000
         goes-small = left-small own more (asks .fits) e number

@@ -8,7 +8,8 @@ use Rattle.theorems.specs.Accepted.{mostTotal}
 use Rattle.theorems.specs.Sums.{plus}
 use Rattle.bucket_words.specs.Words.{firstBedAt, bedEndAt}
 use Rattle.buckets.specs.Terms.{Fitting, bucketOf, Prepared}
-use Rattle.pricing.specs.Pricing.{sumIn, entryIn}
+use Rattle.held_region.specs.Meaning.{saidBy}
+use Rattle.pricing.specs.Pricing.{sumIn}
 
 -- A sum that is a number is no larger than 64 entries are.
 abbrev pub Small : ℕ → Type 0
@@ -24,7 +25,7 @@ pub record AsksEntries (store : List ℕ) (from first end : ℕ) (sums : List �
 
 pub record GivesEntries (store : List ℕ) (from first end : ℕ) (sums after : List ℕ) : Type 0 where
   pub long : length after ≡ 16
-  pub each : (bed : ℕ) → first ≤ bed → bed < end → sumIn (getD after bed 0) ≡ plus (sumIn (getD sums bed 0)) (entryIn (getD store (from + bed) 0))
+  pub each : (bed : ℕ) → first ≤ bed → bed < end → sumIn (getD after bed 0) ≡ plus (sumIn (getD sums bed 0)) (saidBy (getD store (from + bed) 0))
 
 -- The costs of all permitted beds of a patient that has none yet.
 pub record Asks (store patients terms : List ℕ) (s first end : ℕ) (beds sums : List ℕ) : Type 0 where

@@ -8,19 +8,19 @@ use borrow.Author.Tests.{ne-eqb, eqb-true, eqb-false}
 use Rattle.definitions.specs.Basics.{ℕ, _<_, Bool, true, false, cond, Option, none, some, length, eqb}
 use Rattle.definitions.specs.Syntax.{Region, patientAt}
 use Rattle.definitions.specs.Plans.{Plan, bedOf}
-use Rattle.held_region.specs.Meaning.{mark, codeOf}
+use Rattle.held_region.specs.Meaning.{mark, codeOf, saidBy}
 use Rattle.buckets.specs.Terms.{Fitting}
-use Rattle.pricing.specs.Pricing.{noSum, sumIn, entryIn}
+use Rattle.pricing.specs.Pricing.{noSum, sumIn}
 
 -- A code that is not the mark is a number; a word that is not the largest is a sum.
-pub entry-number : (e : ℕ) → (e ≡ mark → ⊥) → entryIn e ≡ some e
+pub entry-number : (e : ℕ) → (e ≡ mark → ⊥) → saidBy e ≡ some e
 entry-number e other = ap (λ b. cond b none (some e)) (ne-eqb e mark other)
 
 pub sum-number : (w : ℕ) → (w ≡ noSum → ⊥) → sumIn w ≡ some w
 sum-number w other = ap (λ b. cond b none (some w)) (ne-eqb w noSum other)
 
 -- The code of an entry that a table may have.
-pub entry-known : (o : Option ℕ) → ((n : ℕ) → o ≡ some n → n ≤ 1_000_000) → entryIn (codeOf o) ≡ o
+pub entry-known : (o : Option ℕ) → ((n : ℕ) → o ≡ some n → n ≤ 1_000_000) → saidBy (codeOf o) ≡ o
 entry-known none small = refl
 entry-known (some n) small = entry-number n (λ e. omega (arith, small n refl))
 

@@ -5,7 +5,6 @@ use Rattle.definitions.specs.Syntax.{Region, patientAt}
 use Rattle.definitions.specs.Questions.{planFits}
 use Rattle.definitions.specs.Plans.{bedOf, costOver, total}
 use Rattle.theorems.specs.Accepted.{mostTotal}
-use Rattle.held_region.specs.Meaning.{mark}
 use Rattle.bucket_words.specs.Words.{startAt, memberAt, strideAt, bedsAt, firstBedAt, bedEndAt}
 use Rattle.buckets.specs.Terms.{Fitting, bucketOf, Prepared}
 use Rattle.pricing.specs.declared.Cost.{Cost}
@@ -15,15 +14,12 @@ abbrev pub costIn : Cost → Option ℕ
 costIn Forbidden = none
 costIn (Of n) = some n
 
--- A sum in one word, of which the largest is no number: an entry is forbidden. An entry of the store.
+-- A sum in one word, of which the largest is no number: an entry is forbidden.
 abbrev pub noSum : ℕ
 noSum = 18_446_744_073_709_551_615
 
 abbrev pub sumIn : ℕ → Option ℕ
 sumIn word = cond (eqb word noSum) none (some word)
-
-abbrev pub entryIn : ℕ → Option ℕ
-entryIn code = cond (eqb code mark) none (some code)
 
 -- The words of a term can be used to find a place for a plan: from the member who is unplaced on, if there is one, nothing is added.
 pub record Reads (terms : List ℕ) (k unplaced : ℕ) (beds : List ℕ) : Type 0 where

@@ -3,7 +3,8 @@ ghost use mathlib.Core.Path.{_≡_};
 ghost use Prim.Native.Nat.{_<_};
 ghost use lib.ListN.{getD};
 ghost use Rattle.theorems.specs.Sums.{plus};
-ghost use Rattle.pricing.specs.Pricing.{costIn, sumIn, entryIn};
+ghost use Rattle.held_region.specs.Meaning.{saidBy};
+ghost use Rattle.pricing.specs.Pricing.{costIn, sumIn};
 ghost use Rattle.pricing.specs.BedCosts.{Small, AsksEntries, GivesEntries, Asks, Gives};
 use crate::Cost;
 use crate::entry_place;
@@ -17,7 +18,7 @@ const NO_SUM: u64 = 18_446_744_073_709_551_615;
 // A sum with one more entry.
 fn add_entry(sum: u64, entry: u32) -> u64
     requires { ⌜ Small sum ⌝ }
-    ensures { λ r. ⌜ sumIn r ≡ plus (sumIn sum) (entryIn entry) ⌝ }
+    ensures { λ r. ⌜ sumIn r ≡ plus (sumIn sum) (saidBy entry) ⌝ }
 {
     if sum == NO_SUM {
         return NO_SUM;

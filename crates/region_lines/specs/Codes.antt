@@ -3,11 +3,11 @@ use mathlib.Core.Path.{_≡_}
 use borrow.Author.Tests.{eq-eqb, ne-eqb}
 use Rattle.definitions.specs.Basics.{ℕ, List, text}
 use Rattle.definitions.specs.Spelling.{decimal, hyphenOrDecimal}
-use Rattle.held_region.specs.Meaning.{mark, entryOf}
+use Rattle.held_region.specs.Meaning.{mark, saidBy}
 
 -- The spelling of a number that stands for itself, or of the mark, which stands for a hyphen.
 abbrev pub spellCode : ℕ → List ℕ
-spellCode code = hyphenOrDecimal (entryOf code)
+spellCode code = hyphenOrDecimal (saidBy code)
 
 pub mark-spelled : (code : ℕ) → code ≡ mark → spellCode code ≡ text "-"
 mark-spelled code e = rw (eq-eqb code mark e)

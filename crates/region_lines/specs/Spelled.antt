@@ -14,8 +14,8 @@ use Rattle.held_region.specs.declared.Patient.{Patient}
 use Rattle.held_region.specs.declared.Table.{Table}
 use Rattle.held_region.specs.declared.Region.{Region}
 use Rattle.held_region.specs.AsHeld.{sum-said}
-use Rattle.held_region.specs.Meaning.{entryOf, optional, patientOf, patientIn, membersOf, tableSaid, said}
-use Rattle.line_reader.specs.Forms.{fieldValue, number-unmarked}
+use Rattle.held_region.specs.Meaning.{optional, codeOf, saidBy, patientOf, patientIn, membersOf, tableSaid, said}
+use Rattle.line_reader.specs.Forms.{number-unmarked}
 use Rattle.text_writer.specs.Parts.{apart, bracketed-apart}
 use Rattle.region_lines.specs.Codes.{spellCode, mark-spelled, number-spelled}
 
@@ -25,7 +25,7 @@ use Rattle.region_lines.specs.Codes.{spellCode, mark-spelled, number-spe
 number-code : (n : ℕ) → spellable n ≡ true → decimal n ≡ spellCode n
 number-code n h = sym (number-spelled n (λ e. let l = number-unmarked n h in omega arith))
 
-option-code : (o : Option ℕ) {value : ℕ} → noneOr spellable o ≡ true → value ≡ fieldValue o → hyphenOrDecimal o ≡ spellCode value
+option-code : (o : Option ℕ) {value : ℕ} → noneOr spellable o ≡ true → value ≡ codeOf o → hyphenOrDecimal o ≡ spellCode value
 option-code none {value} h is = sym (mark-spelled value is)
 option-code (some n) h is = number-code n h ∙ ap spellCode (sym is)
 
@@ -37,7 +37,7 @@ number-codes ns all = map-same decimal spellCode ns (λ n k. number-code n (ever
 pub head-codes : (v t m : ℕ) → okHead (v, t, m) ≡ true → line (text "region" ∷ decimal v ∷ decimal t ∷ decimal m ∷ []) ≡ line (text "region" ∷ map spellCode (v ∷ t ∷ m ∷ []))
 head-codes v t m ok = ap (λ (fields : List (List ℕ)). line (text "region" ∷ fields)) (number-codes (v ∷ t ∷ m ∷ []) ok)
 
-pub patient-codes : (p : Patient) (parent fixed : ℕ) → okPatient (patientOf p) ≡ true → parent ≡ fieldValue (optional (p .parent)) → fixed ≡ fieldValue (optional (p .fixed))
+pub patient-codes : (p : Patient) (parent fixed : ℕ) → okPatient (patientOf p) ≡ true → parent ≡ codeOf (optional (p .parent)) → fixed ≡ codeOf (optional (p .fixed))
     → spellPatient (patientOf p) ≡ line (text "patient" ∷ map spellCode (p .clinic ∷ p .beds ∷ parent ∷ fixed ∷ []))
 unfolding spellPatient
 patient-codes p parent fixed ok parent-is fixed-is =
@@ -55,7 +55,7 @@ abbrev pub codesFrom : List ℕ → ℕ → ℕ → List ℕ
 codesFrom store start count = map (λ k. getD store (start + k) 0) (below count)
 
 abbrev pub tableFrom : List ℕ → ℕ → Table → Said.Table
-tableFrom store start t = record { members = membersOf t; entries = map (λ k. entryOf (getD store (start + k) 0)) (below (t .entries)) }
+tableFrom store start t = record { members = membersOf t; entries = map (λ k. saidBy (getD store (start + k) 0)) (below (t .entries)) }
 
 -- A list in brackets, and what follows it.
 bracketed-then : (ps : List (List ℕ)) (rest : List ℕ) → bracketed ps ++ rest ≡ 40 ∷ (apart 0 ps ++ (41 ∷ rest))
@@ -75,7 +75,7 @@ pub table-parts : (store : List ℕ) (start : ℕ) (t : Table) → every spellab
     ≡ flatten (text "(cost (" ∷ apart 0 (map spellCode (membersOf t)) ∷ text ") (" ∷ apart 0 (map spellCode (codesFrom store start (t .entries))) ∷ text "))\n" ∷ [])
 unfolding spellTable
 table-parts store start t ok =
-    let entries = map-map hyphenOrDecimal (λ k. entryOf (getD store (start + k) 0)) (below (t .entries)) ∙ sym (map-map spellCode (λ k. getD store (start + k) 0) (below (t .entries))) in
+    let entries = map-map hyphenOrDecimal (λ k. saidBy (getD store (start + k) 0)) (below (t .entries)) ∙ sym (map-map spellCode (λ k. getD store (start + k) 0) (below (t .entries))) in
     ap₂ (λ (ms es : List (List ℕ)). line (text "cost" ∷ bracketed ms ∷ bracketed es ∷ [])) (number-codes (membersOf t) ok) entries
     ∙ lists-apart (map spellCode (membersOf t)) (map spellCode (codesFrom store start (t .entries)))
 

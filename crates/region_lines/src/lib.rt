@@ -7,7 +7,7 @@ use forms::write_form;
 use held_region::Patient;
 use held_region::Region;
 use held_region::Table;
-use line_reader::value_of;
+use scanner::code_of;
 use text_writer::write_gap;
 use text_writer::write_text;
 ghost use mathlib.Core.Path.{_≡_};
@@ -29,8 +29,8 @@ fn write_patient(out: &mut [u8], at: usize, patient: Patient) -> usize
 {
     let parent = patient.parent;
     let fixed = patient.fixed;
-    let parent_code = value_of(parent);
-    let fixed_code = value_of(fixed);
+    let parent_code = code_of(parent);
+    let fixed_code = code_of(fixed);
     let fields = [patient.clinic, patient.beds, parent_code, fixed_code];
     write_form(out, at, b"patient", &fields)
 }

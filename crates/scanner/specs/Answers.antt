@@ -2,7 +2,7 @@
 use mathlib.Core.Path.{sym, ap, _∙_}
 use Prim.Native.Nat.{_≤_, max}
 use lib.ListN.{drop}
-use Rattle.definitions.specs.Basics.{ℕ, _≡_, Bool, true, false, Option, none, some, Option·map, List, length}
+use Rattle.definitions.specs.Basics.{ℕ, _≡_, Bool, true, false, cond, Option, none, some, Option·map, List, length, eqb}
 use Rattle.definitions.specs.Layout.{Reader}
 use Rattle.scanner.specs.declared.Passed.{Passed}
 use Rattle.scanner.specs.declared.Passed.the-variants.{At, Nothing as NotPassed}
@@ -49,6 +49,17 @@ numberRead NoNumber = none
 abbrev pub optional : Optional → Option ℕ
 optional IsHyphen = none
 optional (IsNumber v) = some v
+
+-- Such a field as one number, of which the largest stands for a hyphen; what such a number says.
+abbrev pub mark : ℕ
+mark = 0xffff_ffff
+
+abbrev pub codeOf : Option ℕ → ℕ
+codeOf none = mark
+codeOf (some n) = n
+
+abbrev pub saidBy : ℕ → Option ℕ
+saidBy code = cond (eqb code mark) none (some code)
 
 abbrev pub entryRead : Entry → Option (Option ℕ × ℕ)
 entryRead (IsEntry o next) = some (optional o, next)

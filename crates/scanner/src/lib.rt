@@ -6,7 +6,7 @@ ghost use Rattle.definitions.specs.Basics.{true, eqb, every};
 ghost use Rattle.definitions.specs.Layout.{exactly, word, number, hyphenOrNumber};
 ghost use Rattle.scanner.specs.Classes.{isLetter, classOf, firstClass};
 ghost use Rattle.scanner.specs.Words.{formStart};
-ghost use Rattle.scanner.specs.Answers.{ReadAt, passed, numberRead, entryRead, stepRead};
+ghost use Rattle.scanner.specs.Answers.{ReadAt, passed, numberRead, optional, codeOf, saidBy, entryRead, stepRead};
 ghost use Rattle.scanner.specs.Separators.{separator};
 use limits::DIGITS;
 
@@ -177,6 +177,29 @@ pub fn number_at(s: &[u8], at: usize) -> Number
 pub enum Optional {
     Hyphen,
     Number(u32),
+}
+
+// What stands for a hyphen where such a field is held as one number: no number of a file is so large.
+const MARK: u32 = 4_294_967_295;
+
+// A field as one number, and what such a number says.
+pub fn code_of(field: Optional) -> u32
+    ensures { λ r. ⌜ r ≡ codeOf (optional field) ⌝ }
+{
+    match field {
+        Optional::Hyphen => MARK,
+        Optional::Number(n) => n,
+    }
+}
+
+pub fn said_by(code: u32) -> Optional
+    ensures { λ r. ⌜ optional r ≡ saidBy code ⌝ }
+{
+    if code == MARK {
+        Optional::Hyphen
+    } else {
+        Optional::Number(code)
+    }
 }
 
 // A hyphen or a number, and the place after it.

@@ -1,18 +1,14 @@
 // One table line: its list of members, its list of entries, which go to the store, and the line.
 ghost use Prim.Native.Nat.{_+_};
 ghost use mathlib.Core.List.{[], _∷_};
-ghost use mathlib.Core.Path.{_≡_};
-ghost use Rattle.held_region.specs.Meaning.{codeOf};
-ghost use Rattle.scanner.specs.Answers.{optional};
 ghost use Rattle.table_reader.specs.TableReading.{MembersRead, Adds, EntriesRead, TableRead};
-use held_region::FORBIDDEN;
 use held_region::NO_TABLE;
 use held_region::Table;
 use scanner::Entry;
 use scanner::ItemStep;
 use scanner::Number;
-use scanner::Optional;
 use scanner::Passed;
+use scanner::code_of;
 use scanner::form_end_at;
 use scanner::form_start_at;
 use scanner::hyphen_or_number_at;
@@ -70,16 +66,6 @@ pub fn members_at(line: &[u8], at: usize) -> Members
                 return NO_MEMBERS;
             }
         }
-    }
-}
-
-// An entry as the store has it.
-fn code_of(entry: Optional) -> u32
-    ensures { λ r. ⌜ r ≡ codeOf (optional entry) ⌝ }
-{
-    match entry {
-        Optional::Hyphen => FORBIDDEN,
-        Optional::Number(n) => n,
     }
 }
 

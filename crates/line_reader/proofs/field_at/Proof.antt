@@ -11,8 +11,8 @@ hyphen-or-number-at-requires c κs = search needs
 enum-known-field : tie.Need-enum-known-field
 enum-known-field c = search needs
 
-value-of-requires : tie.Need-value-of-requires
-value-of-requires c κs = search needs
+code-of-requires : tie.Need-code-of-requires
+code-of-requires c κs = search needs
 
 enum-told : tie.Need-enum-told
 enum-told c = search needs
@@ -23,7 +23,7 @@ number-at-requires c κs = search needs
 returns : tie.Need-returns
 returns c =
     let read = c .before .before .before .before in
-    hyphen-field (read .before .if1 .taken) (read .hyphen-or-number-at .ensures) (ap entryRead (c .before .before .field .given .1)) (c .value-of .ensures)
+    hyphen-field (read .before .if1 .taken) (read .hyphen-or-number-at .ensures) (ap entryRead (c .before .before .field .given .1)) (c .code-of .ensures)
 
 returns-2 : tie.Need-returns-2
 returns-2 c =
@@ -39,7 +39,7 @@ field-at-spec =
     (tie.spec
     hyphen-or-number-at-requires
     enum-known-field
-    value-of-requires
+    code-of-requires
     enum-told
     number-at-requires
     returns

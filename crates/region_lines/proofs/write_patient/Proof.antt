@@ -3,11 +3,11 @@ use Rattle.region_lines.specs.Spelled.{patient-codes}
 use Rattle.region_lines.proofs.write_patient.Statement.{statement}
 use Rattle.region_lines.proofs.write_patient.Tie as tie
 
-value-of-requires : tie.Need-value-of-requires
-value-of-requires c κs = search needs
+code-of-requires : tie.Need-code-of-requires
+code-of-requires c κs = search needs
 
-value-of-requires-2 : tie.Need-value-of-requires-2
-value-of-requires-2 c κs = search needs
+code-of-requires-2 : tie.Need-code-of-requires-2
+code-of-requires-2 c κs = search needs
 
 slice-aggregate-write-form : tie.Need-slice-aggregate-write-form
 slice-aggregate-write-form c = search needs
@@ -20,7 +20,7 @@ write-form-requires c κs =
     let f = c .before .before .before in
     let p = f .before in
     let s = p .before .before in
-    rw (patient-codes (s .args .patient) _ _ (s .pre .0) (p .value-of .ensures) (f .value-of2 .ensures)) at (s .pre .1)
+    rw (patient-codes (s .args .patient) _ _ (s .pre .0) (p .code-of .ensures) (f .code-of2 .ensures)) at (s .pre .1)
 
 same-length : tie.Need-same-length
 same-length c = search needs
@@ -31,14 +31,14 @@ returns c =
     let f = w .before .before .before .before in
     let p = f .before in
     let s = p .before .before in
-    rw (patient-codes (s .args .patient) _ _ (s .pre .0) (p .value-of .ensures) (f .value-of2 .ensures)) (w .write-form .ensures)
+    rw (patient-codes (s .args .patient) _ _ (s .pre .0) (p .code-of .ensures) (f .code-of2 .ensures)) (w .write-form .ensures)
 
 pub write-patient-spec : {M : Type 1} → statement M
 write-patient-spec =
     tie.close
     (tie.spec
-    value-of-requires
-    value-of-requires-2
+    code-of-requires
+    code-of-requires-2
     slice-aggregate-write-form
     slice-aggregate-write-form-2
     write-form-requires
