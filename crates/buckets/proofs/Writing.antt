@@ -8,7 +8,7 @@ use Prim.Native.Nat.{ℕ, zero, suc, _+_, _*_, _<_}
 use mathlib.Core.List.{List}
 use Rattle.held_region.specs.declared.Patient.{Patient}
 use Rattle.held_region.specs.Meaning.{patientOf, noPatient}
-use Rattle.bucket_words.specs.Words.{bedsAt, firstBedAt, bedEndAt, leastAt, firstAt}
+use Rattle.bucket_words.specs.Words.{bedsAt, firstBedAt, bedEndAt, firstAt}
 use Rattle.buckets.specs.Permitted.{firstPermitted, permittedEnd}
 use Rattle.buckets.specs.Written.{PatientsWritten}
 

@@ -1,5 +1,5 @@
 -- What a held region and its store say, as the definitions' region: what the definitions say of a region can be said of these two.
-use Rattle.definitions.specs.Basics.{ℕ, zero, suc, _+_, cond, Option, none, some, eqb, List, [], map, getD, replicate, below}
+use Rattle.definitions.specs.Basics.{ℕ, zero, suc, _+_, List, [], map, getD, replicate, below}
 use Rattle.definitions.specs.Syntax as Said
 use Rattle.definitions.specs.Writer.{withSum}
 use Rattle.scanner.specs.declared.Optional.the-variants.{Hyphen}

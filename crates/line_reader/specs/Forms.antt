@@ -7,7 +7,7 @@ use Rattle.scanner.specs.Classes.{isLetter}
 use Rattle.scanner.specs.Answers.{mark, codeOf, saidBy}
 use Rattle.scanner.specs.Words.{formStart}
 use Rattle.scanner.specs.Tokens.{Form, token, gives, read}
-use Rattle.definitions.specs.Basics.{ℕ, _^_, _<_, _≡_, refl, Bool, true, false, cond, Option, none, some, Option·map, bind, List, [], _∷_, _++_, getD, length, eqb, text, every, noneOr}
+use Rattle.definitions.specs.Basics.{ℕ, _^_, _<_, _≡_, refl, Bool, true, false, cond, Option, none, some, Option·map, bind, List, [], _∷_, _++_, getD, length, text, every, noneOr}
 use Rattle.definitions.specs.Limits.{digitCount, limits}
 use Rattle.definitions.specs.Spelling.{spellable}
 use Rattle.definitions.specs.Syntax.{Patient}

@@ -5,7 +5,6 @@ use native.Mathlib.Omega.{arith}
 use lib.ListN.{set, getD-replicate}
 use Rattle.definitions.specs.Basics.{ℕ, _+_, _*_, _<_, some, List, length, getD}
 use Rattle.definitions.specs.Syntax.{Region, patientAt}
-use Rattle.definitions.specs.Plans.{bedOf}
 use Rattle.theorems.specs.Sums.{plus, halves}
 use Rattle.theorems.specs.Accepted.{beds-few}
 use Rattle.bucket_words.specs.Words.{firstAt, nextAt}

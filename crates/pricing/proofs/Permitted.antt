@@ -9,12 +9,12 @@ use Rattle.definitions.specs.Basics.{ℕ, _<_, Bool, true, false, _&&_, cond, O
 use Rattle.definitions.specs.Syntax.{Region, patientNumbers, patientAt}
 use Rattle.definitions.specs.Plans.{Plan, bedOf, costOver, total}
 use Rattle.lists.specs.Below.{below-out, same-tests}
-use Rattle.theorems.specs.Sums.{plus, plus-zero, sumOver}
-use Rattle.theorems.specs.Fixed.{fixedCost, permits, fixed-costs, total-parts}
+use Rattle.theorems.specs.Sums.{plus, plus-zero}
+use Rattle.theorems.specs.Fixed.{permits, fixed-costs, total-parts}
 use Rattle.bucket_words.specs.Words.{firstBedAt, bedEndAt}
 use Rattle.buckets.specs.Permitted.{permitted-is}
 use Rattle.buckets.specs.Terms.{Fitting, Prepared}
-use Rattle.pricing.specs.Pricing.{costIn, GivesTables, GivesAll, bedPermitted}
+use Rattle.pricing.specs.Pricing.{GivesTables, GivesAll, bedPermitted}
 use Rattle.pricing.specs.declared.Cost.{Cost}
 use Rattle.pricing.specs.declared.Cost.the-variants.{Forbidden}
 

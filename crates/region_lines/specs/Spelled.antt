@@ -1,5 +1,5 @@
 -- The lines of a held region, in the parts in which they are written.
-use mathlib.Core.Path.{_≡_, refl, sym, ap, ap₂, _∙_}
+use mathlib.Core.Path.{_≡_, sym, ap, ap₂, _∙_}
 use mathlib.Core.List.{append-assoc, append-nil, map-map}
 use native.Mathlib.Omega.{arith}
 use Rattle.definitions.specs.Basics.{ℕ, _+_, true, _&&_, Option, none, some, noneOr, List, [], _∷_, _++_, map, flatMap, flatten, getD, below, text, every}

@@ -21,7 +21,7 @@ use Rattle.theorems.specs.Accepted.{Accepted, beds-some, beds-few, part-small, 
 use Rattle.patient_set.specs.Sets.{members}
 use Rattle.patient_set.specs.Laws.{size-most}
 use Rattle.partial_rows.specs.Sets.{Patients, Splits, not-both}
-use Rattle.partial_rows.specs.Rows.{holds, tablesOf, noBeds, emptyRow, RowOf, Position, Branch}
+use Rattle.partial_rows.specs.Rows.{tablesOf, noBeds, emptyRow, RowOf, Position, Branch}
 use Rattle.partial_rows.specs.Adding.{addBeds, addRows}
 use Rattle.partial_rows.specs.Padding.{unpadded, Padded, padded-zero, zero-bed}
 use Rattle.partial_rows.specs.Beds.{no-bed, inside, outside}

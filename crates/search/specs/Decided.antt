@@ -1,10 +1,10 @@
 -- What is decided where a patient gets its bed as the highest of a constraint's members: its bucket, and its fixed bed.
-use mathlib.Core.Path.{_≡_, refl, sym, ap, ap₂, _∙_}
+use mathlib.Core.Path.{_≡_, refl, ap, ap₂, _∙_}
 use mathlib.Core.Bool.{and-false}
 use Prim.Native.Nat.{_≤_}
 use native.Mathlib.Omega.{arith}
 use borrow.Author.Tests.{le-leb, lt-leb, lt-ltb, le-ltb}
-use Rattle.definitions.specs.Basics.{ℕ, _<_, Bool, true, false, not, _&&_, cond, Option, none, some, List, [], _∷_, length, leb, ltb, any, keep}
+use Rattle.definitions.specs.Basics.{ℕ, _<_, Bool, not, _&&_, cond, Option, none, some, List, [], _∷_, length, leb, ltb, any, keep}
 use Rattle.definitions.specs.Syntax.{Table, Region, patientNumbers, patientAt}
 use Rattle.definitions.specs.Plans.{Plan, bedOf, costOver}
 use Rattle.lists.specs.Keep.{keep-same}

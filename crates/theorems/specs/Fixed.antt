@@ -6,11 +6,11 @@ use mathlib.Core.Logic.{_⊎_, inl, inr}
 use mathlib.Core.Option.{Option·none-ne-some, Option·some-injective}
 use native.Mathlib.Decide.{decLt}
 use native.Mathlib.Omega.{arith}
-use lib.ListN.{length-map, List·getD-eq-default}
+use lib.ListN.{List·getD-eq-default}
 use borrow.Author.Tests.{ltb-true}
 use Rattle.definitions.specs.Basics.{ℕ, _+_, _*_, _<_, _≡_, refl, Bool, true, false, not, _&&_, cond, Option, none, some, Option·map, Option·elim, noneOr, isSome}
-use Rattle.definitions.specs.Basics.{List, [], _∷_, _++_, map, length, getD, filterMap, eqb, ltb, below, sum, every, keep, onAll}
-use Rattle.definitions.specs.Syntax.{Patient, Table, Region, patientNumbers, patientAt}
+use Rattle.definitions.specs.Basics.{List, [], _∷_, _++_, map, length, getD, filterMap, eqb, below, every, keep}
+use Rattle.definitions.specs.Syntax.{Table, Region, patientNumbers, patientAt}
 use Rattle.definitions.specs.Plans.{Plan, bedOf, plans, plansFor, place, entryFor, costOver, fixing, constraints, total}
 use Rattle.definitions.specs.Questions.{planFits}
 use Rattle.lists.specs.Tests.{both}
@@ -18,8 +18,8 @@ use Rattle.lists.specs.Members.{_∈_, here, there, in-append-cases}
 use Rattle.lists.specs.Every.{every-in, every-at}
 use Rattle.lists.specs.Maps.{filterMap-out}
 use Rattle.lists.specs.Keep.{keep-append, keep-filterMap}
-use Rattle.lists.specs.Below.{at-place, below-out, length-by-places, by-number}
-use Rattle.theorems.specs.Sums.{plus, zero-plus, plus-zero, Halves, halves, sumOver, sum-cons, sum-append}
+use Rattle.lists.specs.Below.{at-place, below-out, length-by-places}
+use Rattle.theorems.specs.Sums.{plus, zero-plus, plus-zero, halves, sumOver, sum-cons, sum-append}
 
 -- ---- the cost of a fixed bed
 
