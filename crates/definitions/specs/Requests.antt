@@ -74,7 +74,7 @@ pub record Saving : Type 0 where
   pub calledShortResult : lentPaper (lent 101) (lent 7) ≡ record { number = 12; output = lent 101; result = lent 7 }
   pub calledTwoFirst : callNumber (0 ∷ 1 ∷ absent ∷ []) [] [] 0 ≡ 2
   pub calledTenFirst : writeCall (area (one ++ one)) (area (2 ∷ 0 ∷ 1 ∷ 0 ∷ 0 ∷ 1 ∷ [])) (area (0 ∷ [])) 1 [] [] .number ≡ 10
-  pub wholePatients : map (λ extra. writeCall (area one ++ lent extra) [] [] 1 (lent 200) (lent 8) .number) (0 ∷ 1 ∷ 8 ∷ 24 ∷ []) ≡ 0 ∷ 2 ∷ 2 ∷ 2 ∷ []
+  pub wholePatients : map (λ extra. writeCall (area one ++ lent extra) [] [] 1 (lent 200) (lent 8) .number) (0 ∷ 1 ∷ 8 ∷ 16 ∷ 24 ∷ []) ≡ 0 ∷ 2 ∷ 2 ∷ 2 ∷ 2 ∷ []
   pub wholeTables : map (λ extra. writeCall (area one) (lent extra) [] 1 (lent 200) (lent 8) .number) (0 ∷ 1 ∷ 8 ∷ 40 ∷ []) ≡ 0 ∷ 2 ∷ 2 ∷ 2 ∷ []
   pub wholeEntries : map (λ extra. writeCall (area one) (area over) (area (5 ∷ []) ++ lent extra) 1 (lent 200) (lent 8) .number) (0 ∷ 1 ∷ 8 ∷ []) ≡ 0 ∷ 2 ∷ 2 ∷ []
   pub noEntries : callNumber one over [] 1 ≡ 2
@@ -159,7 +159,7 @@ pub record FixedBeds : Type 0 where
   pub moved : priceOutcome firstStays (1 ∷ 0 ∷ []) ≡ record { number = 0; allowed = false; total = 0 }
   pub noSuchBed : priceOutcome firstStays (2 ∷ 0 ∷ []) ≡ record { number = 14; allowed = false; total = 0 }
   pub onlyForbidden : list (staying (fixed 0 2 none 1 ∷ fixed 0 2 (some 0) 1 ∷ [])) ≡ refusal 13 (cleared 16_384)
-  pub noTable : listOf (regionOf (fileOf 9 (fixed 0 3 none 1 ∷ patient 0 2 none ∷ []) [])) ≡ row 0 (1 ∷ 0 ∷ []) ∷ row 0 (1 ∷ 1 ∷ []) ∷ []
+  pub noTable : listOf (regionOf (fileOf 9 (fixed 0 3 none 2 ∷ patient 0 2 none ∷ []) [])) ≡ row 0 (2 ∷ 0 ∷ []) ∷ row 0 (2 ∷ 1 ∷ []) ∷ []
   pub number6 : map (λ b. checkOf (staying (fixed 0 2 none b ∷ child ∷ []))) (1 ∷ 2 ∷ []) ≡ 0 ∷ 6 ∷ []
   pub ownTables : regionOf firstStays .tables ≡ paperRegion .tables
   pub oneMore : constraints (regionOf firstStays) ≡ paperRegion .tables ++ table (0 ∷ []) (some 0 ∷ none ∷ []) ∷ []
