@@ -7,7 +7,7 @@ use lib.Seq.{getD-set-same, getD-set-other}
 use borrow.Author.Tests.{eqb-true, eqb-false}
 use Rattle.definitions.specs.Basics.{ℕ, _+_, _<_, Bool, true, false, Option, none, some, List, length, getD, eqb}
 use Rattle.theorems.specs.Accepted.{mostTotal}
-use Rattle.theorems.specs.Sums.{plus}
+use Rattle.theorems.specs.Sums.{plus, plus-none}
 use Rattle.held_region.specs.Meaning.{mark, saidBy}
 use Rattle.pricing.specs.Pricing.{noSum, sumIn}
 use Rattle.pricing.specs.Costs.{entry-number, sum-number}
@@ -18,12 +18,8 @@ use Rattle.pricing.specs.BedCosts.{Small, AsksEntries, GivesEntries}
 pub add-to-none : (sum entry : ℕ) → sum ≡ noSum → sumIn noSum ≡ plus (sumIn sum) (saidBy entry)
 add-to-none sum entry e = ap (λ w. plus (sumIn w) (saidBy entry)) (sym e)
 
-plus-none : (o : Option ℕ) → none ≡ plus o none
-plus-none none = refl
-plus-none (some n) = refl
-
 pub add-mark : (sum entry : ℕ) → entry ≡ mark → sumIn noSum ≡ plus (sumIn sum) (saidBy entry)
-add-mark sum entry e = plus-none (sumIn sum) ∙ ap (λ w. plus (sumIn sum) (saidBy w)) (sym e)
+add-mark sum entry e = sym (plus-none (sumIn sum)) ∙ ap (λ w. plus (sumIn sum) (saidBy w)) (sym e)
 
 pub small-number : (sum : ℕ) → Small sum → (sum ≡ noSum → ⊥) → sum ≤ mostTotal
 small-number sum small other = small sum (sum-number sum other)

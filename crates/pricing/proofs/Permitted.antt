@@ -9,7 +9,7 @@ use Rattle.definitions.specs.Basics.{ℕ, _<_, Bool, true, false, _&&_, cond, O
 use Rattle.definitions.specs.Syntax.{Region, patientNumbers, patientAt}
 use Rattle.definitions.specs.Plans.{Plan, bedOf, costOver, total}
 use Rattle.lists.specs.Below.{below-out, same-tests}
-use Rattle.theorems.specs.Sums.{plus, plus-zero}
+use Rattle.theorems.specs.Sums.{plus, plus-if}
 use Rattle.theorems.specs.Fixed.{permits, fixed-costs, total-parts}
 use Rattle.bucket_words.specs.Words.{firstBedAt, bedEndAt}
 use Rattle.buckets.specs.Permitted.{permitted-is}
@@ -44,24 +44,18 @@ module _ {store patients terms : List ℕ} {v : ℕ} (beds : Plan) (r : Region) 
       ∙ ap (λ n. every (bedPermitted patients beds) (below n)) (sym all)
 
   -- Where each fixed bed is kept, the total is what the tables cost.
-  total-is : total r (take v beds) ≡ plus (costOver (r .tables) r (take v beds)) (cond (every (bedPermitted patients beds) (below v)) (some 0) none)
+  total-is : total r (take v beds) ≡ cond (every (bedPermitted patients beds) (below v)) (costOver (r .tables) r (take v beds)) none
   total-is =
       total-parts r (take v beds)
       ∙ ap (plus (costOver (r .tables) r (take v beds)))
       (fixed-costs r (take v beds) (patientNumbers r) (λ s k. let h = below-out (length (r .patients)) s k in omega (arith, front s h, fits s h))
       ∙ ap (λ b. cond b (some 0) none) fixed-kept)
-
-none-plus : (o : Option ℕ) → none ≡ plus o none
-none-plus none = refl
-none-plus (some n) = refl
+      ∙ plus-if (costOver (r .tables) r (take v beds)) (every (bedPermitted patients beds) (below v))
 
 module _ {store patients terms : List ℕ} {v : ℕ} (beds : Plan) {kept : Bool} (is : kept ≡ every (bedPermitted patients beds) (below v)) where
   pub total-forbidden : kept ≡ false → GivesAll store patients terms v beds Forbidden
-  total-forbidden moved r prepared fits all =
-      none-plus (costOver (r .tables) r (take v beds))
-      ∙ sym (total-is beds r prepared fits all ∙ ap (λ b. plus (costOver (r .tables) r (take v beds)) (cond b (some 0) none)) (sym is ∙ moved))
+  total-forbidden moved r prepared fits all = sym (total-is beds r prepared fits all ∙ ap (λ b. cond b (costOver (r .tables) r (take v beds)) none) (sym is ∙ moved))
 
   pub total-kept : (cost : Cost) → kept ≡ true → GivesTables store patients terms v beds cost → GivesAll store patients terms v beds cost
   total-kept cost all-kept gives r prepared fits all =
-      gives r prepared fits all ∙ sym (plus-zero (costOver (r .tables) r (take v beds)))
-      ∙ sym (total-is beds r prepared fits all ∙ ap (λ b. plus (costOver (r .tables) r (take v beds)) (cond b (some 0) none)) (sym is ∙ all-kept))
+      gives r prepared fits all ∙ sym (total-is beds r prepared fits all ∙ ap (λ b. cond b (costOver (r .tables) r (take v beds)) none) (sym is ∙ all-kept))

@@ -14,7 +14,7 @@ use Rattle.lists.specs.Every.{every-all, any-in, any-out}
 use Rattle.lists.specs.Keep.{keep-all, keep-none}
 use Rattle.ranking.specs.Orders.{View, before, equal, after, ℕ-view}
 use Rattle.theorems.specs.Accepted.{Accepted, table-right, mostTotal}
-use Rattle.theorems.specs.Sums.{plus, plus-zero}
+use Rattle.theorems.specs.Sums.{plus, plus-none, plus-zero}
 use Rattle.partial_rows.specs.Sets.{only, Part, first, second, neither, Splits}
 use Rattle.partial_rows.specs.Rows.{holds}
 use Rattle.partial_rows.specs.Costs.{cost-same, tables-split}
@@ -75,10 +75,8 @@ plus-late none p n x e = refl
 plus-late (some y) none n x e = absurd (Option·none-ne-some n e)
 plus-late (some y) (some z) n x e = let same : z ≡ n = cc in ap {B = Option ℕ} some (omega arith)
 
-plus-none : (o p : Option ℕ) (x : ℕ) → p ≡ none → plus (plus o p) (some x) ≡ none
-plus-none none p x e = refl
-plus-none (some y) none x e = refl
-plus-none (some y) (some z) x e = absurd (Option·none-ne-some z (sym e))
+none-late : (o p : Option ℕ) (x : ℕ) → p ≡ none → plus (plus o p) (some x) ≡ none
+none-late o p x e = ap (λ q. plus q (some x)) (ap (plus o) e ∙ plus-none o)
 
 module _ {store patients terms : List ℕ} {v : ℕ} {beds : Plan} where
   pub adds-start : Adds store patients terms v beds 0 0
@@ -98,7 +96,7 @@ module _ {store patients terms : List ℕ} {v : ℕ} {beds : Plan} where
       pub adds-forbidden : cost ≡ Forbidden → GivesTables store patients terms v beds Forbidden
       adds-forbidden e r prepared fits all =
           sym (ap (λ o. plus o (some sum)) (next-bucket r beds s)
-          ∙ plus-none (costFrom r beds (s + 1)) (costOver (bucketOf r s) r beds) sum (sym (gives .cost r prepared fits (known r all)) ∙ ap costIn e))
+          ∙ none-late (costFrom r beds (s + 1)) (costOver (bucketOf r s) r beds) sum (sym (gives .cost r prepared fits (known r all)) ∙ ap costIn e))
           ∙ adds .left r prepared fits all ∙ tables-take r beds (prepared .accepted) v (omega (arith, all))
 
       module _ (n : ℕ) (e : cost ≡ Of n) where

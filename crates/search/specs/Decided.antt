@@ -9,8 +9,8 @@ use Rattle.definitions.specs.Syntax.{Table, Region, patientNumbers, patientAt}
 use Rattle.definitions.specs.Plans.{Plan, bedOf, costOver}
 use Rattle.lists.specs.Keep.{keep-same}
 use Rattle.lists.specs.Below.{keep-one}
-use Rattle.theorems.specs.Sums.{plus, plus-zero, sumOver, sum-cons}
-use Rattle.theorems.specs.Fixed.{fixedCost, fixed-cost, part-parts, part-tables}
+use Rattle.theorems.specs.Sums.{plus, plus-zero, plus-if, sumOver, sum-cons}
+use Rattle.theorems.specs.Fixed.{fixedCost, permits, fixed-cost, part-parts, part-tables}
 use Rattle.partial_rows.specs.Sets.{only}
 use Rattle.partial_rows.specs.Rows.{decidedTables}
 use Rattle.buckets.specs.Permitted.{firstPermitted, permittedEnd, permitted-is}
@@ -45,30 +45,23 @@ module _ (r : Region) (s : ℕ) (plan : Plan) where
     -- A bed that is permitted costs what the bucket does, any other is forbidden.
     module _ (fits : bedOf plan s < patientAt r s .bedCount) where
       by-range : costOver (decidedAt r s) r plan
-          ≡ plus (costOver (bucketOf r s) r plan) (cond (leb (firstPermitted (patientAt r s)) (bedOf plan s) && ltb (bedOf plan s) (permittedEnd (patientAt r s))) (some 0) none)
+          ≡ cond (leb (firstPermitted (patientAt r s)) (bedOf plan s) && ltb (bedOf plan s) (permittedEnd (patientAt r s))) (costOver (bucketOf r s) r plan) none
       by-range =
-          decided-cost
-          ∙ ap (plus (costOver (bucketOf r s) r plan)) (fixed-cost r plan s fits ∙ ap (λ b. cond b (some 0) none) (permitted-is (patientAt r s) (bedOf plan s) fits))
+          decided-cost ∙ ap (plus (costOver (bucketOf r s) r plan)) (fixed-cost r plan s fits)
+          ∙ plus-if (costOver (bucketOf r s) r plan) (permits r s (bedOf plan s))
+          ∙ ap (λ b. cond b (costOver (bucketOf r s) r plan) none) (permitted-is (patientAt r s) (bedOf plan s) fits)
 
       pub permitted-cost : firstPermitted (patientAt r s) ≤ bedOf plan s → bedOf plan s < permittedEnd (patientAt r s) → costOver (decidedAt r s) r plan ≡ costOver (bucketOf r s) r plan
       permitted-cost low high =
           by-range
-          ∙ ap₂ (λ a b. plus (costOver (bucketOf r s) r plan) (cond (a && b) (some 0) none)) (le-leb (firstPermitted (patientAt r s)) (bedOf plan s) low) (lt-ltb (bedOf plan s) (permittedEnd (patientAt r s)) high)
-          ∙ plus-zero (costOver (bucketOf r s) r plan)
-
-      plus-none : (o : Option ℕ) → plus o none ≡ none
-      plus-none none = refl
-      plus-none (some n) = refl
+          ∙ ap₂ (λ a b. cond (a && b) (costOver (bucketOf r s) r plan) none) (le-leb (firstPermitted (patientAt r s)) (bedOf plan s) low) (lt-ltb (bedOf plan s) (permittedEnd (patientAt r s)) high)
 
       pub forbidden-before : bedOf plan s < firstPermitted (patientAt r s) → costOver (decidedAt r s) r plan ≡ none
       forbidden-before h =
           by-range
-          ∙ ap (λ a. plus (costOver (bucketOf r s) r plan) (cond (a && ltb (bedOf plan s) (permittedEnd (patientAt r s))) (some 0) none)) (lt-leb (firstPermitted (patientAt r s)) (bedOf plan s) h)
-          ∙ plus-none (costOver (bucketOf r s) r plan)
+          ∙ ap (λ a. cond (a && ltb (bedOf plan s) (permittedEnd (patientAt r s))) (costOver (bucketOf r s) r plan) none) (lt-leb (firstPermitted (patientAt r s)) (bedOf plan s) h)
 
       pub forbidden-from : permittedEnd (patientAt r s) ≤ bedOf plan s → costOver (decidedAt r s) r plan ≡ none
       forbidden-from h =
           let low = leb (firstPermitted (patientAt r s)) (bedOf plan s) in
-          by-range
-          ∙ ap (λ b. plus (costOver (bucketOf r s) r plan) (cond b (some 0) none)) (ap (λ b. low && b) (le-ltb (bedOf plan s) (permittedEnd (patientAt r s)) h) ∙ and-false low)
-          ∙ plus-none (costOver (bucketOf r s) r plan)
+          by-range ∙ ap (λ b. cond b (costOver (bucketOf r s) r plan) none) (ap (λ b. low && b) (le-ltb (bedOf plan s) (permittedEnd (patientAt r s)) h) ∙ and-false low)

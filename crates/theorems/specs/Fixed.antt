@@ -19,7 +19,7 @@ use Rattle.lists.specs.Every.{every-in, every-at}
 use Rattle.lists.specs.Maps.{filterMap-out}
 use Rattle.lists.specs.Keep.{keep-append, keep-filterMap}
 use Rattle.lists.specs.Below.{at-place, below-out, length-by-places}
-use Rattle.theorems.specs.Sums.{plus, zero-plus, plus-zero, halves, sumOver, sum-cons, sum-append}
+use Rattle.theorems.specs.Sums.{plus, zero-plus, plus-if, halves, sumOver, sum-cons, sum-append}
 
 -- ---- the cost of a fixed bed
 
@@ -165,12 +165,7 @@ total-fixed region plan fits =
     let each = both (eqb (length plan) (region .patientCount)) fits .1 in
     total-parts region plan
     ∙ ap (plus (costOver (region .tables) region plan)) (fixed-costs region plan (patientNumbers region) (λ s k. ltb-true (bedOf plan s) (patientAt region s .bedCount) (every-in _ (patientNumbers region) each k)))
-    ∙ go (keepsFixed region plan) (costOver (region .tables) region plan)
-  where
-    go : (b : Bool) (o : Option ℕ) → plus o (cond b (some 0) none) ≡ cond b o none
-    go true o = plus-zero o
-    go false none = refl
-    go false (some n) = refl
+    ∙ plus-if (costOver (region .tables) region plan) (keepsFixed region plan)
 
 -- Where all are free, the constraints are the tables; and fixed beds do not change which plans there are.
 none-fixing : (region : Region) (l : List ℕ) → ((s : ℕ) → s ∈ l → patientAt region s .fixedBed ≡ none) → filterMap (fixing region) l ≡ []

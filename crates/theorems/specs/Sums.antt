@@ -28,6 +28,15 @@ pub plus-zero : (o : Option ℕ) → plus o (some 0) ≡ o
 plus-zero none = refl
 plus-zero (some n) = ap {B = Option ℕ} some (add-zero n)
 
+pub plus-none : (o : Option ℕ) → plus o none ≡ none
+plus-none none = refl
+plus-none (some n) = refl
+
+-- A cost with what costs nothing or is forbidden.
+pub plus-if : (o : Option ℕ) (b : Bool) → plus o (cond b (some 0) none) ≡ cond b o none
+plus-if o true = plus-zero o
+plus-if o false = plus-none o
+
 plus-swap : (a b c : Option ℕ) → plus a (plus b c) ≡ plus b (plus a c)
 plus-swap none none c = refl
 plus-swap none (some y) c = refl
