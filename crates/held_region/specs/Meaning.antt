@@ -3,10 +3,11 @@ use Rattle.definitions.specs.Basics.{ℕ, zero, suc, _+_, List, [], map, getD, 
 use Rattle.definitions.specs.Syntax as Said
 use Rattle.definitions.specs.Writer.{withSum}
 use Rattle.scanner.specs.declared.Optional.the-variants.{Hyphen}
-pub use Rattle.scanner.specs.Answers.{optional, mark, codeOf, saidBy}
 use Rattle.held_region.specs.declared.Patient.{Patient}
 use Rattle.held_region.specs.declared.Table.{Table}
 use Rattle.held_region.specs.declared.Region.{Region}
+-- A field that may be a hyphen, and the number that stands for one in the store: the largest is the mark of a forbidden entry.
+pub use Rattle.scanner.specs.Answers.{optional, mark, codeOf, saidBy}
 
 -- ---- patients
 
