@@ -47,6 +47,7 @@ abbrev lentWith : List ℕ → List ℕ → List ℕ → WriteCall
 lentWith patients output result =
     writeCall (area patients) (area (1 ∷ 0 ∷ 9 ∷ 9 ∷ 9 ∷ 2 ∷ 2 ∷ 0 ∷ 1 ∷ 9 ∷ 9 ∷ 4 ∷ [])) (area (3 ∷ 1 ∷ 0 ∷ 2 ∷ 1 ∷ absent ∷ [])) 3 output result
 
+-- With its own patients, both free.
 abbrev lentPaper : List ℕ → List ℕ → WriteCall
 lentPaper = lentWith (0 ∷ 2 ∷ absent ∷ absent ∷ 0 ∷ 2 ∷ 0 ∷ absent ∷ [])
 

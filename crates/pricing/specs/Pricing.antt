@@ -57,9 +57,12 @@ abbrev pub GivesAll : List ℕ → List ℕ → List ℕ → ℕ → List ℕ �
 GivesAll store patients terms v beds c =
     (r : Region) → Prepared r store patients terms → Fitting r beds → v ≡ length (r .patients) → costIn c ≡ total r (take v beds)
 
--- Lies the patient's bed between the first permitted one and the end?
+-- Lies a bed between the patient's first permitted one and their end? That of a plan.
+abbrev pub permittedAt : List ℕ → ℕ → ℕ → Bool
+permittedAt patients s bed = leb (firstBedAt patients s) bed && ltb bed (bedEndAt patients s)
+
 abbrev pub bedPermitted : List ℕ → List ℕ → ℕ → Bool
-bedPermitted patients beds s = leb (firstBedAt patients s) (bedOf beds s) && ltb (bedOf beds s) (bedEndAt patients s)
+bedPermitted patients beds s = permittedAt patients s (bedOf beds s)
 
 -- Question 14, of a plan's beds.
 abbrev pub PlanAsked : List ℕ → ℕ → List ℕ → Bool → Type 0

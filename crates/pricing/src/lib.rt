@@ -6,7 +6,7 @@ ghost use Prim.Native.Nat.{_+_, _<_, _≤_};
 ghost use lib.ListN.{set, length, take};
 ghost use Rattle.definitions.specs.Basics.{replicate, below, every};
 ghost use Rattle.buckets.specs.Terms.{placeAt};
-ghost use Rattle.pricing.specs.Pricing.{Reads, Asks, Gives, AsksAll, GivesTables, GivesAll, bedPermitted, PlanAsked};
+ghost use Rattle.pricing.specs.Pricing.{Reads, Asks, Gives, AsksAll, GivesTables, GivesAll, permittedAt, bedPermitted, PlanAsked};
 use bucket_words::bed_count;
 use bucket_words::bed_end;
 use bucket_words::entry_start;
@@ -131,6 +131,14 @@ pub fn tables_cost(
     Cost::Of(sum)
 }
 
+// Lies a bed between the patient's first permitted one and their end?
+fn is_permitted(patients: &[u32; 160], s: usize, bed: usize) -> bool
+    requires { ⌜ s < 32 ⌝ }
+    ensures { λ a. ⌜ a ≡ permittedAt (now (patients .entry)) s bed ⌝ }
+{
+    first_bed(patients, s) <= bed && bed < bed_end(patients, s)
+}
+
 // Has each patient a permitted bed?
 fn keeps_fixed(patients: &[u32; 160], v: usize, beds: &[u8; 32]) -> bool
     requires { ⌜ v ≤ 32 ⌝ }
@@ -138,11 +146,7 @@ fn keeps_fixed(patients: &[u32; 160], v: usize, beds: &[u8; 32]) -> bool
 {
     let mut s = 0;
     while s < v {
-        let bed = wide(beds[s]);
-        if bed < first_bed(patients, s) {
-            return false;
-        }
-        if bed_end(patients, s) <= bed {
+        if !is_permitted(patients, s, wide(beds[s])) {
             return false;
         }
         s += 1;

@@ -15,10 +15,10 @@ use Rattle.definitions.specs.Plans.{Plan, bedOf, plans, plansFor, place, entryF
 use Rattle.definitions.specs.Questions.{planFits}
 use Rattle.lists.specs.Tests.{both}
 use Rattle.lists.specs.Members.{_∈_, here, there, in-append-cases}
-use Rattle.lists.specs.Every.{every-in, every-at}
+use Rattle.lists.specs.Every.{every-at}
 use Rattle.lists.specs.Maps.{filterMap-out}
 use Rattle.lists.specs.Keep.{keep-append, keep-filterMap}
-use Rattle.lists.specs.Below.{at-place, below-out, length-by-places}
+use Rattle.lists.specs.Below.{at-place, below-out, length-by-places, every-place}
 use Rattle.theorems.specs.Sums.{plus, zero-plus, plus-if, halves, sumOver, sum-cons, sum-append}
 
 -- ---- the cost of a fixed bed
@@ -159,13 +159,19 @@ constraint-cases region t k = elim (in-append-cases (region .tables) k) [
 abbrev pub keepsFixed : Region → Plan → Bool
 keepsFixed region plan = every (λ s. permits region s (bedOf plan s)) (patientNumbers region)
 
+-- Of beds that are each below the count, and so of a plan that question 14 lets pass.
+pub total-kept : (region : Region) (plan : Plan) → ((s : ℕ) → s < length (region .patients) → bedOf plan s < patientAt region s .bedCount)
+    → total region plan ≡ cond (keepsFixed region plan) (costOver (region .tables) region plan) none
+total-kept region plan fits =
+    total-parts region plan
+    ∙ ap (plus (costOver (region .tables) region plan)) (fixed-costs region plan (patientNumbers region) (λ s k. fits s (below-out (length (region .patients)) s k)))
+    ∙ plus-if (costOver (region .tables) region plan) (keepsFixed region plan)
+
 pub total-fixed : (region : Region) (plan : Plan) → planFits region plan ≡ true → total region plan ≡ cond (keepsFixed region plan) (costOver (region .tables) region plan) none
 unfolding planFits
 total-fixed region plan fits =
     let each = both (eqb (length plan) (region .patientCount)) fits .1 in
-    total-parts region plan
-    ∙ ap (plus (costOver (region .tables) region plan)) (fixed-costs region plan (patientNumbers region) (λ s k. ltb-true (bedOf plan s) (patientAt region s .bedCount) (every-in _ (patientNumbers region) each k)))
-    ∙ plus-if (costOver (region .tables) region plan) (keepsFixed region plan)
+    total-kept region plan (λ s h. ltb-true (bedOf plan s) (patientAt region s .bedCount) (every-place _ (length (region .patients)) s each h))
 
 -- Where all are free, the constraints are the tables; and fixed beds do not change which plans there are.
 none-fixing : (region : Region) (l : List ℕ) → ((s : ℕ) → s ∈ l → patientAt region s .fixedBed ≡ none) → filterMap (fixing region) l ≡ []

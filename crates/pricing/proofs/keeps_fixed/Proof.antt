@@ -1,11 +1,11 @@
 use borrow.Author.Needs.{needs}
-use mathlib.Core.Path.{_≡_, refl}
+use borrow.Author.Tests.{not-true, not-false}
+use mathlib.Core.Path.{_≡_, refl, sym, ap, _∙_}
 use Prim.Native.Nat.{_-_}
 use denote.Ref.{now}
 use Rattle.definitions.specs.Basics.{below, every}
 use Rattle.lists.specs.Loops.{askedFrom, ask-all, ask-yes, ask-no, ask-done}
-use Rattle.pricing.specs.Pricing.{bedPermitted}
-use Rattle.pricing.proofs.Permitted.{before-first, past-end, in-between}
+use Rattle.pricing.specs.Pricing.{permittedAt, bedPermitted}
 use Rattle.pricing.proofs.keeps_fixed.Statement.{statement}
 use Rattle.pricing.proofs.keeps_fixed.Tie as tie
 
@@ -24,27 +24,16 @@ element-copy-out-wide c = search needs
 wide-requires : tie.Need-wide-requires Inv-loop μ-loop
 wide-requires c κs = search needs
 
-first-bed-requires : tie.Need-first-bed-requires Inv-loop μ-loop
-first-bed-requires c κs = search needs
+is-permitted-requires : tie.Need-is-permitted-requires Inv-loop μ-loop
+is-permitted-requires c κs = search needs
 
 returns : tie.Need-returns Inv-loop μ-loop
 returns c =
     let read = c .before .before in
     let loop = read .before .before .before in
     let a = loop .before .args in
-    let no = before-first (now (a .patients)) (now (a .beds)) (loop .loop .s) (read .wide .ensures .0) (c .before .first-bed .ensures) (c .if1 .taken) in
-    ask-no _ _ _ (read .before .before .loop-test .taken) no (loop .loop .inv)
-
-bed-end-requires : tie.Need-bed-end-requires Inv-loop μ-loop
-bed-end-requires c κs = search needs
-
-returns-2 : tie.Need-returns-2 Inv-loop μ-loop
-returns-2 c =
-    let read = c .before .before .before .before in
-    let loop = read .before .before .before in
-    let a = loop .before .args in
-    let no = past-end (now (a .patients)) (now (a .beds)) (loop .loop .s) (read .wide .ensures .0) (c .before .bed-end .ensures) (c .if2 .taken) in
-    ask-no _ _ _ (read .before .before .loop-test .taken) no (loop .loop .inv)
+    let is = c .before .is-permitted .ensures ∙ ap (permittedAt (now (a .patients)) (loop .loop .s)) (read .wide .ensures .0) in
+    ask-no _ _ _ (read .before .before .loop-test .taken) (sym is ∙ not-true _ (c .if1 .taken)) (loop .loop .inv)
 
 add-s : tie.Need-add-s Inv-loop μ-loop
 add-s c = search needs
@@ -54,14 +43,14 @@ loop-less c = search needs
 
 loop-again : tie.Need-loop-again Inv-loop μ-loop
 loop-again c =
-    let read = c .before .before .before .before in
+    let read = c .before .before in
     let loop = read .before .before .before in
     let a = loop .before .args in
-    let yes = in-between (now (a .patients)) (now (a .beds)) (loop .loop .s) (read .wide .ensures .0) (c .before .before .before .first-bed .ensures) (c .before .before .if1 .left) (c .before .bed-end .ensures) (c .if2 .left) in
-    ask-yes _ _ _ (read .before .before .loop-test .taken) yes (loop .loop .inv)
+    let is = c .before .is-permitted .ensures ∙ ap (permittedAt (now (a .patients)) (loop .loop .s)) (read .wide .ensures .0) in
+    ask-yes _ _ _ (read .before .before .loop-test .taken) (sym is ∙ not-false _ (c .if1 .left)) (loop .loop .inv)
 
-returns-3 : tie.Need-returns-3 Inv-loop μ-loop
-returns-3 c = ask-done _ _ _ (c .loop-test .left) (c .before .loop .inv)
+returns-2 : tie.Need-returns-2 Inv-loop μ-loop
+returns-2 c = ask-done _ _ _ (c .loop-test .left) (c .before .loop .inv)
 
 pub keeps-fixed-spec : {M : Type 1} → statement M
 keeps-fixed-spec =
@@ -72,11 +61,9 @@ keeps-fixed-spec =
     loop-holds
     element-copy-out-wide
     wide-requires
-    first-bed-requires
+    is-permitted-requires
     returns
-    bed-end-requires
-    returns-2
     add-s
     loop-less
     loop-again
-    returns-3)
+    returns-2)
