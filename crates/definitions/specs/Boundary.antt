@@ -6,6 +6,7 @@ use Rattle.definitions.specs.Plans.{Plan}
 use Rattle.definitions.specs.Questions.{Asks, callAsks, regionOf, roomForRows, checkOf, askedByList, askedBySheet, askedByPrice}
 use Rattle.definitions.specs.Outcomes.{Found, listFound, sheetFound, written, bedsAfter, costsAfter, PriceOutcome, priceFound}
 use Rattle.definitions.specs.Writer.{regionFrom, writtenFile, askedByWrite, Made, madeBy, outputAfter}
+use Rattle.definitions.specs.Lookup.{FilePart, askedByLine, LineOutcome, lineFound}
 
 -- A number in so many bytes, lowest byte first.
 abbrev pub bytesOf : ℕ → ℕ → List ℕ
@@ -136,3 +137,20 @@ unfoldable pub writeCall : List ℕ → List ℕ → List ℕ → ℕ → List �
 writeCall patients tables entries m output result =
     let asks = askedByLentWrite patients tables entries m output in
     writeCallOf (madeBy (callAsks asks (roomForNumbers 1 result)) (writtenFile (lentRegion patients tables entries m))) output result
+
+-- ---- the call of line (#103)
+
+-- What line gives back: the number, and the result area, which holds the start and the length of the part; zeros on a refusal.
+pub record LineCall : Type 0 where
+  pub number : ℕ
+  pub result : List ℕ
+
+abbrev pub partNumbers : ℕ → FilePart → List ℕ
+partNumbers zero part = part .start ∷ part .size ∷ []
+partNumbers (suc q) part = 0 ∷ 0 ∷ []
+
+unfoldable pub lineCallOf : LineOutcome → List ℕ → LineCall
+lineCallOf found result = record { number = found .number; result = resultAfter (partNumbers (found .number) (found .part)) result }
+
+unfoldable pub lineCall : List ℕ → List ℕ → List ℕ → LineCall
+lineCall file typed result = lineCallOf (lineFound file typed (callAsks (askedByLine file typed) (roomForNumbers 2 result))) result

@@ -12,8 +12,9 @@ use Rattle.definitions.specs.Sheets.{part, ownTables, ownCost, ownRow, s
 use Rattle.definitions.specs.Isolation.{tablesAmong, timesIn, joins}
 use Rattle.definitions.specs.Outcomes.{listFound, sheetFound, outcomeOf, listOutcome, sheetOutcome, priceFound, priceOutcome}
 use Rattle.definitions.specs.Writer.{regionFrom, asHeld, writtenFile, roomForFile, askedByWrite, writeOutcomeOf, writeOutcome}
+use Rattle.definitions.specs.Lookup.{typedRight, typedMembers, isOver, lineOver, askedByLine, lineFound, lineOutcome}
 use Rattle.definitions.specs.Boundary.{resultAfter, callOf, listCall, sheetCall, priceCallOf, priceCall}
-use Rattle.definitions.specs.Boundary.{lentPatients, lentTables, lentRegion, lentWhole, askedByLentWrite, writeCallOf, writeCall}
+use Rattle.definitions.specs.Boundary.{lentPatients, lentTables, lentRegion, lentWhole, askedByLentWrite, writeCallOf, writeCall, lineCallOf, lineCall}
 use Rattle.definitions.specs.Output.{printedRow, printedRows, clinicsPresent, printed}
 
 -- The file and its spelling; plans and questions; sheets, what the entries give and what is printed; what the requests add.
@@ -30,7 +31,7 @@ unfolding part ownTables ownCost ownRow sheetOf tablesAmong timesIn joins listFo
 answers = tt
 
 unfoldable pub requested : Unit {0}
-unfolding regionFrom asHeld writtenFile roomForFile askedByWrite writeOutcomeOf writeOutcome lentPatients lentTables lentRegion lentWhole askedByLentWrite writeCallOf writeCall
+unfolding regionFrom asHeld writtenFile roomForFile askedByWrite writeOutcomeOf writeOutcome lentPatients lentTables lentRegion lentWhole askedByLentWrite writeCallOf writeCall typedRight typedMembers isOver lineOver askedByLine lineFound lineOutcome lineCallOf lineCall
 requested = tt
 
 unfoldable pub everything : Unit {0}

@@ -11,6 +11,7 @@ pub mod Sheets
 pub mod Isolation
 pub mod Outcomes
 pub mod Writer
+pub mod Lookup
 pub mod Boundary
 pub mod Output
 pub mod Computing

@@ -1,5 +1,6 @@
 -- For each landed request of document 02, in one statement: each of its numbers, each bound, and what a builder gets wrong.
-use Rattle.definitions.specs.Basics.{ℕ, _+_, _-_, _^_, _≡_, refl, true, false, Option, none, some, List, [], _∷_, _++_, map, flatten, flatMap, length, replicate}
+use Prim.Native.String.{String}
+use Rattle.definitions.specs.Basics.{ℕ, _+_, _-_, _^_, _≡_, refl, true, false, Option, none, some, List, [], _∷_, _++_, map, flatten, flatMap, length, replicate, text}
 use Rattle.definitions.specs.Syntax.{Patient, Table, Region, fixedBeds, patientsOf}
 use Rattle.definitions.specs.Layout.{layout}
 use Rattle.definitions.specs.Plans.{constraints, listOf}
@@ -7,9 +8,10 @@ use Rattle.definitions.specs.Questions.{regionOf, checkOf}
 use Rattle.definitions.specs.Sheets.{sheetOf}
 use Rattle.definitions.specs.Outcomes.{priceOutcome}
 use Rattle.definitions.specs.Writer.{writtenFile, WriteOutcome, writeOutcome}
-use Rattle.definitions.specs.Boundary.{bytesOf, lentTableCount, WriteCall, writeCall}
+use Rattle.definitions.specs.Lookup.{bytesAt, LineOutcome, lineOutcome}
+use Rattle.definitions.specs.Boundary.{bytesOf, lentTableCount, WriteCall, writeCall, LineCall, lineCall}
 use Rattle.definitions.specs.Computing.{everything}
-use Rattle.definitions.specs.Examples.{paperFile, patient, fixed, table, fileOf, row, lent, cleared, list, refusal}
+use Rattle.definitions.specs.Examples.{paperFile, patient, fixed, table, fileOf, row, lent, cleared, list, refusal, overOneAndTwo, allForbidden}
 use Rattle.definitions.specs.Cases.{paperRegion, eight}
 
 -- ---- #101: the writer
@@ -187,4 +189,72 @@ staysPut = record {
   fourthFields = refl;
   lentFixed = refl;
   largeFixed = refl;
+}
+
+-- ---- #103: the line over some members
+
+abbrev at : ℕ → ℕ → LineOutcome
+at start size = record { number = 0; part = record { start = start; size = size } }
+
+-- A refusal: the empty part at the end of a file of so many bytes.
+abbrev noLine : ℕ → ℕ → LineOutcome
+noLine q end = record { number = q; part = record { start = end; size = 0 } }
+
+abbrev line : List ℕ → String → LineOutcome
+line file typed = lineOutcome file (text typed)
+
+-- The bytes of the line.
+abbrev read : List ℕ → String → List ℕ
+read file typed = bytesAt (line file typed .part) file
+
+abbrev lineFromC : List ℕ → String → ℕ → LineCall
+lineFromC file typed room = lineCall file (text typed) (lent room)
+
+-- Two patients, and tables over (0) with the entries 0 and 1, (0 1), (1), (0 1) again, and (1) again with the same line.
+abbrev severalTables : List ℕ
+severalTables =
+    fileOf 1 (patient 0 2 none ∷ patient 0 1 (some 0) ∷ []) (
+    table (0 ∷ []) (some 0 ∷ some 1 ∷ []) ∷ table (0 ∷ 1 ∷ []) (some 7 ∷ some 8 ∷ []) ∷ table (1 ∷ []) (some 5 ∷ [])
+    ∷ table (0 ∷ 1 ∷ []) (some 3 ∷ some 4 ∷ []) ∷ table (1 ∷ []) (some 5 ∷ []) ∷ [])
+
+pub record FoundLines : Type 0 where
+  pub paperLine : line paperFile "(0 1)" ≡ at 68 22
+  pub paperBytes : read paperFile "(0 1)" ≡ text "(cost (0 1) (0 2 1 -))"
+  pub otherBytes : read paperFile "(0)" ≡ text "(cost (0) (3 1))"
+  pub firstOfTwo : map (read severalTables) ("(0 1)" ∷ "(1)" ∷ "(0)" ∷ []) ≡ text "(cost (0 1) (7 8))" ∷ text "(cost (1) (5))" ∷ text "(cost (0) (0 1))" ∷ []
+  pub firstOfEqual : line severalTables "(1)" ≡ at 87 14
+  pub noSuchLine :
+      map (line paperFile) ("(1)" ∷ "(1 0)" ∷ "(0 0)" ∷ "(0 1 2)" ∷ "(0 1 2 3 4)" ∷ "(32)" ∷ "(9999999)" ∷ []) ≡ replicate 7 (at 102 0)
+  pub forbiddenEntries : read allForbidden "(0)" ≡ text "(cost (0) (- -))"
+  pub number21 :
+      map (line paperFile) (
+      "" ∷ "(" ∷ "()" ∷ "0 1" ∷ "(0 1" ∷ "0 1)" ∷ "(0  1)" ∷ "( 0 1)" ∷ "(0 1 )" ∷ " (0 1)" ∷ "(0 1) " ∷ "(00)" ∷ "(-)" ∷ "(0,1)" ∷ "(10000000)" ∷ "(0 1)\n"
+      ∷ "(0)(1)" ∷ "(cost (0) (3 1))" ∷ [])
+      ≡ replicate 18 (noLine 21 102)
+  pub tenFirst : lineOutcome (overOneAndTwo 0) [] ≡ noLine 10 97
+  pub refusedFile : line (text "(region)") "(0)" ≡ noLine 2 8
+  pub called : lineFromC paperFile "(0 1)" 17 ≡ record { number = 0; result = eight 68 ++ eight 22 ++ lent 1 }
+  pub calledNoLine : lineFromC paperFile "(1)" 16 ≡ record { number = 0; result = eight 102 ++ eight 0 }
+  pub calledRefused : lineFromC paperFile "(" 17 ≡ record { number = 21; result = eight 0 ++ eight 0 ++ lent 1 }
+  pub calledShort : lineFromC paperFile "(" 15 ≡ record { number = 12; result = lent 15 }
+  pub calledTenFirst : lineFromC (overOneAndTwo 0) "(" 15 ≡ record { number = 10; result = lent 15 }
+
+pub foundLines : FoundLines
+unfolding everything lent cleared
+foundLines = record {
+  paperLine = refl;
+  paperBytes = refl;
+  otherBytes = refl;
+  firstOfTwo = refl;
+  firstOfEqual = refl;
+  noSuchLine = refl;
+  forbiddenEntries = refl;
+  number21 = refl;
+  tenFirst = refl;
+  refusedFile = refl;
+  called = refl;
+  calledNoLine = refl;
+  calledRefused = refl;
+  calledShort = refl;
+  calledTenFirst = refl;
 }
