@@ -52,3 +52,21 @@ lineFound file typed asked = record { number = firstNo asked; part = partUnlessR
 
 unfoldable pub lineOutcome : List ℕ → List ℕ → LineOutcome
 lineOutcome file typed = lineFound file typed (entryAsks (askedByLine file typed))
+
+-- What line hands back, as it lies in memory: the number, the block and the place in it where the part starts, its length and its bytes.
+pub record HandedBack : Type 0 where
+  pub number : ℕ
+  pub block : ℕ
+  pub place : ℕ
+  pub size : ℕ
+  pub bytes : List ℕ
+
+-- That very part of the file, never a copy: it lies in the file's own block, so far behind the place where the file starts.
+abbrev pub partOf : ℕ → ℕ → List ℕ → LineOutcome → HandedBack
+partOf block place file found = record {
+  number = found .number;
+  block = block;
+  place = place + found .part .start;
+  size = found .part .size;
+  bytes = bytesAt (found .part) file;
+}

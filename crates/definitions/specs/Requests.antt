@@ -8,7 +8,7 @@ use Rattle.definitions.specs.Questions.{regionOf, checkOf}
 use Rattle.definitions.specs.Sheets.{sheetOf}
 use Rattle.definitions.specs.Outcomes.{priceOutcome}
 use Rattle.definitions.specs.Writer.{writtenFile, WriteOutcome, writeOutcome}
-use Rattle.definitions.specs.Lookup.{bytesAt, LineOutcome, lineOutcome}
+use Rattle.definitions.specs.Lookup.{bytesAt, LineOutcome, lineOutcome, partOf}
 use Rattle.definitions.specs.Boundary.{bytesOf, lentTableCount, WriteCall, writeCall, LineCall, lineCall}
 use Rattle.definitions.specs.Computing.{everything}
 use Rattle.definitions.specs.Examples.{paperFile, patient, fixed, table, fileOf, row, lent, cleared, list, refusal, overOneAndTwo, allForbidden}
@@ -233,6 +233,8 @@ pub record FoundLines : Type 0 where
       ≡ replicate 18 (noLine 21 102)
   pub tenFirst : lineOutcome (overOneAndTwo 0) [] ≡ noLine 10 97
   pub refusedFile : line (text "(region)") "(0)" ≡ noLine 2 8
+  pub inMemory : partOf 5 1000 paperFile (line paperFile "(0)") ≡ record { number = 0; block = 5; place = 1051; size = 16; bytes = text "(cost (0) (3 1))" }
+  pub emptyInMemory : partOf 5 1000 paperFile (line paperFile "()") ≡ record { number = 21; block = 5; place = 1102; size = 0; bytes = [] }
   pub called : lineFromC paperFile "(0 1)" 17 ≡ record { number = 0; result = eight 68 ++ eight 22 ++ lent 1 }
   pub calledNoLine : lineFromC paperFile "(1)" 16 ≡ record { number = 0; result = eight 102 ++ eight 0 }
   pub calledRefused : lineFromC paperFile "(" 17 ≡ record { number = 21; result = eight 0 ++ eight 0 ++ lent 1 }
@@ -252,6 +254,8 @@ foundLines = record {
   number21 = refl;
   tenFirst = refl;
   refusedFile = refl;
+  inMemory = refl;
+  emptyInMemory = refl;
   called = refl;
   calledNoLine = refl;
   calledRefused = refl;
