@@ -307,7 +307,7 @@ module _ (file typed : List ℕ) where
             line = form;
             after = f .after;
             inFile = f .are ∙ ap (λ (l : List ℕ). f .before ++ l ∷ f .after) is;
-            over = rw (← is) over;
+            over = record { table = t; lineSays = ap (whole tableLine) (sym is) ∙ over .lineSays; typedSays = over .typedSays };
             first = no-over typed right (f .before) (f .noneBefore);
             start = f .at ∙ zero-add _;
             size = omega (arith, f .long, ap length is, length-append form (text "\n"));
