@@ -1,11 +1,10 @@
 -- Question 21, and whether a line begins as the line of a table over the typed members does.
 use mathlib.Core.Path.{_≡_, ap, _∙_}
-use Prim.Native.Nat.{_≤_}
 use native.Mathlib.Decide.{decLe}
 use native.Mathlib.Omega.{arith}
 use borrow.Author.Tests.{le-leb, lt-leb}
 use lib.ListN.{drop}
-use Rattle.definitions.specs.Basics.{ℕ, true, false, none, some, bind, List, _++_, length, leb, text, isSome}
+use Rattle.definitions.specs.Basics.{ℕ, false, none, some, bind, List, _++_, length, leb, text, isSome}
 use Rattle.definitions.specs.Layout.{exactly, number, items}
 use Rattle.definitions.specs.Lookup.{typedRight}
 use Rattle.theorems.specs.Lookup.{begins}

@@ -4,7 +4,7 @@ use Prim.Native.Nat.{_≤_}
 use native.Mathlib.Omega.{arith}
 use lib.ListN.{take, drop, length-take, length-drop}
 use Rattle.definitions.specs.Basics.{ℕ, _+_, _-_, List, length}
-use Rattle.definitions.specs.Lookup.{LineOutcome, lineOutcome, HandedBack, partOf}
+use Rattle.definitions.specs.Lookup.{LineOutcome, lineOutcome, partOf}
 use Rattle.theorems.specs.Lookup.{part-within}
 use Rattle.line_finder.specs.declared.FoundLine.{FoundLine}
 use Rattle.line_finder.specs.Found.{lineOf}

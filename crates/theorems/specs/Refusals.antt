@@ -11,7 +11,7 @@ use Rattle.definitions.specs.Syntax.{Region}
 use Rattle.definitions.specs.Plans.{Plan, Row, total, listOf}
 use Rattle.definitions.specs.Sheets.{sheetOf}
 use Rattle.definitions.specs.Questions.{Asked, firstNo, regionOf, roomForRows, areasLongEnough, askedByCheck, checkOf}
-use Rattle.definitions.specs.Questions.{Asks, entryAsks, callAsks, askedByList, askedBySheet, askedByPrice}
+use Rattle.definitions.specs.Questions.{entryAsks, callAsks, askedByList, askedBySheet, askedByPrice}
 use Rattle.definitions.specs.Outcomes.{Found, unlessRefused, listFound, sheetFound, written, workAfter}
 use Rattle.definitions.specs.Outcomes.{ListOutcome, outcomeOf, listOutcome, sheetOutcome, PriceOutcome, priced, priceFound, priceOutcome}
 use Rattle.definitions.specs.Writer.{askedByWrite}
@@ -19,7 +19,7 @@ use Rattle.definitions.specs.Lookup.{lineOver, askedByLine, partUnlessRefused, 
 use Rattle.definitions.specs.Boundary.{bytesOf, roomForNumbers, resultAfter, ListCall, callOf, checkCall, listCall, sheetCall, priceCallOf, priceCall}
 use Rattle.definitions.specs.Boundary.{askedByLentWrite, lineCallOf, lineCall}
 use Rattle.definitions.specs.Isolation.{yieldNumber}
-use Rattle.theorems.specs.Answers.{numbers, allYes, Numbered, Says, says, yes-then, no-then}
+use Rattle.theorems.specs.Answers.{numbers, Numbered, Says, says, yes-then, no-then}
 use Rattle.theorems.specs.Writing.{written-is}
 
 -- ---- the questions of each entry, by number, whatever the file

@@ -1,6 +1,6 @@
 -- Demand 1: a file that check refuses is refused with the same number by every entry, by every call from C and in print.
 use mathlib.Core.Path.{ap, _∙_}
-use Rattle.definitions.specs.Basics.{ℕ, suc, _≡_, Bool, true, List, [], _∷_, _++_, text}
+use Rattle.definitions.specs.Basics.{ℕ, suc, _≡_, Bool, true, List, [], _∷_, text}
 use Rattle.definitions.specs.Spelling.{decimal, line as spelledLine}
 use Rattle.definitions.specs.Plans.{Plan}
 use Rattle.definitions.specs.Questions.{Asks, firstNo, entryAsks, callAsks, regionOf, roomForRows, areasLongEnough, clinicPresent}

@@ -3,12 +3,12 @@ use mathlib.Core.Path.{sym, ap, _∙_}
 use mathlib.Core.Logic.{_↔_}
 use mathlib.Core.Bool.{true≢false}
 use native.Mathlib.Omega.{arith}
-use Rattle.definitions.specs.Basics.{ℕ, _<_, _≡_, refl, Bool, true, _&&_, List, [], _∷_, _++_, map, length}
+use Rattle.definitions.specs.Basics.{ℕ, _<_, _≡_, refl, true, _&&_, List, [], _∷_, _++_, map, length}
 use Rattle.definitions.specs.Syntax.{Region}
 use Rattle.definitions.specs.Plans.{Plan, Row, listOf}
 use Rattle.definitions.specs.Sheets.{part, sheetOf}
 use Rattle.definitions.specs.Questions.{Asked, regionOf, checkOf, clinicPresent, roomForRows, areasLongEnough, planAllowed}
-use Rattle.definitions.specs.Questions.{entryAsks, callAsks, askedByCheck, askedByList, askedBySheet}
+use Rattle.definitions.specs.Questions.{askedByCheck, askedByList, askedBySheet}
 use Rattle.definitions.specs.Outcomes.{sheetOutcome}
 use Rattle.definitions.specs.Boundary.{roomForNumbers, sheetCall}
 use Rattle.definitions.specs.Isolation.{YieldsList}

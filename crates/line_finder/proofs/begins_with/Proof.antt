@@ -1,6 +1,5 @@
 use borrow.Author.Needs.{needs}
 use mathlib.Core.Path.{sym, ap, _∙_}
-use denote.Ref.{now}
 use Rattle.definitions.specs.Basics.{isSome}
 use Rattle.scanner.specs.Answers.{passed, there, missing}
 use Rattle.line_finder.proofs.Openings.{no-word, no-members, members-there}

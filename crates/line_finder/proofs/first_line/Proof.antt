@@ -3,7 +3,6 @@ use mathlib.Core.Path.{sym, ap, _∙_}
 use native.Mathlib.Omega.{arith}
 use Prim.Native.Nat.{_-_}
 use lib.ListN.{length}
-use denote.Ref.{now}
 use Rattle.definitions.specs.Lookup.{LineOutcome}
 use Rattle.theorems.specs.Lookup.{begins}
 use Rattle.line_finder.proofs.Searching.{Searching, searching-start, further, found-here, searching-on, none-found}
