@@ -15,6 +15,15 @@ extern "C" {
         result_length: usize,
     ) -> u64;
 
+    fn rigbasen_line(
+        file: *const u8,
+        file_length: usize,
+        typed: *const u8,
+        typed_length: usize,
+        result: *mut u8,
+        result_length: usize,
+    ) -> u64;
+
     fn rigbasen_list(
         file: *const u8,
         file_length: usize,
@@ -63,6 +72,12 @@ pub fn check(file: &[u8]) -> u64 {
 pub fn price(file: &[u8], plan: &[u8], result: &mut [u8]) -> u64 {
     // Each pointer and length are those of one slice, and the slices do not overlap.
     unsafe { rigbasen_price(file.as_ptr(), file.len(), plan.as_ptr(), plan.len(), result.as_mut_ptr(), result.len()) }
+}
+
+/// Line's number; the result area has two numbers, where the line starts in the file and its length.
+pub fn line(file: &[u8], typed: &[u8], result: &mut [u8]) -> u64 {
+    // Each pointer and length are those of one slice, and the slices do not overlap.
+    unsafe { rigbasen_line(file.as_ptr(), file.len(), typed.as_ptr(), typed.len(), result.as_mut_ptr(), result.len()) }
 }
 
 /// List's number; the result area has one number, the row count.

@@ -1,0 +1,143 @@
+//! Members as they are typed: good lists, lists that no table may have, and texts that are no list.
+
+use crate::generate::spelling;
+use crate::limits::{HIGHEST_NUMBER, MOST_DIGITS};
+use crate::random::Random;
+use crate::region::{Region, Table};
+
+/// The text of a member list.
+pub fn text_of(members: &[u64]) -> Vec<u8> {
+    let members: Vec<String> = members.iter().map(u64::to_string).collect();
+    format!("({})", members.join(" ")).into_bytes()
+}
+
+/// A text for any call: mostly the members of a table of the region, where it has one.
+pub fn any(region: Option<&Region>, random: &mut Random) -> Vec<u8> {
+    let members = match region {
+        Some(region) if !region.tables.is_empty() => region.tables[random.below(region.tables.len())].members.clone(),
+        _ => vec![0, 1],
+    };
+    match random.below(4) {
+        0 => random_text(random),
+        1 => random.pick(&[&b""[..], b"(0", b"0 1", b"(0 1)\n", b"(00)"]).to_vec(),
+        _ => text_of(&members),
+    }
+}
+
+/// Bytes, most of them such as stand in a member list.
+pub fn random_text(random: &mut Random) -> Vec<u8> {
+    let length = random.below(12);
+    let mut text: Vec<u8> = (0..length).map(|_| random.pick(b"0123456789 () -\n")).collect();
+    if random.chance(60) {
+        text.insert(0, b'(');
+        text.push(b')');
+    }
+    text
+}
+
+/// Member lists beside one of a region with so many patients: other orders, fewer and more members, others, and such as nobody is.
+pub fn beside(members: &[u64], patients: u64, random: &mut Random) -> Vec<Vec<u64>> {
+    let mut lists = vec![
+        members.iter().rev().copied().collect(),
+        members[..members.len() - 1].to_vec(),
+        members[1..].to_vec(),
+        [members, &members[..1]].concat(),
+        [members, members, members].concat(),
+        [members, &[patients]].concat(),
+        [&[0], members].concat(),
+        (0..5).collect(),
+        vec![patients],
+        vec![HIGHEST_NUMBER; random.between(1, 9) as usize],
+    ];
+    lists.extend(numbers_beside(members, patients, random));
+    lists.retain(|list: &Vec<u64>| !list.is_empty());
+    lists
+}
+
+/// One member becomes another: a neighbour, one that is taken for it where numbers are cut, or one that shares its digits.
+fn numbers_beside(members: &[u64], patients: u64, random: &mut Random) -> Vec<Vec<u64>> {
+    let place = random.below(members.len());
+    let member = members[place];
+    let digit = random.between(0, 9);
+    let others = [
+        member + 1,
+        member.saturating_sub(1),
+        member / 10,
+        member * 10 + digit,
+        member + 32,
+        member + 256,
+        member + 65_536,
+        random.between(0, patients),
+    ];
+    let with = |other: u64| [&members[..place], &[other], &members[place + 1..]].concat();
+    others.into_iter().map(with).collect()
+}
+
+/// Texts of a table's members that have not the layout of a list, whatever the members are.
+pub fn spoiled(table: &Table, random: &mut Random) -> Vec<Vec<u8>> {
+    let text = text_of(&table.members);
+    let inside = &text[1..text.len() - 1];
+    let first = table.members[0].to_string();
+    let after_first = &inside[first.len()..];
+    let line = spelling::table_line(table).into_bytes();
+    let other = random.pick(b"\0\t\n\r,;[]{}<>.+_:'\"aXz/\x7f\x80\xff");
+    vec![
+        Vec::new(),
+        b"()".to_vec(),
+        b"( )".to_vec(),
+        inside.to_vec(),
+        text[1..].to_vec(),
+        text[..text.len() - 1].to_vec(),
+        [b"(", &text[..], b")"].concat(),
+        [b"( ", inside, b")"].concat(),
+        [b"(", inside, b" )"].concat(),
+        [b" ", &text[..]].concat(),
+        [&text[..], b" "].concat(),
+        [&text[..], b"\n"].concat(),
+        [&text[..], b"\r\n"].concat(),
+        [b"\n", &text[..]].concat(),
+        [&text[..], b"\0"].concat(),
+        [&text[..], &[other]].concat(),
+        [b"(", inside, &[other][..], b")"].concat(),
+        [&text[..], &text[..]].concat(),
+        [&text[..], b" ", &text[..]].concat(),
+        [b"(", inside, b"  ", inside, b")"].concat(),
+        [b"(", inside, b",", inside, b")"].concat(),
+        [b"(", inside, b")(", inside, b")"].concat(),
+        [b"(0", inside, b")"].concat(),
+        [b"(", inside, b" 00)"].concat(),
+        [b"(+", inside, b")"].concat(),
+        [b"(-", inside, b")"].concat(),
+        [b"(", inside, b" -)"].concat(),
+        [b"(-", after_first, b")"].concat(),
+        [format!("({}", "1".repeat(MOST_DIGITS + 1)).as_bytes(), after_first, b")"].concat(),
+        [b"(", inside, b" 10000000)"].concat(),
+        [b"(", inside, b" 18446744073709551616)"].concat(),
+        [b"(cost ", &text[..]].concat(),
+        [b"(cost ", &text[..], b" ("].concat(),
+        line.clone(),
+        line[..line.len() - 1].to_vec(),
+        line[b"(cost ".len()..line.len() - 2].to_vec(),
+    ]
+}
+
+/// A good list of exactly so many bytes (at least 3), which may be thousands of members.
+pub fn of_length(length: usize, random: &mut Random) -> Vec<u8> {
+    let mut text = b"(".to_vec();
+    while text.len() + 1 < length {
+        let missing = length - 1 - text.len();
+        let space = usize::from(text.len() > 1);
+        // What is left over must be another member with its space, or nothing.
+        let digits = match missing - space {
+            few if few <= MOST_DIGITS => few,
+            few if few == MOST_DIGITS + 1 => MOST_DIGITS - 1,
+            _ => random.between(1, MOST_DIGITS as u64) as usize,
+        };
+        let lowest = if digits == 1 { 0 } else { 10u64.pow(digits as u32 - 1) };
+        let number = random.between(lowest, 10u64.pow(digits as u32) - 1);
+        text.extend(&b" "[..space]);
+        text.extend(number.to_string().bytes());
+    }
+    text.push(b')');
+    text
+}
