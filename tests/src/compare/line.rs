@@ -233,21 +233,12 @@ pub fn changed_texts(tested: Tested<LineCall>, seed: u64, _: usize) -> Result<Ta
     let mut tally = Tally::of(&format!("{}, changed texts", tested.name));
     let mut random = Random::of(seed, "line, changed texts");
     let many = small::region(small::Kind::OneBed, &mut random);
-    let files = [paper::PRINTED.as_bytes().to_vec(), spelling::file_of(&many)];
-    for (file, good) in files.iter().flat_map(|file| [(file, &b"(0 1)"[..]), (file, b"(1)"), (file, b"(10 31 9999999)")]) {
-        let lines = Lines::of(file);
-        let mut compare_text = |text: &[u8]| compare_near(&mut tally, tested, (file, &lines), text, &mut random);
-        for place in 0..=good.len() {
-            compare_text(&good[..place])?;
-            compare_text(&good[place..])?;
-            for byte in 0..=255 {
-                compare_text(&[&good[..place], &[byte], &good[place..]].concat())?;
-                let behind = good.get(place + 1..).unwrap_or_default();
-                compare_text(&[&good[..place], &[byte], behind].concat())?;
+    for file in [paper::PRINTED.as_bytes().to_vec(), spelling::file_of(&many)] {
+        let lines = Lines::of(&file);
+        for good in [&b"(0 1)"[..], b"(1)", b"(10 31 9999999)"] {
+            for typed in typed::changed(good) {
+                compare_near(&mut tally, tested, (&file, &lines), &typed, &mut random)?;
             }
-        }
-        for place in 0..good.len() {
-            compare_text(&[&good[..place], &good[place + 1..]].concat())?;
         }
     }
     tally.with_all(&[0, 12, 21])

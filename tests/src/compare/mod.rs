@@ -8,6 +8,7 @@ pub mod large;
 pub mod line;
 pub mod list;
 pub mod paper;
+pub mod part;
 pub mod price;
 pub mod printing;
 pub mod report;
@@ -16,6 +17,7 @@ pub mod write;
 pub mod wrong;
 
 use crate::areas::{Areas, Outputs};
+use crate::boundary::Part;
 use crate::generate::small;
 use crate::lent::Lent;
 use crate::{baseline, boundary};
@@ -37,6 +39,9 @@ pub type LineCall = fn(&[u8], &[u8], &mut [u8]) -> u64;
 pub type ListCall = fn(&[u8], &mut Areas) -> u64;
 pub type SheetCall = fn(&[u8], u64, &mut Areas) -> u64;
 pub type WriteCall = fn(&Lent, &mut Outputs) -> u64;
+
+/// The entry behind line: its number, and the part that it hands back.
+pub type PartCall = fn(&[u8], &[u8]) -> (u64, Option<Part>);
 
 /// The six calls of one program.
 #[derive(Clone, Copy)]
@@ -60,6 +65,9 @@ pub const LIBRARY: Calls = Calls {
     write: Tested { name: "write", call: boundary::write },
 };
 
+/// What line's entry hands back to a caller in Rattle.
+pub const LINE_PART: Tested<PartCall> = Tested { name: "line's part", call: boundary::line_part };
+
 pub const BASELINE: Calls = Calls {
     name: "baseline every call",
     check: Tested { name: "baseline check", call: baseline::calls::check },
@@ -76,7 +84,7 @@ pub fn run_all(seed: u64, count: usize, printer: Option<&Path>) -> Result<(), Di
     thread::scope(|scope| {
         let beside = scope.spawn(move || run_beside(seed, count, printer));
         let mut tallies = run_calls(LIBRARY, seed, count, Tally::print)?;
-        for tally in run_large(seed, count)? {
+        for tally in run_large(seed, count)?.into_iter().chain(run_parts(seed, count)?) {
             tally.print();
             tallies.push(tally);
         }
@@ -92,6 +100,11 @@ fn run_large(seed: u64, count: usize) -> Result<[Tally; 3], Difference> {
     let lists = large::lists(LIBRARY.list, seed, count / 10)?;
     let sheets = large::sheets(LIBRARY.sheet, seed, count / 10)?;
     Ok([lists, sheets, clinic_pairs::apart_large(LIBRARY.sheet, seed, count / 2)?])
+}
+
+/// The entry behind line, which only the proved library has.
+fn run_parts(seed: u64, count: usize) -> Result<[Tally; 2], Difference> {
+    Ok([part::regions(LINE_PART, seed, count)?, part::faulty_files(LINE_PART, seed, count)?])
 }
 
 fn run_beside(seed: u64, count: usize, printer: Option<&Path>) -> Result<Vec<Tally>, Difference> {
@@ -151,6 +164,8 @@ fn run_few_lines(seed: u64) -> Result<(), Difference> {
     line::long_texts(BARE.line, seed, 6)?.print();
     line::faulty_files(BARE.line, seed, 24)?.print();
     line::all_lengths(BARE.line, seed, 1)?.print();
+    part::regions(LINE_PART, seed, 24)?.print();
+    part::faulty_files(LINE_PART, seed, 24)?.print();
     Ok(())
 }
 

@@ -121,6 +121,21 @@ pub fn spoiled(table: &Table, random: &mut Random) -> Vec<Vec<u8>> {
     ]
 }
 
+/// All texts that are one byte, or a cut at one of its ends, away from this one.
+pub fn changed(good: &[u8]) -> Vec<Vec<u8>> {
+    let mut texts = Vec::new();
+    for place in 0..=good.len() {
+        let (before, from) = good.split_at(place);
+        let behind = from.get(1..).unwrap_or_default();
+        texts.extend([before.to_vec(), from.to_vec(), [before, behind].concat()]);
+        for byte in 0..=255 {
+            texts.push([before, &[byte], from].concat());
+            texts.push([before, &[byte], behind].concat());
+        }
+    }
+    texts
+}
+
 /// A good list of exactly so many bytes (at least 3), which may be thousands of members.
 pub fn of_length(length: usize, random: &mut Random) -> Vec<u8> {
     let mut text = b"(".to_vec();

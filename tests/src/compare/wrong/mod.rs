@@ -5,6 +5,7 @@ mod checks;
 mod fixed_beds;
 mod lines;
 mod lists;
+mod parts;
 mod prices;
 mod sheets;
 mod texts;
@@ -12,8 +13,10 @@ mod writes;
 
 use crate::compare::printing::{self, Text};
 use crate::compare::report::{Difference, Tally};
-use crate::compare::{check, clinic_pairs, every_call, large, line, list, price, sheet, write};
-use crate::compare::{Calls, CheckCall, LineCall, ListCall, PriceCall, SheetCall, Tested, WriteCall, LIBRARY};
+use crate::compare::{check, clinic_pairs, every_call, large, line, list, part, price, sheet, write};
+use crate::compare::{
+    Calls, CheckCall, LineCall, ListCall, PartCall, PriceCall, SheetCall, Tested, WriteCall, LIBRARY,
+};
 use crate::generate::small::{Kind, KINDS};
 
 /// A comparison of one call, with a seed and a count.
@@ -48,6 +51,9 @@ pub fn run() -> Result<Tally, Difference> {
         found(&mut tally, name, comparison(Tested { name, call }, SEED, COUNT))?;
     }
     for (name, comparison, call) in wrong_lines().into_iter().chain(wrong_texts_taken()).chain(misasked_lines()) {
+        found(&mut tally, name, comparison(Tested { name, call }, SEED, COUNT))?;
+    }
+    for (name, comparison, call) in wrong_parts() {
         found(&mut tally, name, comparison(Tested { name, call }, SEED, COUNT))?;
     }
     for (name, comparison, calls) in wrong_calls() {
@@ -397,6 +403,18 @@ fn misasked_lines() -> Vec<(&'static str, Comparison<LineCall>, LineCall)> {
         ("24 bytes of result are asked for", line::all_lengths, lines::longer_result_asked),
         ("a short result area is written", line::all_lengths, lines::short_result_written),
         ("a byte after the result is written", line::all_lengths, lines::behind_result_written),
+    ]
+}
+
+/// Parts that are not those of the file.
+fn wrong_parts() -> Vec<(&'static str, Comparison<PartCall>, PartCall)> {
+    vec![
+        ("a copy is handed back", part::regions, parts::copied),
+        ("a copy is handed back", part::faulty_files, parts::copied),
+        ("a part of the typed text is handed back", part::regions, parts::of_the_typed_text),
+        ("an empty part elsewhere", part::regions, parts::empty_elsewhere),
+        ("an empty part elsewhere", part::faulty_files, parts::empty_elsewhere),
+        ("nothing is handed back", part::faulty_files, parts::nothing),
     ]
 }
 
