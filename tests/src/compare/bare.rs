@@ -3,7 +3,7 @@
 
 use crate::areas::{Areas, Outputs};
 use crate::boundary;
-use crate::compare::{Calls, Tested};
+use crate::compare::{Calls, PartCall, Tested};
 use crate::lent::Lent;
 
 pub const BARE: Calls = Calls {
@@ -15,6 +15,9 @@ pub const BARE: Calls = Calls {
     sheet: Tested { name: "few, sheet", call: sheet },
     write: Tested { name: "few, write", call: write },
 };
+
+/// Its comparison lends such blocks itself.
+pub const BARE_PART: Tested<PartCall> = Tested { name: "few, line's part", call: boundary::line_part };
 
 /// Calls with a copy of some bytes that are only to be read, and sees that they stay as they were.
 fn lending<Answer>(bytes: &[u8], call: impl FnOnce(&[u8]) -> Answer) -> Answer {

@@ -21,7 +21,7 @@ use crate::boundary::Part;
 use crate::generate::small;
 use crate::lent::Lent;
 use crate::{baseline, boundary};
-use bare::BARE;
+use bare::{BARE, BARE_PART};
 use report::{Difference, Tally};
 use std::path::Path;
 use std::thread;
@@ -164,8 +164,8 @@ fn run_few_lines(seed: u64) -> Result<(), Difference> {
     line::long_texts(BARE.line, seed, 6)?.print();
     line::faulty_files(BARE.line, seed, 24)?.print();
     line::all_lengths(BARE.line, seed, 1)?.print();
-    part::regions(LINE_PART, seed, 24)?.print();
-    part::faulty_files(LINE_PART, seed, 24)?.print();
+    part::regions(BARE_PART, seed, 24)?.print();
+    part::faulty_files(BARE_PART, seed, 24)?.print();
     Ok(())
 }
 

@@ -8,7 +8,7 @@ use crate::numbers;
 use crate::outcomes::Lines;
 use crate::random::Random;
 
-/// One call of the entry: its number, and the place and length of the part.
+/// One call of the entry, in memory blocks of exactly the lengths: its number, and the place and length of the part.
 fn compare(
     tally: &mut Tally,
     tested: Tested<PartCall>,
@@ -16,15 +16,17 @@ fn compare(
     typed: &[u8],
 ) -> Result<(), Difference> {
     let (number, start, size) = lines.entry(typed);
-    let expected = Part { address: file.as_ptr() as usize + start as usize, length: size as usize };
-    let (given_number, given) = (tested.call)(file, typed);
+    let (block, text): (Box<[u8]>, Box<[u8]>) = (file.into(), typed.into());
+    let begin = block.as_ptr() as usize;
+    let expected = Part { address: begin + start as usize, length: size as usize };
+    let (given_number, given) = (tested.call)(&block, &text);
     if given_number == number && given == Some(expected) {
         tally.count(number);
         return Ok(());
     }
     let answers = vec![
         ("typed".to_string(), readable(typed)),
-        ("the file lies at".to_string(), format!("{}", file.as_ptr() as usize)),
+        ("the file lies at".to_string(), begin.to_string()),
         ("independent program".to_string(), format!("{number}, {expected:?}")),
         (tested.name.to_string(), format!("{given_number}, {given:?}")),
     ];
