@@ -1,6 +1,7 @@
 // The answers of the entries, and document 01's number and values for each of their cases.
 ghost use mathlib.Core.Path.{_≡_};
 ghost use Rattle.answers.specs.Answers.{checkedNumber, refusalNumber, listedNumber, listedRows, sheetedNumber, sheetedRows, notAllowed, pricedOutcome, valuesOf, writtenNumber, writtenCount};
+ghost use Rattle.answers.specs.Rooms.{orTwelve};
 use held_region::Judged;
 use held_region::Refusal;
 
@@ -29,6 +30,13 @@ pub fn checked_number(answer: Judged) -> u64
         Judged::Fine => 0,
         Judged::Refused(refusal) => refusal_number(refusal),
     }
+}
+
+// The number of a call whose result area is too short: 12, unless one of the questions before it is answered no.
+pub fn or_twelve(number: u64) -> u64
+    ensures { λ r. ⌜ r ≡ orTwelve number ⌝ }
+{
+    if number == 0 { 12 } else { number }
 }
 
 // List's answer, with the row count. Short: question 12 is answered no. Nothing: question 13 is.

@@ -67,13 +67,12 @@ module _ (numbers result : List ℕ) where
   unfolding resultAfter
   result-short h = rw (lt-leb (length numbers * 8) (length result) h)
 
+-- Two numbers, one behind the other.
+pub pair-written : (a b : ℕ) (result : List ℕ) {first both : List ℕ} → first ≡ sets result 0 (bytesOf 8 a) → both ≡ sets first 8 (bytesOf 8 b)
+    → both ≡ written 0 8 (bytesOf 8) (a ∷ b ∷ []) result
+pair-written a b result one two = rw (two, one)
+
 -- A flag as a number, as the machine has it and as document 01 says it.
-flag-number : (b : Bool) → boolByte b ≡ cond b 1 0
+pub flag-number : (b : Bool) → boolByte b ≡ cond b 1 0
 flag-number true = refl
 flag-number false = refl
-
--- Whether a plan is allowed, and then its total.
-pub price-written : (allowed : Bool) (total : ℕ) (result : List ℕ) {first both : List ℕ}
-    → first ≡ sets result 0 (bytesOf 8 (boolByte allowed)) → both ≡ sets first 8 (bytesOf 8 total)
-    → both ≡ written 0 8 (bytesOf 8) (cond allowed 1 0 ∷ total ∷ []) result
-price-written allowed total result one two = rw (two, one, flag-number allowed)

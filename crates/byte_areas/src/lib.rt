@@ -74,15 +74,22 @@ pub fn store_count(result: &mut [u8], n: u64)
     store_number(result, 0, n);
 }
 
-// The result of price: allowed is 1, not allowed 0; then the total. A shorter area is untouched.
-pub fn store_price(result: &mut [u8], allowed: bool, total: u64)
-    ensures { λ _. ⌜ now (result .exit) ≡ resultAfter (cond allowed 1 0 ∷ total ∷ []) (now (result .entry)) ⌝ }
+// A result of two numbers: price's, or the start and the length of line's part. A shorter area is untouched.
+pub fn store_pair(result: &mut [u8], first: u64, second: u64)
+    ensures { λ _. ⌜ now (result .exit) ≡ resultAfter (first ∷ second ∷ []) (now (result .entry)) ⌝ }
 {
     if result.len() < 16 {
         return;
     }
-    store_number(result, 0, allowed as u64);
-    store_number(result, 8, total);
+    store_number(result, 0, first);
+    store_number(result, 8, second);
+}
+
+// The result of price: allowed is 1, not allowed 0; then the total.
+pub fn store_price(result: &mut [u8], allowed: bool, total: u64)
+    ensures { λ _. ⌜ now (result .exit) ≡ resultAfter (cond allowed 1 0 ∷ total ∷ []) (now (result .entry)) ⌝ }
+{
+    store_pair(result, allowed as u64, total);
 }
 
 // Lent as a slice, of which the length and the size of each number are known.

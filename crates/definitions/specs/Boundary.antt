@@ -50,15 +50,16 @@ sheetCall file clinic beds costs result =
     let asks = askedBySheet file clinic (roomForRows (regionOf file) 8 beds costs) in
     callOf (sheetFound file clinic (callAsks asks (roomForNumbers 1 result))) beds costs result
 
--- What price gives back: the number, and the result area with allowed (1, not allowed 0) and the total.
-pub record PriceCall : Type 0 where
+-- What price and line (#103) give back: the number, and the result area, which holds two numbers.
+pub record PairCall : Type 0 where
   pub number : ℕ
   pub result : List ℕ
 
-unfoldable pub priceCallOf : PriceOutcome → List ℕ → PriceCall
+-- Of price these are allowed (1, not allowed 0) and the total.
+unfoldable pub priceCallOf : PriceOutcome → List ℕ → PairCall
 priceCallOf p result = record { number = p .number; result = resultAfter (cond (p .allowed) 1 0 ∷ p .total ∷ []) result }
 
-unfoldable pub priceCall : List ℕ → Plan → List ℕ → PriceCall
+unfoldable pub priceCall : List ℕ → Plan → List ℕ → PairCall
 priceCall file plan result = priceCallOf (priceFound file plan (callAsks (askedByPrice file plan) (roomForNumbers 2 result))) result
 
 -- ---- the writer's call (#101)
@@ -140,17 +141,13 @@ writeCall patients tables entries m output result =
 
 -- ---- the call of line (#103)
 
--- What line gives back: the number, and the result area, which holds the start and the length of the part; zeros on a refusal.
-pub record LineCall : Type 0 where
-  pub number : ℕ
-  pub result : List ℕ
-
+-- The result area holds the start and the length of the part; zeros on a refusal.
 abbrev pub partNumbers : ℕ → FilePart → List ℕ
 partNumbers zero part = part .start ∷ part .size ∷ []
 partNumbers (suc q) part = 0 ∷ 0 ∷ []
 
-unfoldable pub lineCallOf : LineOutcome → List ℕ → LineCall
+unfoldable pub lineCallOf : LineOutcome → List ℕ → PairCall
 lineCallOf found result = record { number = found .number; result = resultAfter (partNumbers (found .number) (found .part)) result }
 
-unfoldable pub lineCall : List ℕ → List ℕ → List ℕ → LineCall
+unfoldable pub lineCall : List ℕ → List ℕ → List ℕ → PairCall
 lineCall file typed result = lineCallOf (lineFound file typed (callAsks (askedByLine file typed) (roomForNumbers 2 result))) result

@@ -9,7 +9,7 @@ use Rattle.definitions.specs.Sheets.{sheetOf}
 use Rattle.definitions.specs.Outcomes.{priceOutcome}
 use Rattle.definitions.specs.Writer.{writtenFile, WriteOutcome, writeOutcome}
 use Rattle.definitions.specs.Lookup.{bytesAt, LineOutcome, lineOutcome, partOf}
-use Rattle.definitions.specs.Boundary.{bytesOf, lentTableCount, WriteCall, writeCall, LineCall, lineCall}
+use Rattle.definitions.specs.Boundary.{bytesOf, lentTableCount, PairCall, WriteCall, writeCall, lineCall}
 use Rattle.definitions.specs.Computing.{everything}
 use Rattle.definitions.specs.Examples.{paperFile, patient, fixed, table, fileOf, row, lent, cleared, list, refusal, overOneAndTwo, allForbidden}
 use Rattle.definitions.specs.Cases.{paperRegion, eight}
@@ -207,7 +207,7 @@ line file typed = lineOutcome file (text typed)
 abbrev read : List ℕ → String → List ℕ
 read file typed = bytesAt (line file typed .part) file
 
-abbrev lineFromC : List ℕ → String → ℕ → LineCall
+abbrev lineFromC : List ℕ → String → ℕ → PairCall
 lineFromC file typed room = lineCall file (text typed) (lent room)
 
 -- Two patients, and tables over (0) with the entries 0 and 1, (0 1), (1), (0 1) again, and (1) again with the same line.

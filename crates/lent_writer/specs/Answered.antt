@@ -2,25 +2,22 @@
 use mathlib.Core.Path.{_≡_, refl, sym, ap, _∙_}
 use Rattle.definitions.specs.Basics.{ℕ, zero, suc, Bool, true, false, List, [], _∷_, _++_}
 use Rattle.definitions.specs.Syntax as Said
-use Rattle.definitions.specs.Questions.{Asked, firstNo, askedOfRegion, callAsks}
+use Rattle.definitions.specs.Questions.{Asked, firstNo, askedOfRegion, Asks, callAsks}
 use Rattle.definitions.specs.Writer.{regionFrom, asHeld, writtenFile, roomForFile, askedByWrite, madeBy, WriteOutcome, writeOutcomeOf, writeOutcome}
 use Rattle.definitions.specs.Boundary.{roomForNumbers, resultAfter, lentRegion, lentWhole, askedByLentWrite, WriteCall, writeCallOf, writeCall}
-use Rattle.theorems.specs.Answers.{says, yes-then, no-then, yes-between}
-use Rattle.theorems.specs.Writer.{made-with}
+use Rattle.theorems.specs.Answers.{no-then}
+use Rattle.theorems.specs.Writer.{outcomeWith, made-with}
 use Rattle.held_region.specs.Refusals.{asked, lastAsked}
 use Rattle.held_region.specs.StandsFor.{StandsFor}
-
--- The number after questions that gave one: theirs, or 12 where they gave 0.
-abbrev pub orTwelve : ℕ → ℕ
-orTwelve zero = 12
-orTwelve (suc q) = suc q
-
-pub some-number : (number n : ℕ) → number ≡ n → (number ≡ 0 → ⊥) → number ≡ orTwelve n
-some-number number zero e some-no = absurd (some-no e)
-some-number number (suc q) e some-no = e
+use Rattle.answers.specs.Rooms as rooms
+use Rattle.answers.specs.Rooms.{orTwelve}
 
 abbrev pub nothingWritten : ℕ → List ℕ → WriteOutcome
 nothingWritten number output = record { number = number; count = 0; output = output }
+
+nothing-written : (file output : List ℕ) (n : ℕ) → outcomeWith file output (orTwelve n) ≡ nothingWritten (orTwelve n) output
+nothing-written file output zero = refl
+nothing-written file output (suc q) = refl
 
 -- Values that are given back, and what they are.
 pub given-values : {given number counted count : ℕ} (output : List ℕ) → given ≡ number → counted ≡ count
@@ -49,8 +46,11 @@ module _ (patients tables entries : List ℕ) (m : ℕ) (output : List ℕ) wher
   abbrev region : Said.Region
   region = lentRegion patients tables entries m
 
+  abbrev lentAsks : Asks
+  lentAsks = askedByLentWrite patients tables entries m output
+
   unfoldable pub lentOutcome : Bool → WriteOutcome
-  lentOutcome room = writeOutcomeOf (madeBy (callAsks (askedByLentWrite patients tables entries m output) room) (writtenFile region)) output
+  lentOutcome room = writeOutcomeOf (madeBy (callAsks lentAsks room) (writtenFile region)) output
 
   -- A lent region is as it is held.
   lent-held : asHeld region ≡ region
@@ -61,7 +61,7 @@ module _ (patients tables entries : List ℕ) (m : ℕ) (output : List ℕ) wher
   pub not-whole : (room : Bool) → lentWhole patients tables entries ≡ false → nothingWritten 2 output ≡ lentOutcome room
   unfolding lentOutcome askedByLentWrite
   not-whole room no-two =
-      sym (made-with (callAsks (askedByLentWrite patients tables entries m output) room) (writtenFile region) output (ap (λ b. firstNo ((2, b) ∷ early ++ (12, room) ∷ later)) no-two))
+      sym (made-with (callAsks lentAsks room) (writtenFile region) output (ap (λ b. firstNo ((2, b) ∷ early ++ (12, room) ∷ later)) no-two))
     where
       early : Asked
       early = askedByWrite region output .first
@@ -77,33 +77,20 @@ module _ (patients tables entries : List ℕ) (m : ℕ) (output : List ℕ) wher
     abbrev later : Asked
     later = (15, roomForFile (writtenFile region) output) ∷ []
 
-    asks-these : (room : Bool) → lentOutcome room ≡ writeOutcomeOf (madeBy (early ++ (12, room) ∷ later) (writtenFile region)) output
-    unfolding lentOutcome askedByLentWrite askedByWrite
-    asks-these room =
-        made-with (callAsks (askedByLentWrite patients tables entries m output) room) (writtenFile region) output (ap (λ b. firstNo ((2, b) ∷ early ++ (12, room) ∷ later)) whole)
-        ∙ sym (made-with (early ++ (12, room) ∷ later) (writtenFile region) output refl)
-
     -- With room for the result, the writer answers.
     pub with-room : writeOutcome held output ≡ lentOutcome true
-    unfolding writeOutcome askedByWrite
+    unfolding lentOutcome writeOutcome writeOutcomeOf askedByLentWrite askedByWrite
     with-room =
         stands-outcome held region output stands as-held lent-held
-        ∙ sym (asks-these true ∙ made-with (early ++ (12, true) ∷ later) (writtenFile region) output (yes-between early later 12) ∙ sym (made-with (early ++ later) (writtenFile region) output refl))
+        ∙ sym (made-with (callAsks lentAsks true) (writtenFile region) output (rooms.with-room lentAsks ∙ ap (λ b. firstNo ((2, b) ∷ early ++ later)) whole))
 
     -- Without it, nothing is written.
     pub without-room : nothingWritten (orTwelve (firstNo (asked true held))) output ≡ lentOutcome false
-    without-room = ap (λ n. nothingWritten (orTwelve n) output) (same-asked held region output stands as-held lent-held ∙ sym same-early) ∙ sym (asks-these false ∙ go (firstNo early) refl)
-      where
-        same-early : firstNo early ≡ firstNo (askedOfRegion region)
-        same-early = ap (λ r. firstNo (askedOfRegion r)) lent-held
-
-        go : (n : ℕ) → firstNo early ≡ n → writeOutcomeOf (madeBy (early ++ (12, false) ∷ later) (writtenFile region)) output ≡ nothingWritten (orTwelve (firstNo early)) output
-        go zero e =
-            made-with (early ++ (12, false) ∷ later) (writtenFile region) output (yes-then early ((12, false) ∷ later) (says early tt .accepted .0 e))
-            ∙ ap (λ n. nothingWritten (orTwelve n) output) (sym e)
-        go (suc q) e =
-            made-with (early ++ (12, false) ∷ later) (writtenFile region) output (no-then early ((12, false) ∷ later) q e)
-            ∙ ap (λ n. nothingWritten (orTwelve n) output) (sym e)
+    unfolding lentOutcome askedByLentWrite askedByWrite
+    without-room =
+        let number : firstNo (callAsks lentAsks false) ≡ orTwelve (firstNo early) = rooms.without-room lentAsks tt ∙ ap (λ b. orTwelve (firstNo ((2, b) ∷ early))) whole in
+        ap (λ n. nothingWritten (orTwelve n) output) (same-asked held region output stands as-held lent-held ∙ sym (ap (λ r. firstNo (askedOfRegion r)) lent-held))
+        ∙ sym (made-with (callAsks lentAsks false) (writtenFile region) output number ∙ nothing-written (writtenFile region) output (firstNo early))
 
   -- With the result area, it is the call.
   pub called : {number count : ℕ} {after left : List ℕ} (result : List ℕ)

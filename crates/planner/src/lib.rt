@@ -1,7 +1,9 @@
 // The entries.
 ghost use mathlib.Core.Path.{_≡_};
+ghost use Rattle.definitions.specs.Basics.{length};
 ghost use Rattle.definitions.specs.Questions.{checkOf};
 ghost use Rattle.definitions.specs.Outcomes.{listOutcome, sheetOutcome, priceOutcome};
+ghost use Rattle.definitions.specs.Lookup.{lineOutcome, partOf};
 ghost use Rattle.answers.specs.Answers.{checkedNumber, listedOutcome, sheetedOutcome, pricedOutcome};
 use answers::Listed;
 use answers::Priced;
@@ -9,6 +11,7 @@ use answers::Sheeted;
 use clinic_sheet::sheet_loaded;
 use held_region::FORBIDDEN;
 use held_region::Judged;
+use line_finder::find_line;
 use reader::load;
 use region_answers::list_loaded;
 use region_answers::price_region;
@@ -65,4 +68,15 @@ pub fn price(file: &[u8], plan: &[u8]) -> Priced
         Judged::Refused(refusal) => Priced::Refused(refusal),
         Judged::Fine => price_region(read.region, &store, plan),
     }
+}
+
+// Questions 1 to 10 and 21, then the line over the typed members: that part of the file itself. The number goes to a lent place.
+pub fn line<'a>(file: &'a [u8], typed: &[u8], number: &mut u64) -> &'a [u8]
+    ensures { λ r. ⌜ record { number = now (number .exit); block = r .ptr .0; place = r .ptr .1; size = length (now r); bytes = now r } ≡ partOf (file .entry .ptr .0) (file .entry .ptr .1) (now (file .entry)) (lineOutcome (now (file .entry)) (now (typed .entry))) ⌝ }
+{
+    let found = find_line(file, typed);
+    *number = found.number;
+    let start = found.start;
+    let end = start + found.size;
+    &file[start..end]
 }

@@ -102,6 +102,25 @@ pub fn form_end_at(s: &[u8], at: usize) -> Passed
     }
 }
 
+// Exactly these bytes, whatever their classes.
+pub fn bytes_at(s: &[u8], at: usize, bytes: &[u8]) -> Passed
+    ensures { λ r. ⌜ ReadAt (exactly (now (bytes .entry))) (now (s .entry)) at (passed r) ⌝ }
+{
+    let mut i = at;
+    let mut k = 0;
+    while k < bytes.len() {
+        if i >= s.len() {
+            return Passed::Nothing;
+        }
+        if bytes[k] != s[i] {
+            return Passed::Nothing;
+        }
+        i += 1;
+        k += 1;
+    }
+    Passed::At(i)
+}
+
 // Exactly these letters.
 fn letters_at(s: &[u8], at: usize, letters: &[u8]) -> Passed
     requires { ⌜ every isLetter (now letters) ≡ true ⌝ }

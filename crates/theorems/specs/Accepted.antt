@@ -88,7 +88,7 @@ unfolding limits
 most-total = refl
 
 -- The file says its region.
-some-of : {A : Type 0} (o : Option A) (d : A) → isSome o ≡ true → o ≡ some (Option·getD o d)
+pub some-of : {A : Type 0} (o : Option A) (d : A) → isSome o ≡ true → o ≡ some (Option·getD o d)
 some-of none d e = absurd (true≢false (sym e))
 some-of (some a) d e = refl
 

@@ -120,7 +120,7 @@ hyphen-in-item : (p : Option ℕ) → every inItem (hyphenOrDecimal p) ≡ true
 hyphen-in-item none = refl
 hyphen-in-item (some n) = decimal-in-item n
 
-members-read : Reads (items number) (λ l. bracketed (map decimal l)) (someAll spellable) Anything
+pub members-read : Reads (items number) (λ l. bracketed (map decimal l)) (someAll spellable) Anything
 members-read = items-reads number (whole-takes number-reads tt) decimal-in-item
 
 entries-read : Reads (items hyphenOrNumber) (λ l. bracketed (map hyphenOrDecimal l)) (someAll (noneOr spellable)) Anything

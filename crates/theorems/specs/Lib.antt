@@ -30,3 +30,4 @@ pub mod PlanAllowed
 pub mod Lengths
 pub mod Writer
 pub mod Lending
+pub mod Lookup

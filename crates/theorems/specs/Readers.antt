@@ -76,6 +76,12 @@ pub gives-only : {I A : Type 0} {b : A} {xs ys : List I} (o : Option A) → give
 gives-only none e = absurd (Option·none-ne-some _ e)
 gives-only {A = A} (some a) e = let same = gives-same e in (ap {B = Option A} some (same .0), same .1)
 
+-- Of two spellings at the front of one list, both are the same.
+pub one-front : {I A : Type 0} {reader : Reader I A} {spell : A → List I} {ok : A → Bool} → Reads reader spell ok Anything
+    → {a b : A} (more rest : List I) → ok a ≡ true → ok b ≡ true → spell a ++ more ≡ spell b ++ rest → a ≡ b
+one-front {reader = reader} law {a} {b} more rest ok-a ok-b e =
+    gives-same (sym (law .each a more ok-a tt) ∙ ap reader e ∙ law .each b rest ok-b tt) .0
+
 -- Where `many` stops, and where it goes on.
 module _ {I A : Type 0} (f : I → Option A) (x : I) (xs : List I) where
   many-stop : f x ≡ none → many f (x ∷ xs) ≡ give [] (x ∷ xs)
@@ -162,7 +168,7 @@ passing-reads test =
       each = λ l rest ok h. ap (λ (m : List ℕ). many (passing test) (m ++ rest)) (sym (map-id l)) ∙ law .each l rest ok h;
     }
 
-exactly-reads : (bytes : List ℕ) → Reads (exactly bytes) (λ u. bytes) (λ u. true) Anything
+pub exactly-reads : (bytes : List ℕ) → Reads (exactly bytes) (λ u. bytes) (λ u. true) Anything
 exactly-reads bytes = record { only = λ {xs} e. (refl, only-these bytes e); each = λ u rest ok h. these bytes rest }
   where
     only-these : (bytes : List ℕ) {xs rest : List ℕ} {u : Unit {0}} → exactly bytes xs ≡ some (u, rest) → xs ≡ bytes ++ rest

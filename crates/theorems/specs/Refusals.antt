@@ -15,8 +15,9 @@ use Rattle.definitions.specs.Questions.{Asks, entryAsks, callAsks, askedByList,
 use Rattle.definitions.specs.Outcomes.{Found, unlessRefused, listFound, sheetFound, written, workAfter}
 use Rattle.definitions.specs.Outcomes.{ListOutcome, outcomeOf, listOutcome, sheetOutcome, PriceOutcome, priced, priceFound, priceOutcome}
 use Rattle.definitions.specs.Writer.{askedByWrite}
-use Rattle.definitions.specs.Boundary.{askedByLentWrite}
+use Rattle.definitions.specs.Lookup.{lineOver, askedByLine, partUnlessRefused, lineFound, lineOutcome}
 use Rattle.definitions.specs.Boundary.{bytesOf, roomForNumbers, resultAfter, ListCall, callOf, checkCall, listCall, sheetCall, priceCallOf, priceCall}
+use Rattle.definitions.specs.Boundary.{askedByLentWrite, lineCallOf, lineCall}
 use Rattle.definitions.specs.Isolation.{yieldNumber}
 use Rattle.theorems.specs.Answers.{numbers, allYes, Numbered, Says, says, yes-then, no-then}
 use Rattle.theorems.specs.Writing.{written-is}
@@ -34,26 +35,30 @@ pub record EachAsks : Type 0 where
   pub list : (file : List ℕ) (longEnough : Bool) → numbers (entryAsks (askedByList file longEnough)) ≡ oneToTen ++ 12 ∷ 13 ∷ []
   pub sheet : (file : List ℕ) (c : ℕ) (longEnough : Bool) → numbers (entryAsks (askedBySheet file c longEnough)) ≡ oneToTen ++ 11 ∷ 12 ∷ 13 ∷ []
   pub price : (file : List ℕ) (plan : Plan) → numbers (entryAsks (askedByPrice file plan)) ≡ oneToTen ++ 14 ∷ []
+  pub line : (file typed : List ℕ) → numbers (entryAsks (askedByLine file typed)) ≡ oneToTen ++ 21 ∷ []
   -- From C, 12 is asked of the result area first.
   pub listFromC : (file : List ℕ) (longEnough room : Bool) → numbers (callAsks (askedByList file longEnough) room) ≡ oneToTen ++ 12 ∷ 12 ∷ 13 ∷ []
   pub sheetFromC : (file : List ℕ) (c : ℕ) (longEnough room : Bool)
       → numbers (callAsks (askedBySheet file c longEnough) room) ≡ oneToTen ++ 11 ∷ 12 ∷ 12 ∷ 13 ∷ []
   pub priceFromC : (file : List ℕ) (plan : Plan) (room : Bool) → numbers (callAsks (askedByPrice file plan) room) ≡ oneToTen ++ 12 ∷ 14 ∷ []
+  pub lineFromC : (file typed : List ℕ) (room : Bool) → numbers (callAsks (askedByLine file typed) room) ≡ oneToTen ++ 12 ∷ 21 ∷ []
   -- The writer has no file to read; from C, 2 is asked of the areas that hold the region.
   pub write : (r : Region) (output : List ℕ) → numbers (entryAsks (askedByWrite r output)) ≡ fiveToTen ++ 15 ∷ []
   pub writeFromC : (patients tables entries : List ℕ) (m : ℕ) (output : List ℕ) (room : Bool)
       → numbers (callAsks (askedByLentWrite patients tables entries m output) room) ≡ 2 ∷ fiveToTen ++ 12 ∷ 15 ∷ []
 
 pub each-asks : EachAsks
-unfolding askedByCheck askedByList askedBySheet askedByPrice askedByWrite askedByLentWrite
+unfolding askedByCheck askedByList askedBySheet askedByPrice askedByLine askedByWrite askedByLentWrite
 each-asks = record {
   check = λ file. refl;
   list = λ file l. refl;
   sheet = λ file c l. refl;
   price = λ file p. refl;
+  line = λ file typed. refl;
   listFromC = λ file l room. refl;
   sheetFromC = λ file c l room. refl;
   priceFromC = λ file p room. refl;
+  lineFromC = λ file typed room. refl;
   write = λ r output. refl;
   writeFromC = λ ps ts es m output room. refl;
 }
@@ -80,7 +85,11 @@ module _ (file : List ℕ) where
   unfolding sheetOutcome outcomeOf sheetFound askedBySheet askedByCheck
   sheet-says c beds costs work = says (entryAsks (askedBySheet file c (areasLongEnough (regionOf file) beds costs work))) tt
 
-  -- The calls of check, list and sheet from C.
+  pub line-says : (typed : List ℕ) → Says (entryAsks (askedByLine file typed)) (lineOutcome file typed .number)
+  unfolding lineOutcome lineFound askedByLine askedByCheck
+  line-says typed = says (entryAsks (askedByLine file typed)) tt
+
+  -- The calls of check, list, sheet and line from C.
   pub check-call-says : Says (askedByCheck file) (checkCall file)
   check-call-says = check-says
 
@@ -93,6 +102,11 @@ module _ (file : List ℕ) where
       → Says (callAsks (askedBySheet file c (roomForRows (regionOf file) 8 beds costs)) (roomForNumbers 1 result)) (sheetCall file c beds costs result .number)
   unfolding sheetCall callOf sheetFound askedBySheet askedByCheck
   sheet-call-says c beds costs result = says (callAsks (askedBySheet file c (roomForRows (regionOf file) 8 beds costs)) (roomForNumbers 1 result)) tt
+
+  pub line-call-says : (typed result : List ℕ)
+      → Says (callAsks (askedByLine file typed) (roomForNumbers 2 result)) (lineCall file typed result .number)
+  unfolding lineCall lineCallOf lineFound askedByLine askedByCheck
+  line-call-says typed result = says (callAsks (askedByLine file typed) (roomForNumbers 2 result)) tt
 
 -- Price and its call.
 priced-number : (q : ℕ) (t : Option ℕ) → priced q t .number ≡ q
@@ -265,3 +279,15 @@ unfolding priceCall priceCallOf
 price-call-refused file plan result q e =
     let r = found-refused file plan (callAsks (askedByPrice file plan) (roomForNumbers 2 result)) q e in
     rw (r .notAllowed, r .noTotal) (result-zeroed 2 result)
+
+-- ---- where no line is handed back, the part is the empty one at the file's end
+
+pub line-refused : (file typed : List ℕ) (q : ℕ) → lineOutcome file typed .number ≡ suc q
+    → lineOutcome file typed .part ≡ record { start = length file; size = 0 }
+unfolding lineOutcome lineFound
+line-refused file typed q e = ap (λ (n : ℕ). partUnlessRefused n file (lineOver file typed)) e
+
+pub line-call-refused : (file typed result : List ℕ) (q : ℕ) → lineCall file typed result .number ≡ suc q
+    → ResultZeroed 2 result (lineCall file typed result .result)
+unfolding lineCall lineCallOf
+line-call-refused file typed result q e = rw e (result-zeroed 2 result)

@@ -1,27 +1,30 @@
 -- Demand 1: a file that check refuses is refused with the same number by every entry, by every call from C and in print.
 use mathlib.Core.Path.{ap, _∙_}
 use Rattle.definitions.specs.Basics.{ℕ, suc, _≡_, Bool, true, List, [], _∷_, _++_, text}
-use Rattle.definitions.specs.Spelling.{decimal, line}
+use Rattle.definitions.specs.Spelling.{decimal, line as spelledLine}
 use Rattle.definitions.specs.Plans.{Plan}
 use Rattle.definitions.specs.Questions.{Asks, firstNo, entryAsks, callAsks, regionOf, roomForRows, areasLongEnough, clinicPresent}
 use Rattle.definitions.specs.Questions.{checkOf, askedByList, askedBySheet, askedByPrice}
 use Rattle.definitions.specs.Outcomes.{outcomeOf, listFound, listOutcome, sheetFound, sheetOutcome, priceOutcome}
-use Rattle.definitions.specs.Boundary.{roomForNumbers, checkCall, callOf, listCall, sheetCall, priceCallOf, priceCall}
+use Rattle.definitions.specs.Lookup.{askedByLine, lineFound, lineOutcome}
+use Rattle.definitions.specs.Boundary.{roomForNumbers, checkCall, callOf, listCall, sheetCall, priceCallOf, priceCall, lineCallOf, lineCall}
 use Rattle.definitions.specs.Output.{printed, printedAnswer}
 use Rattle.theorems.specs.Answers.{no-then}
 use Rattle.theorems.specs.Refusals.{refused-before, price-number}
 
--- A file is refused with a number: by check, list, sheet and price, whatever is lent; by the calls from C; and in print.
+-- A file is refused with a number: by check, list, sheet, price and line, whatever is lent or typed; by the calls from C; and in print.
 pub record Refused (q : ℕ) (file : List ℕ) : Type 0 where
   pub check : checkOf file ≡ q
   pub list : (beds costs work : List ℕ) → listOutcome file beds costs work .number ≡ q
   pub sheet : (clinic : ℕ) (beds costs work : List ℕ) → sheetOutcome file clinic beds costs work .number ≡ q
   pub price : (plan : Plan) → priceOutcome file plan .number ≡ q
+  pub line : (typed : List ℕ) → lineOutcome file typed .number ≡ q
   pub checkFromC : checkCall file ≡ q
   pub listFromC : (beds costs result : List ℕ) → listCall file beds costs result .number ≡ q
   pub sheetFromC : (clinic : ℕ) (beds costs result : List ℕ) → sheetCall file clinic beds costs result .number ≡ q
   pub priceFromC : (plan : Plan) (result : List ℕ) → priceCall file plan result .number ≡ q
-  pub print : printed file ≡ line (text "refused" ∷ decimal q ∷ [])
+  pub lineFromC : (typed result : List ℕ) → lineCall file typed result .number ≡ q
+  pub print : printed file ≡ spelledLine (text "refused" ∷ decimal q ∷ [])
 
 -- What an entry asks first decides, for the entry and for its call.
 module _ (asks : Asks) (q : ℕ) (no : firstNo (asks .first) ≡ suc q) where
@@ -44,17 +47,23 @@ module _ (file : List ℕ) (q : ℕ) (refused : checkOf file ≡ suc q) where
   unfolding askedByPrice checkOf
   price-first-no plan = refused
 
+  line-first-no : (typed : List ℕ) → firstNo (askedByLine file typed .first) ≡ suc q
+  unfolding askedByLine checkOf
+  line-first-no typed = refused
+
   pub refused-alike : Refused (suc q) file
-  unfolding listOutcome sheetOutcome priceOutcome outcomeOf listFound sheetFound listCall sheetCall priceCall callOf priceCallOf printed
+  unfolding listOutcome sheetOutcome priceOutcome lineOutcome outcomeOf listFound sheetFound lineFound listCall sheetCall priceCall lineCall callOf priceCallOf lineCallOf printed
   refused-alike = record {
     check = refused;
     list = λ beds costs work. entry-no (askedByList file (areasLongEnough (regionOf file) beds costs work)) q (list-first-no _);
     sheet = λ c beds costs work. entry-no (askedBySheet file c (areasLongEnough (regionOf file) beds costs work)) q (sheet-first-no c _);
     price = λ plan. price-number file plan (entryAsks (askedByPrice file plan)) ∙ entry-no (askedByPrice file plan) q (price-first-no plan);
+    line = λ typed. entry-no (askedByLine file typed) q (line-first-no typed);
     checkFromC = refused;
     listFromC = λ beds costs result. call-no (askedByList file (roomForRows (regionOf file) 8 beds costs)) q (list-first-no _) (roomForNumbers 1 result);
     sheetFromC = λ c beds costs result. call-no (askedBySheet file c (roomForRows (regionOf file) 8 beds costs)) q (sheet-first-no c _) (roomForNumbers 1 result);
     priceFromC = λ plan result.
         price-number file plan (callAsks (askedByPrice file plan) (roomForNumbers 2 result)) ∙ call-no (askedByPrice file plan) q (price-first-no plan) (roomForNumbers 2 result);
+    lineFromC = λ typed result. call-no (askedByLine file typed) q (line-first-no typed) (roomForNumbers 2 result);
     print = ap (λ n. printedAnswer n (regionOf file)) (entry-no (askedByList file true) q (list-first-no true));
   }

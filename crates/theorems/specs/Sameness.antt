@@ -43,6 +43,9 @@ list-tests {A} {f} tests = tests-equality only self
     self [] = refl
     self (x ∷ xs) = join (tests .same-alike x x refl) (self xs)
 
+pub numbers-tests : Tests (λ l. l) (same eqb)
+numbers-tests = list-tests number-tests
+
 -- Tables: the members and the entries agree one by one.
 abbrev pub sameTable : Table → Table → Bool
 sameTable t u = same eqb (t .members) (u .members) && same sameEntry (t .entries) (u .entries)
@@ -50,23 +53,20 @@ sameTable t u = same eqb (t .members) (u .members) && same sameEntry (t .entries
 pub table-tests : Tests (λ t. t) sameTable
 table-tests = tests-equality only self
   where
-    members : Tests (λ l. l) (same eqb)
-    members = list-tests number-tests
-
     entries : Tests (λ l. l) (same sameEntry)
     entries = list-tests entry-tests
 
     only : (t u : Table) → sameTable t u ≡ true → t ≡ u
     only t u e =
         let (p, q) = both (same eqb (t .members) (u .members)) e in
-        λ i. record { members = members .alike-same (t .members) (u .members) p i; entries = entries .alike-same (t .entries) (u .entries) q i }
+        λ i. record { members = numbers-tests .alike-same (t .members) (u .members) p i; entries = entries .alike-same (t .entries) (u .entries) q i }
 
     self : (t : Table) → sameTable t t ≡ true
-    self t = join (members .same-alike (t .members) (t .members) refl) (entries .same-alike (t .entries) (t .entries) refl)
+    self t = join (numbers-tests .same-alike (t .members) (t .members) refl) (entries .same-alike (t .entries) (t .entries) refl)
 
 -- Rows of a sheet: the beds agree.
 pub beds-tests : Tests (λ (w : Row). w .beds) sameBeds
 beds-tests = record {
-  alike-same = λ v w. list-tests number-tests .alike-same (v .beds) (w .beds);
-  same-alike = λ v w. list-tests number-tests .same-alike (v .beds) (w .beds);
+  alike-same = λ v w. numbers-tests .alike-same (v .beds) (w .beds);
+  same-alike = λ v w. numbers-tests .same-alike (v .beds) (w .beds);
 }

@@ -19,7 +19,7 @@ use Rattle.theorems.specs.Files.{bodyLines, fileLines, file-reads, flatt
 lines-spell : (t : Region) (rest : List ℕ) → lines (spell t ++ rest) ≡ fileLines t ++ lines rest
 lines-spell t rest = ap (λ (l : List ℕ). lines (l ++ rest)) (sym (flatten-file t)) ∙ lines-flatten (fileLines t) rest (file-lines t)
 
-lines-spelt : (t : Region) → lines (spell t) ≡ fileLines t
+pub lines-spelt : (t : Region) → lines (spell t) ≡ fileLines t
 lines-spelt t = ap lines (sym (append-nil (spell t))) ∙ lines-spell t [] ∙ append-nil (fileLines t)
 
 layout-takes : Takes layout spell wellFormed

@@ -23,7 +23,7 @@ use Rattle.theorems.specs.SheetRows.{sheet-parts}
 
 -- ---- questions asked after those of check
 
-asked-after : (file : List ℕ) (late : Asked) → (allYes (askedByCheck file ++ late) ≡ true) ↔ ((checkOf file ≡ 0) × (allYes late ≡ true))
+pub asked-after : (file : List ℕ) (late : Asked) → (allYes (askedByCheck file ++ late) ≡ true) ↔ ((checkOf file ≡ 0) × (allYes late ≡ true))
 asked-after file late = rw (every-concat (λ a. a .1) (askedByCheck file) late) (
   λ e. let (h, k) = both (allYes (askedByCheck file)) e in (check-says file .accepted .1 h, k),
   λ (h, k). join (check-says file .accepted .0 h) k,

@@ -4,6 +4,7 @@ use denote.Ref.{now}
 use borrow.Author.Tests.{not-true, not-false}
 use Rattle.lists.specs.Tests.{answered-no, answered-yes}
 use Rattle.held_region.specs.AsHeld.{said-held}
+use Rattle.answers.specs.Rooms.{orTwelve}
 use Rattle.lent_writer.specs.Answered.{lentOutcome, given-values, not-whole, with-room, without-room}
 use Rattle.lent_writer.proofs.answer_lent.Statement.{statement}
 use Rattle.lent_writer.proofs.answer_lent.Tie as tie
@@ -24,20 +25,30 @@ returns c =
 region-lent-requires : tie.Need-region-lent-requires
 region-lent-requires c κs = (answered-yes (c .before .before .areas-whole .ensures) (c .before .if1 .left), search needs)
 
-number-without-room-requires : tie.Need-number-without-room-requires
-number-without-room-requires c κs = search needs
+judge-requires : tie.Need-judge-requires
+judge-requires c κs = search needs
+
+checked-number-requires : tie.Need-checked-number-requires
+checked-number-requires c κs = search needs
+
+or-twelve-requires : tie.Need-or-twelve-requires
+or-twelve-requires c κs = search needs
 
 not-written-requires-2 : tie.Need-not-written-requires-2
 not-written-requires-2 c κs = search needs
 
 returns-2 : tie.Need-returns-2
 returns-2 c =
-    let short = c .before .before .before in
+    let numbered = c .before in
+    let checked = numbered .before in
+    let judged = checked .before in
+    let short = judged .before .before in
     let held = short .before in
     let asked = held .before .before .before in
     let a = asked .before .before .before .before .before .args in
     let whole = answered-yes (asked .areas-whole .ensures) (held .before .before .if1 .left) in
-    given-values _ (c .not-written2 .ensures .0 ∙ c .before .number-without-room .ensures) (c .not-written2 .ensures .1)
+    let number = numbered .or-twelve .ensures ∙ ap orTwelve (checked .checked-number .ensures ∙ judged .judge .ensures) in
+    given-values _ (c .not-written2 .ensures .0 ∙ number) (c .not-written2 .ensures .1)
     ∙ without-room (now (a .patients)) (now (a .tables)) (now (a .entries)) (a .m) (now (a .output)) whole _ (held .region-lent .ensures) (said-held _ _)
     ∙ ap (lentOutcome _ _ _ _ _) (sym (not-true (a .room) (short .if2 .taken)))
 
@@ -70,7 +81,9 @@ answer-lent-spec =
     not-written-requires
     returns
     region-lent-requires
-    number-without-room-requires
+    judge-requires
+    checked-number-requires
+    or-twelve-requires
     not-written-requires-2
     returns-2
     write-requires
