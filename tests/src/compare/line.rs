@@ -122,10 +122,10 @@ fn expect_refused(
 
 /// Small regions of every kind, some large ones and some of full size.
 fn region(case: usize, random: &mut Random) -> Region {
-    match case % 100 {
-        97 => full_size::region(random),
-        98 => full_size::longest_with_own_last_table(),
-        99 => large::region(random),
+    match case % 300 {
+        50 => full_size::region(random),
+        150 => full_size::longest_with_own_last_table(),
+        250 => large::region(random),
         small => small::region(small::KINDS[small % small::KINDS.len()], random),
     }
 }
@@ -192,7 +192,7 @@ pub fn other_members(tested: Tested<LineCall>, seed: u64, count: usize) -> Resul
     let mut random = Random::of(seed, "line, other members");
     let mut found = 0;
     for case in 0..count {
-        let region = region(case * 3, &mut random);
+        let region = region(case, &mut random);
         let file = spelling::file_of(&region);
         let lines = Lines::of(&file);
         let members = match region.tables.len() {

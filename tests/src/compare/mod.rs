@@ -104,7 +104,7 @@ fn run_large(seed: u64, count: usize) -> Result<[Tally; 3], Difference> {
 
 /// The entry behind line, which only the proved library has.
 fn run_parts(seed: u64, count: usize) -> Result<[Tally; 2], Difference> {
-    Ok([part::regions(LINE_PART, seed, count)?, part::faulty_files(LINE_PART, seed, count)?])
+    Ok([part::regions(LINE_PART, seed, count / 2)?, part::faulty_files(LINE_PART, seed, count)?])
 }
 
 fn run_beside(seed: u64, count: usize, printer: Option<&Path>) -> Result<Vec<Tally>, Difference> {
