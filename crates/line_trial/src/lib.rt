@@ -1,8 +1,8 @@
 // For the tests that are run: a caller of line from Rattle, which passes on the part that it gets, so that a test sees where it lies.
 ghost use mathlib.Core.Path.{_≡_};
 ghost use Rattle.definitions.specs.Lookup.{lineOutcome};
-use libc::pwrite;
 use libc::STDOUT_FILENO;
+use libc::pwrite;
 use planner::line;
 
 // The tests answer pwrite themselves and look at the address; nothing is written.
