@@ -74,11 +74,14 @@ pub fn store_count(result: &mut [u8], n: u64)
     store_number(result, 0, n);
 }
 
+// How many bytes a result of two numbers has.
+pub const PAIR: usize = 16;
+
 // A result of two numbers: price's, or the start and the length of line's part. A shorter area is untouched.
 pub fn store_pair(result: &mut [u8], first: u64, second: u64)
     ensures { λ _. ⌜ now (result .exit) ≡ resultAfter (first ∷ second ∷ []) (now (result .entry)) ⌝ }
 {
-    if result.len() < 16 {
+    if result.len() < PAIR {
         return;
     }
     store_number(result, 0, first);

@@ -1,17 +1,11 @@
 // The calls from C: the proved entries on numbers and byte areas.
 ghost use mathlib.Core.Path.{_≡_};
-ghost use Rattle.definitions.specs.Basics.{false};
-ghost use Rattle.definitions.specs.Plans.{Plan};
-ghost use Rattle.definitions.specs.Questions.{callAsks, askedByPrice};
-ghost use Rattle.definitions.specs.Outcomes.{priceFound};
-ghost use Rattle.definitions.specs.Boundary.{checkCall, listCall, sheetCall, priceCall, writeCall};
-ghost use Rattle.answers.specs.Answers.{notAllowed};
+ghost use Rattle.definitions.specs.Boundary.{checkCall, listCall, sheetCall, priceCall, writeCall, lineCall};
 use answers::checked_number;
-use answers::price_values;
-use byte_areas::store_price;
 use lent_writer::write_lent;
+use pair_calls::line_call;
+use pair_calls::price_call;
 use planner::check;
-use planner::price;
 use row_calls::list_call;
 use row_calls::sheet_call;
 
@@ -50,25 +44,20 @@ pub extern "C" fn rigbasen_sheet(
     sheet_call(file, clinic, beds, costs, result)
 }
 
-// Price's number where the result area is too short: 12, unless one of the questions before it is answered no.
-fn number_without_room(file: &[u8]) -> u64
-    ensures { λ n. ⌜ ((plan : Plan) → notAllowed n ≡ priceFound (now (file .entry)) plan (callAsks (askedByPrice (now (file .entry)) plan) false)) ⌝ }
-{
-    let number = checked_number(check(file));
-    if number == 0 { 12 } else { number }
-}
-
 // The result area holds two numbers: allowed and the total.
 #[no_mangle]
 pub extern "C" fn rigbasen_price(file: &[u8], plan: &[u8], result: &mut [u8]) -> u64
     ensures { λ n. ⌜ record { number = n; result = now (result .exit) } ≡ priceCall (now (file .entry)) (now (plan .entry)) (now (result .entry)) ⌝ }
 {
-    if result.len() < 16 {
-        return number_without_room(file);
-    }
-    let values = price_values(price(file, plan));
-    store_price(result, values.allowed, values.total);
-    values.number
+    price_call(file, plan, result)
+}
+
+// The result area holds two numbers: the start and the length of the line in the file.
+#[no_mangle]
+pub extern "C" fn rigbasen_line(file: &[u8], typed: &[u8], result: &mut [u8]) -> u64
+    ensures { λ n. ⌜ record { number = n; result = now (result .exit) } ≡ lineCall (now (file .entry)) (now (typed .entry)) (now (result .entry)) ⌝ }
+{
+    line_call(file, typed, result)
 }
 
 // A region that is lent in three areas, written as a file. The result area holds one number: the byte count.

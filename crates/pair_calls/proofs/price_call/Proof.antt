@@ -2,10 +2,9 @@ use borrow.Author.Needs.{needs}
 use mathlib.Core.Path.{_∙_}
 use native.Mathlib.Omega.{arith}
 use denote.Ref.{now}
-use Rattle.answers.specs.Answers.{valuesOf}
-use Rattle.planner_c.proofs.Calls.{price-without-room, price-stored}
-use Rattle.planner_c.proofs.rigbasen_price.Statement.{statement}
-use Rattle.planner_c.proofs.rigbasen_price.Tie as tie
+use Rattle.pair_calls.proofs.PairCalls.{price-short, price-long}
+use Rattle.pair_calls.proofs.price_call.Statement.{statement}
+use Rattle.pair_calls.proofs.price_call.Tie as tie
 
 number-without-room-requires : tie.Need-number-without-room-requires
 number-without-room-requires c κs = search needs
@@ -13,7 +12,7 @@ number-without-room-requires c κs = search needs
 returns : tie.Need-returns
 returns c =
     let a = c .before .before .before .before .before .args in
-    price-without-room (now (a .file)) (now (a .plan)) (now (a .result)) _ (omega (arith, c .before .if1 .taken)) (c .number-without-room .ensures (now (a .plan)))
+    price-short (now (a .file)) (now (a .plan)) (now (a .result)) (omega (arith, c .before .if1 .taken)) (c .number-without-room .ensures)
 
 price-requires : tie.Need-price-requires
 price-requires c κs = search needs
@@ -32,11 +31,11 @@ returns-2 c =
     let stored = c .before .before in
     let valued = stored .before .before in
     let a = valued .before .before .before .before .before .before .args in
-    price-stored (now (a .file)) (now (a .plan)) (now (a .result)) (valuesOf (valued .price-values .result)) _ (omega (arith, valued .before .before .if1 .left))
+    price-long (now (a .file)) (now (a .plan)) (now (a .result)) (omega (arith, valued .before .before .if1 .left))
     (valued .price-values .ensures ∙ valued .before .price .ensures) (stored .store-price .ensures)
 
-pub rigbasen-price-spec : {M : Type 1} → statement M
-rigbasen-price-spec =
+pub price-call-spec : {M : Type 1} → statement M
+price-call-spec =
     tie.close
     (tie.spec
     number-without-room-requires
