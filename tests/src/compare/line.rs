@@ -221,6 +221,7 @@ pub fn spoiled_texts(tested: Tested<LineCall>, seed: u64, count: usize) -> Resul
         for typed in typed::spoiled(table, &mut random) {
             expect_refused(&mut tally, tested, (&file, &lines), &typed, &mut random)?;
         }
+        compare_near(&mut tally, tested, (&file, &lines), &typed::entries_of(table), &mut random)?;
         for _ in 0..8 {
             compare_near(&mut tally, tested, (&file, &lines), &typed::random_text(&mut random), &mut random)?;
         }

@@ -63,19 +63,25 @@ pub fn run(calls: Calls) -> Result<Tally, Difference> {
         let given = (outcomes.price(plan, result.lent()), numbers_in(&result));
         expect(&file, given == (number, numbers.to_vec()), (number, numbers), &given)?;
     }
-    for (typed, number, part) in looked_up() {
-        let file = PRINTED.as_bytes();
-        let lines = Lines::of(file);
-        let mut result = Area::patterned(16, random.number());
-        line::compare(&mut tally, calls.line, (file, &lines), typed.as_bytes(), result.clone())?;
-        let given = (lines.line(typed.as_bytes(), result.lent()), numbers_in(&result));
-        expect(file, given == (number, part.to_vec()), (typed, number, part), &given)?;
-    }
+    look_up(&mut tally, calls, &mut random)?;
     let spelled = file_of(&paper());
     expect(PRINTED.as_bytes(), spelled == PRINTED.as_bytes(), PRINTED, String::from_utf8_lossy(&spelled))?;
     let printed = printed::text(&Outcomes::of(PRINTED.as_bytes()));
     expect(PRINTED.as_bytes(), printed == OUTPUT, OUTPUT, &printed)?;
     Ok(tally)
+}
+
+/// The printed file's lines.
+fn look_up(tally: &mut Tally, calls: Calls, random: &mut Random) -> Result<(), Difference> {
+    let file = PRINTED.as_bytes();
+    let lines = Lines::of(file);
+    for (typed, number, part) in looked_up() {
+        let mut result = Area::patterned(16, random.number());
+        line::compare(tally, calls.line, (file, &lines), typed.as_bytes(), result.clone())?;
+        let given = (lines.line(typed.as_bytes(), result.lent()), numbers_in(&result));
+        expect(file, given == (number, part.to_vec()), (typed, number, part), &given)?;
+    }
+    Ok(())
 }
 
 /// All of them.

@@ -73,52 +73,75 @@ fn numbers_beside(members: &[u64], patients: u64, random: &mut Random) -> Vec<Ve
     others.into_iter().map(with).collect()
 }
 
+/// A table's entries as they stand in its line: a list too where none is forbidden.
+pub fn entries_of(table: &Table) -> Vec<u8> {
+    let line = spelling::table_line(table);
+    let (_, entries) = line.split_once(") ").expect("members, then entries");
+    entries.strip_suffix(")\n").expect("the line's own bracket").into()
+}
+
 /// Texts of a table's members that have not the layout of a list, whatever the members are.
 pub fn spoiled(table: &Table, random: &mut Random) -> Vec<Vec<u8>> {
     let text = text_of(&table.members);
     let inside = &text[1..text.len() - 1];
-    let first = table.members[0].to_string();
-    let after_first = &inside[first.len()..];
-    let line = spelling::table_line(table).into_bytes();
     let other = random.pick(b"\0\t\n\r,;[]{}<>.+_:'\"aXz/\x7f\x80\xff");
-    vec![
-        Vec::new(),
-        b"()".to_vec(),
-        b"( )".to_vec(),
-        inside.to_vec(),
-        text[1..].to_vec(),
-        text[..text.len() - 1].to_vec(),
-        [b"(", &text[..], b")"].concat(),
-        [b"( ", inside, b")"].concat(),
-        [b"(", inside, b" )"].concat(),
-        [b" ", &text[..]].concat(),
-        [&text[..], b" "].concat(),
-        [&text[..], b"\n"].concat(),
-        [&text[..], b"\r\n"].concat(),
-        [b"\n", &text[..]].concat(),
-        [&text[..], b"\0"].concat(),
-        [&text[..], &[other]].concat(),
-        [b"(", inside, &[other][..], b")"].concat(),
-        [&text[..], &text[..]].concat(),
-        [&text[..], b" ", &text[..]].concat(),
-        [b"(", inside, b"  ", inside, b")"].concat(),
-        [b"(", inside, b",", inside, b")"].concat(),
-        [b"(", inside, b")(", inside, b")"].concat(),
-        [b"(0", inside, b")"].concat(),
-        [b"(", inside, b" 00)"].concat(),
-        [b"(+", inside, b")"].concat(),
-        [b"(-", inside, b")"].concat(),
-        [b"(", inside, b" -)"].concat(),
-        [b"(-", after_first, b")"].concat(),
-        [format!("({}", "1".repeat(MOST_DIGITS + 1)).as_bytes(), after_first, b")"].concat(),
-        [b"(", inside, b" 10000000)"].concat(),
-        [b"(", inside, b" 18446744073709551616)"].concat(),
+    let line = spelling::table_line(table).into_bytes();
+    let mut texts = [around(&text, inside, other), within(inside)].concat();
+    texts.extend([
         [b"(cost ", &text[..]].concat(),
         [b"(cost ", &text[..], b" ("].concat(),
         line.clone(),
         line[..line.len() - 1].to_vec(),
         line[b"(cost ".len()..line.len() - 2].to_vec(),
+    ]);
+    texts
+}
+
+/// Brackets that are missing or too many, and bytes before and behind.
+fn around(text: &[u8], inside: &[u8], other: u8) -> Vec<Vec<u8>> {
+    vec![
+        Vec::new(),
+        inside.to_vec(),
+        text[1..].to_vec(),
+        text[..text.len() - 1].to_vec(),
+        [b"(", text, b")"].concat(),
+        [b" ", text].concat(),
+        [text, b" "].concat(),
+        [text, b"\n"].concat(),
+        [text, b"\r\n"].concat(),
+        [b"\n", text].concat(),
+        [text, b"\0"].concat(),
+        [text, &[other]].concat(),
+        [&text[..text.len() - 1], &[other], b")"].concat(),
+        [text, text].concat(),
+        [text, b" ", text].concat(),
     ]
+}
+
+/// Members that are none, stand apart otherwise than by one space, or are no numbers as the files have them.
+fn within(inside: &[u8]) -> Vec<Vec<u8>> {
+    let first = inside.iter().position(|byte| *byte == b' ').unwrap_or(inside.len());
+    let after_first = &inside[first..];
+    let eight_digits = "1".repeat(MOST_DIGITS + 1);
+    let lists = [
+        Vec::new(),
+        b" ".to_vec(),
+        [b" ", inside].concat(),
+        [inside, b" "].concat(),
+        [inside, b"  ", inside].concat(),
+        [inside, b",", inside].concat(),
+        [inside, b")(", inside].concat(),
+        [b"0", inside].concat(),
+        [inside, b" 00"].concat(),
+        [b"+", inside].concat(),
+        [b"-", inside].concat(),
+        [inside, b" -"].concat(),
+        [b"-", after_first].concat(),
+        [eight_digits.as_bytes(), after_first].concat(),
+        [inside, b" 10000000"].concat(),
+        [inside, b" 18446744073709551616"].concat(),
+    ];
+    lists.map(|list| [b"(", &list[..], b")"].concat()).to_vec()
 }
 
 /// All texts that are one byte, or a cut at one of its ends, away from this one.

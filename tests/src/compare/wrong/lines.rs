@@ -54,8 +54,8 @@ pub fn last_byte_for_none(file: &[u8], typed: &[u8], result: &mut [u8]) -> u64 {
 
 /// Where there is no such line, the end line.
 pub fn end_line_for_none(file: &[u8], typed: &[u8], result: &mut [u8]) -> u64 {
-    let lines = file.split_inclusive(|byte| *byte == b'\n');
-    let last = lines.last().map_or(0, |line| line.len() as u64 - 1);
+    let mut lines = file.split_inclusive(|byte| *byte == b'\n');
+    let last = lines.next_back().map_or(0, |line| line.len() as u64 - 1);
     told(file, typed, result, |start, size| if size == 0 { (start - last - 1, last) } else { (start, size) })
 }
 

@@ -4,7 +4,8 @@ use crate::boundary::{self, Part};
 
 /// The same bytes, in other memory.
 pub fn copied(file: &[u8], typed: &[u8]) -> (u64, Option<Part>) {
-    boundary::line_part(&file.to_vec(), typed)
+    let copy: Box<[u8]> = file.into();
+    boundary::line_part(&copy, typed)
 }
 
 /// What is not empty lies in the typed text.
