@@ -67,7 +67,7 @@ extern "C" {
 }
 
 /// A part of memory.
-#[derive(Clone, Copy, Debug, Default, PartialEq)]
+#[derive(Clone, Copy, Debug, PartialEq)]
 pub struct Part {
     pub address: usize,
     pub length: usize,
