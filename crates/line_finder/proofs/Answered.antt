@@ -34,4 +34,4 @@ module _ (file typed : List ℕ) where
     unfolding askedByLine
     line-there e =
         sym (outcome-with (after-check file ((21, typedRight typed) ∷ []) fine ∙ ap (λ b. firstNo ((21, b) ∷ [])) e)
-        ∙ ap {B = LineOutcome} (λ part. record { number = 0; part = part }) (over-begins file typed (accepted file fine .laid) e))
+        ∙ ap {B = LineOutcome} (λ part. record { number = 0; part = part }) (over-begins file (accepted file fine .laid) typed e))

@@ -2,6 +2,7 @@
 use mathlib.Core.Path.{sym, ap, ap₂, _∙_}
 use mathlib.Core.Logic.{_↔_, _⊎_, inl, inr}
 use mathlib.Core.Bool.{true≢false, false≢true}
+use mathlib.Core.Option.{Option·some-injective, Option·none-ne-some}
 use mathlib.Core.List.{append-assoc, append-nil}
 use native.Mathlib.Nat.{zero-add}
 use native.Mathlib.Omega.{arith}
@@ -19,14 +20,14 @@ use Rattle.definitions.specs.Boundary.{roomForNumbers, resultAfter, lineCallOf,
 use Rattle.lists.specs.Tests.{both, join, same-answer}
 use Rattle.lists.specs.Every.{every-in, any-false}
 use Rattle.lists.specs.Maps.{flatten-append}
-use Rattle.lists.specs.Members.{_∈_, here, there, here-or-there, none-in-nil, in-append-cases, in-map-cases}
+use Rattle.lists.specs.Members.{_∈_, here, there, here-or-there, none-in-nil, in-append-left, in-append-right, in-append-cases, in-map, in-map-cases, in-cast}
 use Rattle.theorems.specs.Readers.{one-front, whole-takes, exactly-reads}
 use Rattle.theorems.specs.Lines.{flatten-lines}
 use Rattle.theorems.specs.Items.{someAll}
 use Rattle.theorems.specs.Forms.{line-spelt, members-read, spellHead, spellEnd, okTable, table-takes}
 use Rattle.theorems.specs.Files.{bodyLines, fileLines, well-formed-lines}
 use Rattle.theorems.specs.Spelling.{laid-out-spelt, lines-spelt}
-use Rattle.theorems.specs.Accepted.{some-of}
+use Rattle.theorems.specs.Accepted.{some-of, accepted}
 use Rattle.theorems.specs.Refusals.{line-says, line-call-says}
 use Rattle.theorems.specs.Yields.{asked-after}
 use Rattle.theorems.specs.Sameness.{numbers-tests}
@@ -130,43 +131,53 @@ first-line-same test other start [] agree = refl
 first-line-same test other start (l ∷ ls) agree =
     rw (agree l (here refl), first-line-same test other (start + length l) ls (λ k i. agree k (there i)))
 
--- The other lines of a file are over no members, and begin with none.
-module _ (typed : List ℕ) where
-  abbrev Agree : List ℕ → Type 0
-  Agree l = isOver (typedMembers typed) l ≡ begins typed l
+-- A line of a file is that of one of its tables, or another, which is no table line and does not begin as one.
+record Other (l : List ℕ) : Type 0 where
+  noTable : whole tableLine l ≡ none
+  notBegun : (typed : List ℕ) → begins typed l ≡ false
 
-  head-agrees : (h : ℕ × ℕ × ℕ) → Agree (spellHead h)
-  unfolding isOver begins tableLine bind
-  head-agrees h = refl
+head-other : (h : ℕ × ℕ × ℕ) → Other (spellHead h)
+unfolding begins tableLine bind
+head-other h = record { noTable = refl; notBegun = λ typed. refl }
 
-  patient-agrees : (p : Patient) → Agree (spellPatient p)
-  unfolding isOver begins tableLine spellPatient bind
-  patient-agrees p = refl
+patient-other : (p : Patient) → Other (spellPatient p)
+unfolding begins tableLine spellPatient bind
+patient-other p = record { noTable = refl; notBegun = λ typed. refl }
 
-  end-agrees : (n : ℕ) → Agree (spellEnd n)
-  unfolding isOver begins tableLine bind
-  end-agrees n = refl
+end-other : (n : ℕ) → Other (spellEnd n)
+unfolding begins tableLine bind
+end-other n = record { noTable = refl; notBegun = λ typed. refl }
 
-  file-agrees : typedRight typed ≡ true → (r : Region) → every okTable (r .tables) ≡ true → (l : List ℕ) → l ∈ fileLines r → Agree l
-  file-agrees right r ok l i = elim (in-append-cases (bodyLines r) i) [
-    | inl body ↦ elim (here-or-there body) [
-      | inl e ↦ rw e (head-agrees (r .patientCount, r .tableCount, r .plansWanted))
-      | inr later ↦ elim (in-append-cases (map spellPatient (r .patients)) later) [
-        | inl patient ↦ (let (p, _, e) = in-map-cases spellPatient (r .patients) patient in rw (← e) (patient-agrees p))
-        | inr table ↦ (let (t, k, e) = in-map-cases spellTable (r .tables) table in
-            line-prefix typed l t (ap (whole tableLine) (sym e) ∙ table-takes .each t (every-in okTable (r .tables) ok k)) right)
-      ]
+file-line : (r : Region) {l : List ℕ} → l ∈ fileLines r → ((t : Table) × (t ∈ r .tables) × (spellTable t ≡ l)) ⊎ Other l
+file-line r i = elim (in-append-cases (bodyLines r) i) [
+  | inl body ↦ elim (here-or-there body) [
+    | inl e ↦ inr (rw e (head-other (r .patientCount, r .tableCount, r .plansWanted)))
+    | inr later ↦ elim (in-append-cases (map spellPatient (r .patients)) later) [
+      | inl patient ↦ (let (p, _, e) = in-map-cases spellPatient (r .patients) patient in inr (rw (← e) (patient-other p)))
+      | inr table ↦ inl (in-map-cases spellTable (r .tables) table)
     ]
-    | inr end ↦ elim (here-or-there end) [ inl e ↦ rw e (end-agrees (r .statedSum)) | inr k ↦ absurd (none-in-nil k) ]
+  ]
+  | inr end ↦ elim (here-or-there end) [ inl e ↦ inr (rw e (end-other (r .statedSum))) | inr k ↦ absurd (none-in-nil k) ]
+]
+
+-- A laid-out file has the lines of its region, and its tables have one spelling.
+module _ (file : List ℕ) (laid : laidOut file ≡ true) where
+  file-cut : lines file ≡ fileLines (regionOf file)
+  file-cut = ap lines (laid-out-spelt file laid .1) ∙ lines-spelt (regionOf file)
+
+  table-read : {t : Table} → t ∈ regionOf file .tables → whole tableLine (spellTable t) ≡ some t
+  table-read {t} k = table-takes .each t (every-in okTable (regionOf file .tables) (well-formed-lines (regionOf file) (laid-out-spelt file laid .0) .tables) k)
+
+  line-agrees : (typed : List ℕ) → typedRight typed ≡ true → (l : List ℕ) → l ∈ fileLines (regionOf file) → isOver (typedMembers typed) l ≡ begins typed l
+  unfolding isOver
+  line-agrees typed right l i = elim (file-line (regionOf file) i) [
+    | inl found ↦ (let (t, k, e) = found in line-prefix typed l t (ap (whole tableLine) (sym e) ∙ table-read k) right)
+    | inr other ↦ rw (other .noTable, isOver) (sym (other .notBegun typed))
   ]
 
-pub over-begins : (file typed : List ℕ) → laidOut file ≡ true → typedRight typed ≡ true → lineOver file typed ≡ firstLine (begins typed) 0 (lines file)
-unfolding lineOver
-over-begins file typed laid right =
-    let r = regionOf file in
-    let (formed, spelt) = laid-out-spelt file laid in
-    let cut : lines file ≡ fileLines r = ap lines spelt ∙ lines-spelt r in
-    rw cut (first-line-same _ _ 0 (fileLines r) (file-agrees typed right r (well-formed-lines r formed .tables)))
+  pub over-begins : (typed : List ℕ) → typedRight typed ≡ true → lineOver file typed ≡ firstLine (begins typed) 0 (lines file)
+  unfolding lineOver
+  over-begins typed right = rw file-cut (first-line-same _ _ 0 (fileLines (regionOf file)) (line-agrees typed right))
 
 -- ---- what is found
 
@@ -332,6 +343,25 @@ line-bytes file typed p t =
     file-is =
         sym (flatten-lines file) ∙ ap flatten (t .inFile) ∙ flatten-append (t .before) ((t .line ++ text "\n") ∷ t .after)
         ∙ ap (λ (l : List ℕ). flatten (t .before) ++ l) (append-assoc (t .line) (text "\n") (flatten (t .after)))
+
+-- Of the region that the file says: the line is that of one of its tables, and where there is no line, none of them is over the typed members.
+module _ (file typed : List ℕ) (fine : lineOutcome file typed .number ≡ 0) where
+  laid : laidOut file ≡ true
+  laid = accepted file (line-fine file typed .0 fine .0) .laid
+
+  pub the-table : {p : FilePart} (t : TheLine file typed p) → t .over .table ∈ regionOf file .tables
+  the-table t =
+      let i : (t .line ++ text "\n") ∈ lines file = rw (t .inFile) (in-append-right (t .before) (here refl)) in
+      elim (file-line (regionOf file) (rw (file-cut file laid) at i)) [
+        | inl found ↦ (let (u, k, e) = found in in-cast (Option·some-injective _ _ (sym (t .over .lineSays) ∙ ap (whole tableLine) (sym e) ∙ table-read file laid k)) k)
+        | inr other ↦ absurd (Option·none-ne-some _ (sym (other .noTable) ∙ t .over .lineSays))
+      ]
+
+  pub no-table : {p : FilePart} → NoLine file typed p → (t : Table) → t ∈ regionOf file .tables → whole (items number) typed ≡ some (t .members) → ⊥
+  no-table n t k e =
+      let r = regionOf file in
+      let in-body = there (in-append-right (map spellPatient (r .patients)) (in-map spellTable k)) in
+      n .none (spellTable t) (rw (file-cut file laid) (in-append-left _ in-body)) (record { table = t; lineSays = table-read file laid k; typedSays = e })
 
 -- The call from C: number 0 says that line's is 0 too, and the result is the start and the length of its part.
 pub line-call-found : (file typed result : List ℕ) → lineCall file typed result .number ≡ 0
