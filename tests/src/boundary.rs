@@ -62,7 +62,7 @@ extern "C" {
         result_length: usize,
     ) -> u64;
 
-    /// Of the trial's archive: the entry behind line, which hands back a part of the file. The trial passes it on to `pwrite`.
+    /// Of the trial's archive: line's entry in Rattle, which hands back a part of the file. The trial passes it on to `pwrite`.
     fn rigbasen_trial_line(file: *const u8, file_length: usize, typed: *const u8, typed_length: usize) -> u64;
 }
 
@@ -85,7 +85,7 @@ extern "C" fn __wrap_pwrite(_: i32, bytes: *const u8, length: usize, _: i64) -> 
     length as isize
 }
 
-/// The number of the entry behind line, and the very part that it hands back.
+/// The number of line's entry in Rattle, and the very part that it hands back.
 pub fn line_part(file: &[u8], typed: &[u8]) -> (u64, Option<Part>) {
     PASSED_ON.set(None);
     // Each pointer and length are those of one slice.

@@ -159,7 +159,7 @@ impl Lines {
         number
     }
 
-    /// What the entry behind the call hands back: its number, and the start and the length of the part.
+    /// What line's entry in Rattle hands back: its number, and the start and the length of the part.
     pub fn entry(&self, typed: &[u8]) -> (u64, u64, u64) {
         let nothing = (self.file_length, 0);
         let (number, (start, size)) = match (self.number, reader::typed_members(typed)) {

@@ -40,7 +40,7 @@ pub type ListCall = fn(&[u8], &mut Areas) -> u64;
 pub type SheetCall = fn(&[u8], u64, &mut Areas) -> u64;
 pub type WriteCall = fn(&Lent, &mut Outputs) -> u64;
 
-/// The entry behind line: its number, and the part that it hands back.
+/// Line's entry in Rattle: its number, and the part that it hands back.
 pub type PartCall = fn(&[u8], &[u8]) -> (u64, Option<Part>);
 
 /// The six calls of one program.
@@ -102,7 +102,7 @@ fn run_large(seed: u64, count: usize) -> Result<[Tally; 3], Difference> {
     Ok([lists, sheets, clinic_pairs::apart_large(LIBRARY.sheet, seed, count / 2)?])
 }
 
-/// The entry behind line, which only the proved library has.
+/// Line's entry in Rattle, which only the proved library has.
 fn run_parts(seed: u64, count: usize) -> Result<[Tally; 2], Difference> {
     Ok([part::regions(LINE_PART, seed, count / 2)?, part::faulty_files(LINE_PART, seed, count)?])
 }

@@ -1,4 +1,4 @@
-//! What the entry behind line hands back is that very part of the file, never a copy: its address is compared.
+//! What line's entry in Rattle hands back is that very part of the file, never a copy: its address is compared.
 
 use crate::boundary::Part;
 use crate::compare::report::{readable, Difference, Tally};
