@@ -39,6 +39,12 @@ uint64_t rigbasen_price(const uint8_t *file, size_t file_length, const uint8_t *
     return number();
 }
 
+uint64_t rigbasen_line(const uint8_t *file, size_t file_length, const uint8_t *typed, size_t typed_length,
+                       uint8_t *result, size_t result_length)
+{
+    return rigbasen_price(file, file_length, typed, typed_length, result, result_length);
+}
+
 uint64_t rigbasen_write(const uint8_t *patients, size_t patients_length, const uint8_t *tables, size_t tables_length,
                         const uint8_t *entries, size_t entries_length, uint64_t m,
                         uint8_t *output, size_t output_length, uint8_t *result, size_t result_length)

@@ -1,6 +1,6 @@
 /*
  * The calls that the checklist makes.
- *     cuts FILE            lends every cut of the file, short of the whole, to the four calls of a file
+ *     cuts FILE            lends every cut of the file, short of the whole, to the five calls of a file
  *     print FILE           the list and the clinics' sheets by the calls, in the printing program's form
  *     price FILE BED ..    what the plan costs
  *     seal                 standard input with its end line put behind it
@@ -31,11 +31,12 @@ static int refused_clean(uint64_t number, const struct areas *areas)
         && all(areas->costs, sizeof areas->costs, PATTERN) && all(areas->result, sizeof areas->result, 0);
 }
 
-/* Do all four calls of a file refuse this cut? */
+/* Do all five calls of a file refuse this cut? */
 static int cut_refused(const struct region_file *cut, const uint8_t *plan, size_t patients)
 {
     struct areas areas;
     uint8_t result[RIGBASEN_PRICE_RESULT_BYTES];
+    uint8_t line[RIGBASEN_LINE_RESULT_BYTES];
     memset(&areas, PATTERN, sizeof areas);
     if (!refused_clean(list_region(cut, &areas), &areas)) {
         return 0;
@@ -46,7 +47,12 @@ static int cut_refused(const struct region_file *cut, const uint8_t *plan, size_
     }
     memset(result, PATTERN, sizeof result);
     uint64_t price = rigbasen_price(cut->bytes, cut->length, plan, patients, result, sizeof result);
-    return price != RIGBASEN_FINE && all(result, sizeof result, 0) && rigbasen_check(cut->bytes, cut->length) != RIGBASEN_FINE;
+    if (price == RIGBASEN_FINE || !all(result, sizeof result, 0)) {
+        return 0;
+    }
+    memset(line, PATTERN, sizeof line);
+    return line_over(cut, "(0)", line) != RIGBASEN_FINE && all(line, sizeof line, 0)
+        && rigbasen_check(cut->bytes, cut->length) != RIGBASEN_FINE;
 }
 
 static int try_cuts(const struct region_file *file)

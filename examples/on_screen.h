@@ -28,6 +28,7 @@ static const struct {
     {RIGBASEN_NO_PLAN, "there is no allowed plan"},
     {RIGBASEN_PLAN_MISFIT, "the plan has not one bed for each patient, each below its patient's count"},
     {RIGBASEN_SHORT_OUTPUT, "the area for the file is too short"},
+    {RIGBASEN_TYPED_MEMBERS, "what was typed is no member list; one is typed as it stands in the file, such as (0 1)"},
 };
 
 /* The text of a number. A library that is newer than this screen may ask a question that has none here. */

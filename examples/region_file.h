@@ -89,6 +89,12 @@ static inline uint64_t sheet_of_clinic(const struct region_file *file, uint64_t 
                           areas->costs, sizeof areas->costs, areas->result, sizeof areas->result);
 }
 
+/* The line over these members, into a result area of RIGBASEN_LINE_RESULT_BYTES. */
+static inline uint64_t line_over(const struct region_file *file, const char *typed, uint8_t *result)
+{
+    return rigbasen_line(file->bytes, file->length, (const uint8_t *)typed, strlen(typed), result, RIGBASEN_LINE_RESULT_BYTES);
+}
+
 /* A whole number of an argument, at most so large; or ends the program. */
 static inline uint64_t read_number(const char *argument, uint64_t most)
 {

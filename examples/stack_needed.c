@@ -52,6 +52,14 @@ static void *run_price(void *unused)
     return unused;
 }
 
+/* Of members that no table has, so that every line is looked at. */
+static void *run_line(void *unused)
+{
+    static uint8_t result[RIGBASEN_LINE_RESULT_BYTES];
+    line_over(&file, "(31 0)", result);
+    return unused;
+}
+
 /* Writes the most of everything: patients in a chain, each with a fixed bed, and tables over two of them with 64 entries each. */
 static void *run_write(void *unused)
 {
@@ -102,8 +110,8 @@ static size_t stack_of(void *(*run)(void *))
 
 int main(int count, char **arguments)
 {
-    static const char *const names[] = {"check", "list", "sheet", "price", "write"};
-    static void *(*const calls[])(void *) = {run_check, run_list, run_sheet, run_price, run_write};
+    static const char *const names[] = {"check", "list", "sheet", "price", "line", "write"};
+    static void *(*const calls[])(void *) = {run_check, run_list, run_sheet, run_price, run_line, run_write};
     enum { CALLS = sizeof calls / sizeof calls[0] };
     size_t most[CALLS] = {0};
     int over = 0;

@@ -1,6 +1,8 @@
 /*
  * A small ward screen: ward_screen FILE CLINIC BED ..
  * Checks the file, lists its plans, prints the clinic's sheet, and prices the plan of the given beds, one for each patient.
+ * For the support desk: ward_screen FILE over '(0 1)'
+ * Reads out the line of the table over these members, as it stands in the file.
  * Ends with 0, with 1 where a call refused, with 2 where it could not be asked.
  */
 #include <inttypes.h>
@@ -64,22 +66,49 @@ static void show_price(const struct region_file *file, const uint8_t *plan, size
     show_beds(plan, count);
 }
 
+/* The line is shown where it stands in the file. That no table is over the members is a good answer too. */
+static void show_line(const struct region_file *file, const char *typed)
+{
+    uint8_t result[RIGBASEN_LINE_RESULT_BYTES];
+    if (refused("line", line_over(file, typed, result))) {
+        return;
+    }
+    const uint8_t *line = file->bytes + number_at(result);
+    uint64_t length = number_at(result + RIGBASEN_NUMBER_BYTES);
+    if (length == 0) {
+        printf("line: no table is over %s\n", typed);
+    } else {
+        printf("line: %.*s\n", (int)length, (const char *)line);
+    }
+}
+
+/* The whole screen: what was given behind the file is a clinic and beds. */
+static void show_screen(const struct region_file *file, int count, char **given)
+{
+    static uint8_t plan[RIGBASEN_MOST_PATIENTS + 1];
+    uint64_t clinic = read_number(given[0], UINT64_MAX);
+    for (int i = 1; i < count; i++) {
+        plan[i - 1] = (uint8_t)read_number(given[i], 255);
+    }
+    show_check(file);
+    show_list(file);
+    show_sheet(file, clinic);
+    show_price(file, plan, (size_t)(count - 1));
+}
+
 int main(int count, char **arguments)
 {
     static struct region_file file;
-    static uint8_t plan[RIGBASEN_MOST_PATIENTS + 1];
-    if (count < 3 || (size_t)(count - 3) > sizeof plan) {
-        fprintf(stderr, "ward_screen FILE CLINIC BED ..\n");
+    int over = count > 2 && strcmp(arguments[2], "over") == 0;
+    if (over ? count != 4 : count < 3 || count - 3 > RIGBASEN_MOST_PATIENTS + 1) {
+        fprintf(stderr, "ward_screen FILE CLINIC BED .., or ward_screen FILE over '(0 1)'\n");
         return 2;
     }
     read_region(arguments[1], &file);
-    uint64_t clinic = read_number(arguments[2], UINT64_MAX);
-    for (int i = 3; i < count; i++) {
-        plan[i - 3] = (uint8_t)read_number(arguments[i], 255);
+    if (over) {
+        show_line(&file, arguments[3]);
+    } else {
+        show_screen(&file, count - 2, arguments + 2);
     }
-    show_check(&file);
-    show_list(&file);
-    show_sheet(&file, clinic);
-    show_price(&file, plan, (size_t)(count - 3));
     return refusals == 0 ? 0 : 1;
 }

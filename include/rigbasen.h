@@ -1,10 +1,11 @@
 /*
- * Rigbasen: the bed plans of a region. Four calls over one region file, and a fifth that makes such a file.
+ * Rigbasen: the bed plans of a region. Five calls over one region file, and a sixth that makes such a file.
  *
  *     rigbasen_check   is the file a good one?
  *     rigbasen_list    its m cheapest plans
  *     rigbasen_sheet   one clinic's part of that list
  *     rigbasen_price   what one plan costs
+ *     rigbasen_line    the line of the table over some members
  *     rigbasen_write   the file of a region that the caller holds
  *
  * Each call gives RIGBASEN_FINE or the number of the first question that is answered "no".
@@ -38,6 +39,7 @@ extern "C" {
 #define RIGBASEN_COSTS_BYTES (RIGBASEN_MOST_ROWS * RIGBASEN_NUMBER_BYTES)
 #define RIGBASEN_ROWS_RESULT_BYTES RIGBASEN_NUMBER_BYTES        /* list and sheet: the row count */
 #define RIGBASEN_PRICE_RESULT_BYTES (2 * RIGBASEN_NUMBER_BYTES) /* price: allowed, then the total */
+#define RIGBASEN_LINE_RESULT_BYTES (2 * RIGBASEN_NUMBER_BYTES)  /* line: where it starts in the file, then its length */
 #define RIGBASEN_WRITTEN_BYTES 35038                            /* write: the output area */
 #define RIGBASEN_WRITE_RESULT_BYTES RIGBASEN_NUMBER_BYTES       /* write: the byte count */
 
@@ -60,10 +62,11 @@ enum rigbasen_number {
     RIGBASEN_ENTRIES = 9,        /* is each entry that is a number at most 1,000,000? */
     RIGBASEN_ANCESTORS = 10,     /* of any two members of a table, is one an ancestor of the other? */
     RIGBASEN_NO_SUCH_CLINIC = 11, /* sheet: has the clinic asked for a patient in the file? */
-    RIGBASEN_SHORT_AREA = 12,    /* list, sheet, price: are the lent areas long enough? write: is the result area? */
+    RIGBASEN_SHORT_AREA = 12,    /* list, sheet, price: are the lent areas long enough? line, write: is the result area? */
     RIGBASEN_NO_PLAN = 13,       /* list, sheet: is there an allowed plan? */
     RIGBASEN_PLAN_MISFIT = 14,   /* price: are there exactly V beds, each below its patient's count? */
-    RIGBASEN_SHORT_OUTPUT = 15   /* write: is the output area long enough? */
+    RIGBASEN_SHORT_OUTPUT = 15,  /* write: is the output area long enough? */
+    RIGBASEN_TYPED_MEMBERS = 21  /* line: do the typed members have the layout of a member list? */
 };
 
 /*
@@ -113,6 +116,22 @@ uint64_t rigbasen_price(const uint8_t *file, size_t file_length,
                         const uint8_t *plan, size_t plan_length,
                         uint8_t *result, size_t result_length);
 
+/*
+ * The line of the table over some members, found by the members as they are typed. Questions 1 to 10, 12, 21.
+ *
+ * What is typed has the layout of a table's member list, brackets included: `(0 1)`. One or more numbers of 1 to 7 digits without
+ * a leading zero, single spaces between them, and nothing before or after, not even a line end. Else the number is 21.
+ * It need not be the member list of any table: `(1 0)`, five members, or a member that no patient has, are fine and find nothing.
+ *
+ * The first 8 bytes of result are where the line starts in the file, the next 8 its length without its line end: it is the bytes
+ * from file + start on, the caller's own, good for as long as those are. Of several tables over these members, in this order, it
+ * is the first. Where there is none the number is 0 all the same, the start is the file's length, and the length is 0, which no
+ * line has. Question 12 asks for 16 bytes of result.
+ */
+uint64_t rigbasen_line(const uint8_t *file, size_t file_length,
+                       const uint8_t *typed, size_t typed_length,
+                       uint8_t *result, size_t result_length);
+
 /* Stands for `-`: a patient without a parent, a patient without a fixed bed, a forbidden entry. */
 #define RIGBASEN_NONE UINT64_MAX
 
@@ -151,7 +170,7 @@ uint64_t rigbasen_write(const uint8_t *patients, size_t patients_length,
                         uint8_t *result, size_t result_length);
 
 /*
- * What is proved, for every file, clinic number, plan, lent region and areas of any length:
+ * What is proved, for every file, clinic number, plan, typed text, lent region and areas of any length:
  * the call comes back, its number is the first "no", and every byte of every lent area afterwards is the one described here.
  * On a refusal beds, costs and output are untouched, and a result area that is long enough gets zeros; a shorter one is untouched.
  * Bytes beyond the rows, the written file and the result's numbers are untouched. No call depends on an earlier one.
@@ -161,8 +180,8 @@ uint64_t rigbasen_write(const uint8_t *patients, size_t patients_length,
  *   None is null; for a length of 0 any other pointer will do.
  * - The areas that a call writes overlap none of its other areas, and nobody else writes to any of them meanwhile.
  *   (The library has no variables of its own, so threads may call at once, each with its own areas.)
- * - RIGBASEN_STACK_BYTES of stack are free: the work area is there. By measure, check takes about 38,000 bytes,
- *   price 47,000, write 66,000, list up to 111,000 and sheet up to 118,000, the most where 32 patients are one tree.
+ * - RIGBASEN_STACK_BYTES of stack are free: the work area is there. By measure, check and line take about 38,000 bytes,
+ *   price 47,000, write 63,000, list up to 111,000 and sheet up to 118,000, the most where 32 patients are one tree.
  * - Time. A call always ends, but where one tree holds many patients under many tables it can take very long.
  */
 

@@ -1,5 +1,5 @@
-//! Links the proved archive, `libplanner_c.a`. Its directory is `RIGBASEN_STATICLIB`, or else
-//! the place where `rt staticlib planner_c` writes it.
+//! Links the proved archives: `libplanner_c.a`, and `libline_trial.a` of the trial of what line hands back. Their directory is
+//! `RIGBASEN_STATICLIB`, or else the place where `rt staticlib` writes them.
 
 use std::env;
 use std::path::PathBuf;
@@ -12,12 +12,16 @@ fn main() {
         Some(place) => PathBuf::from(place),
         None => here.join("../target/staticlib"),
     };
-    let archive = directory.join("libplanner_c.a");
-    if !archive.is_file() {
-        panic!("{} is missing: run 'rt staticlib planner_c', or set {PLACE} to its directory", archive.display());
-    }
     println!("cargo:rerun-if-env-changed={PLACE}");
-    println!("cargo:rerun-if-changed={}", archive.display());
     println!("cargo:rustc-link-search=native={}", directory.display());
-    println!("cargo:rustc-link-lib=static=planner_c");
+    for name in ["planner_c", "line_trial"] {
+        let archive = directory.join(format!("lib{name}.a"));
+        if !archive.is_file() {
+            panic!("{} is missing: run 'rt staticlib {name}', or set {PLACE} to its directory", archive.display());
+        }
+        println!("cargo:rerun-if-changed={}", archive.display());
+        println!("cargo:rustc-link-lib=static={name}");
+    }
+    // What the trial passes to `pwrite` goes to `boundary` instead; nothing else here calls that function.
+    println!("cargo:rustc-link-arg=-Wl,--wrap=pwrite");
 }

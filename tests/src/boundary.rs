@@ -2,6 +2,7 @@
 
 use crate::areas::{Areas, Outputs};
 use crate::lent::Lent;
+use std::cell::Cell;
 
 extern "C" {
     fn rigbasen_check(file: *const u8, file_length: usize) -> u64;
@@ -11,6 +12,15 @@ extern "C" {
         file_length: usize,
         plan: *const u8,
         plan_length: usize,
+        result: *mut u8,
+        result_length: usize,
+    ) -> u64;
+
+    fn rigbasen_line(
+        file: *const u8,
+        file_length: usize,
+        typed: *const u8,
+        typed_length: usize,
         result: *mut u8,
         result_length: usize,
     ) -> u64;
@@ -51,6 +61,36 @@ extern "C" {
         result: *mut u8,
         result_length: usize,
     ) -> u64;
+
+    /// Of the trial's archive: line's entry in Rattle, which hands back a part of the file. The trial passes it on to `pwrite`.
+    fn rigbasen_trial_line(file: *const u8, file_length: usize, typed: *const u8, typed_length: usize) -> u64;
+}
+
+/// A part of memory.
+#[derive(Clone, Copy, Debug, PartialEq)]
+pub struct Part {
+    pub address: usize,
+    pub length: usize,
+}
+
+thread_local! {
+    /// The part that a trial passed on last.
+    static PASSED_ON: Cell<Option<Part>> = const { Cell::new(None) };
+}
+
+/// The linker gives the trial this in place of the C library's `pwrite`. It writes nothing, and notes where the bytes lie.
+#[no_mangle]
+extern "C" fn __wrap_pwrite(_: i32, bytes: *const u8, length: usize, _: i64) -> isize {
+    PASSED_ON.set(Some(Part { address: bytes as usize, length }));
+    length as isize
+}
+
+/// The number of line's entry in Rattle, and the very part that it hands back.
+pub fn line_part(file: &[u8], typed: &[u8]) -> (u64, Option<Part>) {
+    PASSED_ON.set(None);
+    // Each pointer and length are those of one slice.
+    let number = unsafe { rigbasen_trial_line(file.as_ptr(), file.len(), typed.as_ptr(), typed.len()) };
+    (number, PASSED_ON.take())
 }
 
 /// Check's number of a file.
@@ -63,6 +103,12 @@ pub fn check(file: &[u8]) -> u64 {
 pub fn price(file: &[u8], plan: &[u8], result: &mut [u8]) -> u64 {
     // Each pointer and length are those of one slice, and the slices do not overlap.
     unsafe { rigbasen_price(file.as_ptr(), file.len(), plan.as_ptr(), plan.len(), result.as_mut_ptr(), result.len()) }
+}
+
+/// Line's number; the result area has two numbers, where the line starts in the file and its length.
+pub fn line(file: &[u8], typed: &[u8], result: &mut [u8]) -> u64 {
+    // Each pointer and length are those of one slice, and the slices do not overlap.
+    unsafe { rigbasen_line(file.as_ptr(), file.len(), typed.as_ptr(), typed.len(), result.as_mut_ptr(), result.len()) }
 }
 
 /// List's number; the result area has one number, the row count.

@@ -104,9 +104,74 @@ impl Outcomes {
         self.read.as_ref().ok()
     }
 
+    /// The lines of this file, which was read.
+    pub fn lines(&self, file: &[u8]) -> Lines {
+        Lines::judged(file, self.read.as_ref().err().copied().unwrap_or(0))
+    }
+
     /// The list's rows; none where the file is refused.
     pub fn rows(&self) -> &[Row] {
         &self.list
+    }
+}
+
+/// A line of a file that is a table's: its members, where it starts, and its length without its line end.
+pub struct TableLine {
+    pub members: Vec<u64>,
+    pub start: u64,
+    pub size: u64,
+}
+
+/// The independent program's view of a file's lines.
+pub struct Lines {
+    number: u64,
+    file_length: u64,
+    pub tables: Vec<TableLine>,
+}
+
+impl Lines {
+    pub fn of(file: &[u8]) -> Lines {
+        Lines::judged(file, check(file))
+    }
+
+    /// The lines of a file for which check gives this number.
+    pub fn judged(file: &[u8], number: u64) -> Lines {
+        let mut tables = Vec::new();
+        let mut start = 0;
+        for line in file.split(|byte| *byte == b'\n') {
+            let size = line.len() as u64;
+            tables.extend(reader::table(line).map(|table| TableLine { members: table.members, start, size }));
+            start += size + 1;
+        }
+        Lines { number, file_length: file.len() as u64, tables }
+    }
+
+    /// The number of the line call; its result area has two numbers, where the line starts and its length.
+    pub fn line(&self, typed: &[u8], result: &mut [u8]) -> u64 {
+        write_result(result, &[0, 0]);
+        if self.number == 0 && result.len() < 16 {
+            return 12;
+        }
+        let (number, start, size) = self.entry(typed);
+        if number == 0 {
+            write_result(result, &[start, size]);
+        }
+        number
+    }
+
+    /// What line's entry in Rattle hands back: its number, and the start and the length of the part.
+    pub fn entry(&self, typed: &[u8]) -> (u64, u64, u64) {
+        let nothing = (self.file_length, 0);
+        let (number, (start, size)) = match (self.number, reader::typed_members(typed)) {
+            (0, Some(members)) => (0, self.first_over(&members).unwrap_or(nothing)),
+            (0, None) => (21, nothing),
+            (refusal, _) => (refusal, nothing),
+        };
+        (number, start, size)
+    }
+
+    fn first_over(&self, members: &[u64]) -> Option<(u64, u64)> {
+        self.tables.iter().find(|line| line.members == members).map(|line| (line.start, line.size))
     }
 }
 

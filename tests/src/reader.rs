@@ -35,6 +35,11 @@ pub fn said(file: &[u8]) -> Option<Region> {
     laid_out(file).map(|lines| lines.region)
 }
 
+/// The members of a typed member list, brackets and all; nothing where it has not the layout of one.
+pub fn typed_members(typed: &[u8]) -> Option<Vec<u64>> {
+    numbers(inside(typed, b"(", b")")?)
+}
+
 /// Questions 5 to 10 of a region, V and T being what it has; the number of the first answered "no".
 pub fn judge(region: &Region) -> Result<(), u64> {
     let questions: [(u64, Question); 6] = [
@@ -120,7 +125,7 @@ fn patient(line: &[u8]) -> Option<Patient> {
 }
 
 /// `(cost (s ..) (e ..))`
-fn table(line: &[u8]) -> Option<Table> {
+pub fn table(line: &[u8]) -> Option<Table> {
     let both = inside(line, b"(cost (", b"))")?;
     let between = both.windows(3).position(|three| three == b") (")?;
     let members = numbers(&both[..between])?;

@@ -1,8 +1,8 @@
-//! The four calls of a file over the baseline reader and search; the fifth is in `writer`.
+//! The five calls of a file over the baseline reader and search; the sixth is in `writer`.
 
 use crate::areas::Areas;
 use crate::baseline::held::{Held, Patient, Table, HYPHEN};
-use crate::baseline::reader::read;
+use crate::baseline::reader::{is_member_list, read};
 use crate::baseline::rows::Row;
 use crate::baseline::search;
 
@@ -16,11 +16,16 @@ pub fn price(file: &[u8], plan: &[u8], result: &mut [u8]) -> u64 {
         Ok(None) => (0, 0, 0),
         Err(number) => (number, 0, 0),
     };
-    if let Some(numbers) = result.get_mut(..16) {
-        numbers[..8].copy_from_slice(&u64::to_le_bytes(allowed));
-        numbers[8..].copy_from_slice(&u64::to_le_bytes(total));
-    }
+    write_two(result, allowed, total);
     number
+}
+
+/// Two numbers, where the result area has room for both.
+fn write_two(result: &mut [u8], first: u64, second: u64) {
+    if let Some(numbers) = result.get_mut(..16) {
+        numbers[..8].copy_from_slice(&first.to_le_bytes());
+        numbers[8..].copy_from_slice(&second.to_le_bytes());
+    }
 }
 
 fn priced(file: &[u8], plan: &[u8], result_length: usize) -> Result<Option<u64>, u64> {
@@ -56,6 +61,40 @@ fn entry(held: &Held, table: &Table, plan: &[u8]) -> u32 {
         stride *= held.patients[*member as usize].beds as usize;
     }
     held.store[place]
+}
+
+/// Line: two result numbers, where it starts in the file and its length.
+pub fn line(file: &[u8], typed: &[u8], result: &mut [u8]) -> u64 {
+    match found(file, typed, result.len()) {
+        Ok((start, length)) => {
+            write_two(result, start as u64, length as u64);
+            0
+        }
+        Err(number) => {
+            write_two(result, 0, 0);
+            number
+        }
+    }
+}
+
+/// In an accepted file a table is over the typed members where its line begins with them.
+fn found(file: &[u8], typed: &[u8], result_length: usize) -> Result<(usize, usize), u64> {
+    read(file, &mut Held::blank())?;
+    if result_length < 16 {
+        return Err(12);
+    }
+    if !is_member_list(typed) {
+        return Err(21);
+    }
+    let over = |line: &[u8]| line.strip_prefix(b"(cost ").is_some_and(|members| members.starts_with(typed));
+    let mut start = 0;
+    for line in file.split_inclusive(|byte| *byte == b'\n') {
+        if over(line) {
+            return Ok((start, line.len() - 1));
+        }
+        start += line.len();
+    }
+    Ok((start, 0))
 }
 
 /// List: one result number, the row count.

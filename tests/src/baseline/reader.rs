@@ -78,22 +78,33 @@ fn patient_line(cursor: &mut Cursor, held: &mut Held) -> Option<()> {
     Some(())
 }
 
-/// Members beyond four, and entries beyond the store, are counted and not kept.
-fn table_line(cursor: &mut Cursor, held: &mut Held) -> Option<()> {
+/// Members up to the closing bracket, and how many there are; those beyond four are counted and not kept.
+fn members(cursor: &mut Cursor) -> Option<([u32; MOST_MEMBERS], usize)> {
     let mut members = [0; MOST_MEMBERS];
-    let mut member_count = 0;
+    let mut count = 0;
     loop {
         let member = cursor.number()?;
-        if let Some(place) = members.get_mut(member_count) {
+        if let Some(place) = members.get_mut(count) {
             *place = member;
         }
-        member_count += 1;
+        count += 1;
         match cursor.byte()? {
             b' ' => {}
-            b')' => break,
+            b')' => return Some((members, count)),
             _ => return None,
         }
     }
+}
+
+/// Question 21: has a typed text the layout of a member list?
+pub fn is_member_list(typed: &[u8]) -> bool {
+    let mut cursor = Cursor { rest: typed };
+    cursor.word(b"(").and_then(|()| members(&mut cursor)).is_some() && cursor.rest.is_empty()
+}
+
+/// Entries beyond the store are counted and not kept.
+fn table_line(cursor: &mut Cursor, held: &mut Held) -> Option<()> {
+    let (members, member_count) = members(cursor)?;
     cursor.word(b" (")?;
     let start = held.entry_count;
     let entry_count = entries(cursor, held.store.get_mut(start..).unwrap_or_default())?;

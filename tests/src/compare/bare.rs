@@ -1,19 +1,23 @@
 //! The proved library on memory blocks of exactly the lent lengths, without guard bytes: a memory
-//! checker then sees every read or write beside a file, a plan or an area.
+//! checker then sees every read or write beside a file, a plan, a typed text or an area.
 
 use crate::areas::{Areas, Outputs};
 use crate::boundary;
-use crate::compare::{Calls, Tested};
+use crate::compare::{Calls, PartCall, Tested};
 use crate::lent::Lent;
 
 pub const BARE: Calls = Calls {
     name: "few, every call",
     check: Tested { name: "few, check", call: check },
     price: Tested { name: "few, price", call: price },
+    line: Tested { name: "few, line", call: line },
     list: Tested { name: "few, list", call: list },
     sheet: Tested { name: "few, sheet", call: sheet },
     write: Tested { name: "few, write", call: write },
 };
+
+/// Its comparison lends such blocks itself.
+pub const BARE_PART: Tested<PartCall> = Tested { name: "few, line's part", call: boundary::line_part };
 
 /// Calls with a copy of some bytes that are only to be read, and sees that they stay as they were.
 fn lending<Answer>(bytes: &[u8], call: impl FnOnce(&[u8]) -> Answer) -> Answer {
@@ -23,15 +27,24 @@ fn lending<Answer>(bytes: &[u8], call: impl FnOnce(&[u8]) -> Answer) -> Answer {
     answer
 }
 
+/// Calls with a copy of a result area, which then takes over what was written.
+fn with_result(result: &mut [u8], call: impl FnOnce(&mut [u8]) -> u64) -> u64 {
+    let mut block: Box<[u8]> = (*result).into();
+    let number = call(&mut block);
+    result.copy_from_slice(&block);
+    number
+}
+
 fn check(file: &[u8]) -> u64 {
     lending(file, boundary::check)
 }
 
 fn price(file: &[u8], plan: &[u8], result: &mut [u8]) -> u64 {
-    let mut block: Box<[u8]> = (*result).into();
-    let number = lending(file, |file| lending(plan, |plan| boundary::price(file, plan, &mut block)));
-    result.copy_from_slice(&block);
-    number
+    with_result(result, |block| lending(file, |file| lending(plan, |plan| boundary::price(file, plan, block))))
+}
+
+fn line(file: &[u8], typed: &[u8], result: &mut [u8]) -> u64 {
+    with_result(result, |block| lending(file, |file| lending(typed, |typed| boundary::line(file, typed, block))))
 }
 
 fn list(file: &[u8], areas: &mut Areas) -> u64 {

@@ -1,9 +1,9 @@
-//! One file through all four calls. Cut, changed and damaged files: every call refuses what check refuses.
+//! One file through all five calls. Cut, changed and damaged files: every call refuses what check refuses.
 
 use crate::areas::{Area, Areas, Lengths};
 use crate::compare::report::{Difference, Tally};
-use crate::compare::{check, list, paper, price, sheet, Calls};
-use crate::generate::{clinics, damage, small, spelling};
+use crate::compare::{check, line, list, paper, price, sheet, Calls};
+use crate::generate::{clinics, damage, small, spelling, typed};
 use crate::outcomes::Outcomes;
 use crate::random::Random;
 use crate::reader;
@@ -21,7 +21,7 @@ pub fn run(calls: Calls, seed: u64, count: usize) -> Result<Vec<Tally>, Differen
     ])
 }
 
-/// Check, list, sheet and price of one file, in every byte that they leave.
+/// Check, list, sheet, price and line of one file, in every byte that they leave.
 pub fn compare(tally: &mut Tally, calls: Calls, file: &[u8], random: &mut Random) -> Result<Outcomes, Difference> {
     let outcomes = Outcomes::of(file);
     let region = outcomes.region();
@@ -35,6 +35,8 @@ pub fn compare(tally: &mut Tally, calls: Calls, file: &[u8], random: &mut Random
     sheet::compare(tally, calls.sheet, (file, &outcomes), clinic, areas)?;
     let result = Area::patterned(random.pick(&[0, 15, 16, 16, 16, 17]), random.number());
     price::compare(tally, calls.price, (file, &outcomes), &plan, result)?;
+    let result = Area::patterned(random.pick(&[0, 15, 16, 16, 16, 17]), random.number());
+    line::compare(tally, calls.line, (file, &outcomes.lines(file)), &typed::any(region, random), result)?;
     Ok(outcomes)
 }
 

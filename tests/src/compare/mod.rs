@@ -5,8 +5,10 @@ pub mod check;
 pub mod clinic_pairs;
 pub mod every_call;
 pub mod large;
+pub mod line;
 pub mod list;
 pub mod paper;
+pub mod part;
 pub mod price;
 pub mod printing;
 pub mod report;
@@ -15,10 +17,11 @@ pub mod write;
 pub mod wrong;
 
 use crate::areas::{Areas, Outputs};
+use crate::boundary::Part;
 use crate::generate::small;
 use crate::lent::Lent;
 use crate::{baseline, boundary};
-use bare::BARE;
+use bare::{BARE, BARE_PART};
 use report::{Difference, Tally};
 use std::path::Path;
 use std::thread;
@@ -32,16 +35,21 @@ pub struct Tested<Call> {
 
 pub type CheckCall = fn(&[u8]) -> u64;
 pub type PriceCall = fn(&[u8], &[u8], &mut [u8]) -> u64;
+pub type LineCall = fn(&[u8], &[u8], &mut [u8]) -> u64;
 pub type ListCall = fn(&[u8], &mut Areas) -> u64;
 pub type SheetCall = fn(&[u8], u64, &mut Areas) -> u64;
 pub type WriteCall = fn(&Lent, &mut Outputs) -> u64;
 
-/// The five calls of one program.
+/// Line's entry in Rattle: its number, and the part that it hands back.
+pub type PartCall = fn(&[u8], &[u8]) -> (u64, Option<Part>);
+
+/// The six calls of one program.
 #[derive(Clone, Copy)]
 pub struct Calls {
     pub name: &'static str,
     pub check: Tested<CheckCall>,
     pub price: Tested<PriceCall>,
+    pub line: Tested<LineCall>,
     pub list: Tested<ListCall>,
     pub sheet: Tested<SheetCall>,
     pub write: Tested<WriteCall>,
@@ -51,15 +59,20 @@ pub const LIBRARY: Calls = Calls {
     name: "every call",
     check: Tested { name: "check", call: boundary::check },
     price: Tested { name: "price", call: boundary::price },
+    line: Tested { name: "line", call: boundary::line },
     list: Tested { name: "list", call: boundary::list },
     sheet: Tested { name: "sheet", call: boundary::sheet },
     write: Tested { name: "write", call: boundary::write },
 };
 
+/// What line's entry hands back to a caller in Rattle.
+pub const LINE_PART: Tested<PartCall> = Tested { name: "line's part", call: boundary::line_part };
+
 pub const BASELINE: Calls = Calls {
     name: "baseline every call",
     check: Tested { name: "baseline check", call: baseline::calls::check },
     price: Tested { name: "baseline price", call: baseline::calls::price },
+    line: Tested { name: "baseline line", call: baseline::calls::line },
     list: Tested { name: "baseline list", call: baseline::calls::list },
     sheet: Tested { name: "baseline sheet", call: baseline::calls::sheet },
     write: Tested { name: "baseline write", call: baseline::writer::write },
@@ -71,7 +84,7 @@ pub fn run_all(seed: u64, count: usize, printer: Option<&Path>) -> Result<(), Di
     thread::scope(|scope| {
         let beside = scope.spawn(move || run_beside(seed, count, printer));
         let mut tallies = run_calls(LIBRARY, seed, count, Tally::print)?;
-        for tally in run_large(seed, count)? {
+        for tally in run_large(seed, count)?.into_iter().chain(run_parts(seed, count)?) {
             tally.print();
             tallies.push(tally);
         }
@@ -89,6 +102,11 @@ fn run_large(seed: u64, count: usize) -> Result<[Tally; 3], Difference> {
     Ok([lists, sheets, clinic_pairs::apart_large(LIBRARY.sheet, seed, count / 2)?])
 }
 
+/// Line's entry in Rattle, which only the proved library has.
+fn run_parts(seed: u64, count: usize) -> Result<[Tally; 2], Difference> {
+    Ok([part::regions(LINE_PART, seed, count / 2)?, part::faulty_files(LINE_PART, seed, count)?])
+}
+
 fn run_beside(seed: u64, count: usize, printer: Option<&Path>) -> Result<Vec<Tally>, Difference> {
     let mut tallies = run_calls(BASELINE, seed, count, |_| {})?;
     if let Some(program) = printer {
@@ -97,7 +115,7 @@ fn run_beside(seed: u64, count: usize, printer: Option<&Path>) -> Result<Vec<Tal
     Ok(tallies)
 }
 
-/// Every comparison of the five calls of one program.
+/// Every comparison of the six calls of one program.
 fn run_calls(calls: Calls, seed: u64, count: usize, done: fn(&Tally)) -> Result<Vec<Tally>, Difference> {
     let mut all = Vec::new();
     let mut add = |tallies: Vec<Tally>| {
@@ -108,6 +126,7 @@ fn run_calls(calls: Calls, seed: u64, count: usize, done: fn(&Tally)) -> Result<
     add(check::run(calls.check, seed, count)?);
     add(every_call::run(calls, seed, count)?);
     add(price::run(calls.price, seed, count)?);
+    add(line::run(calls.line, seed, count)?);
     add(list::run(calls.list, seed, count)?);
     add(sheet::run(calls.sheet, seed, count)?);
     add(clinic_pairs::run(calls.sheet, seed, count)?);
@@ -115,13 +134,14 @@ fn run_calls(calls: Calls, seed: u64, count: usize, done: fn(&Tally)) -> Result<
     Ok(all)
 }
 
-/// Some dozens of regions and files through all five calls, for a run under a memory checker.
+/// Some dozens of regions and files through all six calls, for a run under a memory checker.
 pub fn run_few(seed: u64) -> Result<(), Difference> {
     paper::run(BARE)?.print();
     print_all(check::run(BARE.check, seed, 20)?);
     every_call::damaged_files(BARE, seed, 60)?.print();
     every_call::random_files(BARE, seed, 60)?.print();
     print_all(price::run(BARE.price, seed, 24)?);
+    run_few_lines(seed)?;
     for kind in small::KINDS {
         list::regions(BARE.list, kind, seed, 4)?.print();
     }
@@ -133,6 +153,20 @@ pub fn run_few(seed: u64) -> Result<(), Difference> {
     large::lists(BARE.list, seed, 4)?.print();
     large::sheets(BARE.sheet, seed, 2)?.print();
     run_few_writes(seed)
+}
+
+/// Some of the comparisons of line; those of all changes of a typed text have thousands of cases.
+fn run_few_lines(seed: u64) -> Result<(), Difference> {
+    line::own_members(BARE.line, seed, 24)?.print();
+    line::repeated_tables(BARE.line, seed, 12)?.print();
+    line::other_members(BARE.line, seed, 12)?.print();
+    line::spoiled_texts(BARE.line, seed, 12)?.print();
+    line::long_texts(BARE.line, seed, 6)?.print();
+    line::faulty_files(BARE.line, seed, 24)?.print();
+    line::all_lengths(BARE.line, seed, 1)?.print();
+    part::regions(BARE_PART, seed, 24)?.print();
+    part::faulty_files(BARE_PART, seed, 24)?.print();
+    Ok(())
 }
 
 /// Some of the comparisons of write; those of all counts and lengths have thousands of cases.

@@ -3,13 +3,13 @@
 
 use crate::areas::{Area, Areas, Lengths};
 use crate::compare::report::{Difference, Tally};
-use crate::compare::{check, every_call, list, price, sheet, write, Calls};
+use crate::compare::{check, every_call, line, list, price, sheet, write, Calls};
 use crate::files::describe::{chain, flat_table, one_patient, paper, region, root, table};
 use crate::files::trial;
 use crate::generate::spelling::file_of;
 use crate::lent::numbers_in;
 use crate::limits::HIGHEST_ENTRY;
-use crate::outcomes::Outcomes;
+use crate::outcomes::{Lines, Outcomes};
 use crate::plans::{self, Row};
 use crate::printed;
 use crate::random::Random;
@@ -63,11 +63,25 @@ pub fn run(calls: Calls) -> Result<Tally, Difference> {
         let given = (outcomes.price(plan, result.lent()), numbers_in(&result));
         expect(&file, given == (number, numbers.to_vec()), (number, numbers), &given)?;
     }
+    look_up(&mut tally, calls, &mut random)?;
     let spelled = file_of(&paper());
     expect(PRINTED.as_bytes(), spelled == PRINTED.as_bytes(), PRINTED, String::from_utf8_lossy(&spelled))?;
     let printed = printed::text(&Outcomes::of(PRINTED.as_bytes()));
     expect(PRINTED.as_bytes(), printed == OUTPUT, OUTPUT, &printed)?;
     Ok(tally)
+}
+
+/// The printed file's lines.
+fn look_up(tally: &mut Tally, calls: Calls, random: &mut Random) -> Result<(), Difference> {
+    let file = PRINTED.as_bytes();
+    let lines = Lines::of(file);
+    for (typed, number, part) in looked_up() {
+        let mut result = Area::patterned(16, random.number());
+        line::compare(tally, calls.line, (file, &lines), typed.as_bytes(), result.clone())?;
+        let given = (lines.line(typed.as_bytes(), result.lent()), numbers_in(&result));
+        expect(file, given == (number, part.to_vec()), (typed, number, part), &given)?;
+    }
+    Ok(())
 }
 
 /// All of them.
@@ -143,6 +157,24 @@ fn staying() -> Vec<(Vec<u8>, Rows, Rows)> {
         with(Some(0), Some(0), &dear[..1]),
         with(Some(1), Some(1), &[]),
         (file_of(&region(9, [root(0, 3).staying_in(1), root(0, 2)], [])), no_table, no_table),
+    ]
+}
+
+/// Members as typed, of the printed file: line's number, where the line starts and its length, counted by hand. The file has 102 bytes.
+fn looked_up() -> [(&'static str, u64, [u64; 2]); 12] {
+    [
+        ("(0)", 0, [51, 16]),
+        ("(0 1)", 0, [68, 22]),
+        ("(1)", 0, [102, 0]),
+        ("(1 0)", 0, [102, 0]),
+        ("(0 1 2 3 4)", 0, [102, 0]),
+        ("(9999999)", 0, [102, 0]),
+        ("(3 1)", 0, [102, 0]),
+        ("0 1", 21, [0, 0]),
+        ("(0  1)", 21, [0, 0]),
+        ("(0 01)", 21, [0, 0]),
+        ("(0 1)\n", 21, [0, 0]),
+        ("(0 2 1 -)", 21, [0, 0]),
     ]
 }
 

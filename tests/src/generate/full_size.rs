@@ -31,6 +31,13 @@ pub fn longest_region() -> Region {
     Region { patients, tables: vec![table; 64], m: 64 }
 }
 
+/// The same but for the last table, which is over three of the four patients: its line is found by its own members alone.
+pub fn longest_with_own_last_table() -> Region {
+    let mut region = longest_region();
+    region.tables.last_mut().expect("64 tables").members.pop();
+    region
+}
+
 /// A good file of full size.
 pub fn good_file(random: &mut Random) -> Vec<u8> {
     file_of(&region(random))

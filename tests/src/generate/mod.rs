@@ -13,3 +13,4 @@ pub mod pairs;
 pub mod parents;
 pub mod small;
 pub mod spelling;
+pub mod typed;

@@ -4,6 +4,7 @@
 
 mod check_times;
 mod fixed_times;
+mod line_times;
 mod list_times;
 mod small_times;
 mod timing;
@@ -41,6 +42,7 @@ fn run(mut arguments: impl Iterator<Item = String>) -> Result<(), String> {
     }
     small_times::print();
     check_times::print(&given);
+    line_times::print(&given);
     write_times::print(&given);
     fixed_times::print(limit);
     list_times::print(&given, limit);

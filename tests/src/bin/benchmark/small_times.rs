@@ -22,6 +22,7 @@ pub fn print() {
     print_row("list", || boundary::list(file, &mut ours), || calls::list(file, &mut other));
     print_row("sheet", || boundary::sheet(file, 0, &mut ours), || calls::sheet(file, 0, &mut other));
     print_row("price", || boundary::price(file, &[1, 0], &mut result), || calls::price(file, &[1, 0], &mut others));
+    print_row("line", || boundary::line(file, b"(0 1)", &mut result), || calls::line(file, b"(0 1)", &mut others));
     assert!(ours == other && result == others, "the paper's file: two answers");
     println!();
 }

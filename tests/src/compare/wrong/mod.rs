@@ -3,7 +3,9 @@
 
 mod checks;
 mod fixed_beds;
+mod lines;
 mod lists;
+mod parts;
 mod prices;
 mod sheets;
 mod texts;
@@ -11,14 +13,16 @@ mod writes;
 
 use crate::compare::printing::{self, Text};
 use crate::compare::report::{Difference, Tally};
-use crate::compare::{check, clinic_pairs, every_call, large, list, price, sheet, write};
-use crate::compare::{Calls, CheckCall, ListCall, PriceCall, SheetCall, Tested, WriteCall, LIBRARY};
+use crate::compare::{check, clinic_pairs, every_call, large, line, list, part, price, sheet, write};
+use crate::compare::{
+    Calls, CheckCall, LineCall, ListCall, PartCall, PriceCall, SheetCall, Tested, WriteCall, LIBRARY,
+};
 use crate::generate::small::{Kind, KINDS};
 
 /// A comparison of one call, with a seed and a count.
 type Comparison<Call> = fn(Tested<Call>, u64, usize) -> Result<Tally, Difference>;
 
-/// A comparison of the four calls of a file.
+/// A comparison of the five calls of a file.
 type ComparisonOfAll = fn(Calls, u64, usize) -> Result<Tally, Difference>;
 
 /// A printing program's text of a file.
@@ -44,6 +48,12 @@ pub fn run() -> Result<Tally, Difference> {
         found(&mut tally, name, comparison(Tested { name, call }, SEED, COUNT))?;
     }
     for (name, comparison, call) in wrong_writes().into_iter().chain(unlike_writes()).chain(fixed_writes()) {
+        found(&mut tally, name, comparison(Tested { name, call }, SEED, COUNT))?;
+    }
+    for (name, comparison, call) in wrong_lines().into_iter().chain(wrong_texts_taken()).chain(misasked_lines()) {
+        found(&mut tally, name, comparison(Tested { name, call }, SEED, COUNT))?;
+    }
+    for (name, comparison, call) in wrong_parts() {
         found(&mut tally, name, comparison(Tested { name, call }, SEED, COUNT))?;
     }
     for (name, comparison, calls) in wrong_calls() {
@@ -285,10 +295,134 @@ fn fixed_writes() -> Vec<(&'static str, Comparison<WriteCall>, WriteCall)> {
     ]
 }
 
-/// One wrong call among the four of a file.
+/// Lines that are another, or told otherwise.
+fn wrong_lines() -> Vec<(&'static str, Comparison<LineCall>, LineCall)> {
+    vec![
+        ("the last of several", line::repeated_tables, lines::last_of_several),
+        ("the last of several", line::own_members, lines::last_of_several),
+        ("the last of lines that are alike", line::repeated_tables, lines::last_of_alike),
+        ("the last table is not looked at", line::own_members, lines::last_table_left_out),
+        ("the first table is not looked at", line::own_members, lines::first_table_left_out),
+        ("the text is looked for anywhere in a line", line::own_members, lines::text_anywhere),
+        ("the text is looked for anywhere in a line", line::other_members, lines::text_anywhere),
+        ("(1) finds (12)", line::own_members, lines::without_bracket),
+        ("(1) finds (12)", line::other_members, lines::without_bracket),
+        ("(12) finds (1)", line::other_members, lines::within_text),
+        ("(0) finds (0 1)", line::own_members, lines::first_members_enough),
+        ("(0) finds (0 1)", line::other_members, lines::first_members_enough),
+        ("(0 1) finds (0)", line::own_members, lines::more_members_passed_over),
+        ("(0 1) finds (0)", line::other_members, lines::more_members_passed_over),
+        ("a fifth member is not kept", line::other_members, lines::four_members_kept),
+        ("the order is ignored", line::other_members, lines::order_ignored),
+        ("members are compared as sets", line::other_members, lines::compared_as_sets),
+        ("one member in common is enough", line::own_members, lines::one_in_common),
+        ("the count of members is enough", line::own_members, lines::count_alone),
+        ("members are cut to 5 bits", line::other_members, lines::members_cut::<5>),
+        ("members are cut to 8 bits", line::other_members, lines::members_cut::<8>),
+        ("members are cut to 16 bits", line::other_members, lines::members_cut::<16>),
+        ("with the line end", line::own_members, lines::with_line_end),
+        ("the length for the start", line::own_members, lines::size_for_start),
+        ("the end for the length", line::own_members, lines::end_for_size),
+        ("places are counted from 1", line::own_members, lines::counted_from_1),
+        ("the start is cut to 8 bits", line::own_members, lines::start_cut::<8>),
+        ("the start is cut to 15 bits", line::own_members, lines::start_cut::<15>),
+        ("numbers are written highest byte first", line::own_members, lines::highest_byte_first),
+        ("members and entries alone", line::own_members, lines::lists_alone),
+        ("zeros where there is no line", line::other_members, lines::zeros_for_none),
+        ("the last byte's place where there is no line", line::other_members, lines::last_byte_for_none),
+        ("the end line where there is no line", line::other_members, lines::end_line_for_none),
+        ("zeros where there is no line", line::all_lengths, lines::zeros_for_none),
+        ("zeros where there is no line, of a long text", line::long_texts, lines::zeros_for_none),
+    ]
+}
+
+/// Lines that take other texts for a member list, or refuse some.
+fn wrong_texts_taken() -> Vec<(&'static str, Comparison<LineCall>, LineCall)> {
+    vec![
+        ("no such line is 21", line::other_members, lines::none_is_21),
+        ("five members are 21", line::other_members, lines::five_members_are_21),
+        ("five members are 21", line::long_texts, lines::five_members_are_21),
+        ("members that do not rise are 21", line::other_members, lines::not_rising_is_21),
+        ("a member that nobody is is 21", line::other_members, lines::nobody_is_21),
+        ("seven digits are 21", line::other_members, lines::seven_digits_are_21),
+        ("seven digits are 21", line::changed_texts, lines::seven_digits_are_21),
+        ("leading zeros are taken", line::spoiled_texts, lines::leading_zeros_taken),
+        ("leading zeros are taken", line::changed_texts, lines::leading_zeros_taken),
+        ("eight digits are taken", line::spoiled_texts, lines::eight_digits_taken),
+        ("eight digits are taken", line::changed_texts, lines::eight_digits_taken),
+        ("a hyphen is taken", line::spoiled_texts, lines::hyphen_taken),
+        ("a hyphen is taken", line::changed_texts, lines::hyphen_taken),
+        ("no member is taken", line::spoiled_texts, lines::no_member_taken),
+        ("no member is taken", line::changed_texts, lines::no_member_taken),
+        ("doubled spaces are taken", line::spoiled_texts, lines::doubled_spaces_taken),
+        ("doubled spaces are taken", line::changed_texts, lines::doubled_spaces_taken),
+        ("spaces within brackets are taken", line::spoiled_texts, lines::inner_spaces_taken),
+        ("spaces within brackets are taken", line::changed_texts, lines::inner_spaces_taken),
+        ("spaces before and after are taken", line::spoiled_texts, lines::outer_spaces_taken),
+        ("a line end is taken", line::spoiled_texts, lines::line_end_taken),
+        ("a line end is taken", line::changed_texts, lines::line_end_taken),
+        ("a line end is taken", line::long_texts, lines::line_end_taken),
+        ("commas are taken", line::spoiled_texts, lines::commas_taken),
+        ("missing brackets are added", line::spoiled_texts, lines::brackets_added),
+        ("a missing last bracket is added", line::changed_texts, lines::last_bracket_added),
+        ("a missing last bracket is added", line::long_texts, lines::last_bracket_added),
+        ("what is behind the bracket is passed over", line::spoiled_texts, lines::behind_passed_over),
+        ("what is behind the bracket is passed over", line::long_texts, lines::behind_passed_over),
+        ("a table's whole line is taken", line::spoiled_texts, lines::whole_line_taken),
+        ("the text's length is cut to 16 bits", line::long_texts, lines::text_cut),
+        ("a text of more than 65,535 bytes is 21", line::long_texts, lines::long_texts_refused::<65_535>),
+        ("a text of more than 99,999 bytes is 21", line::long_texts, lines::long_texts_refused::<99_999>),
+    ]
+}
+
+/// Lines that ask in another order, or leave other bytes on a refusal.
+fn misasked_lines() -> Vec<(&'static str, Comparison<LineCall>, LineCall)> {
+    vec![
+        ("21 is not asked", line::spoiled_texts, lines::without::<21>),
+        ("12 before the file's", line::faulty_files, lines::twelve_first),
+        ("12 before the file's", line::all_lengths, lines::twelve_first),
+        ("21 before 12", line::all_lengths, lines::twenty_one_before_12),
+        ("21 before 12", line::changed_texts, lines::twenty_one_before_12),
+        ("21 before the file's", line::faulty_files, lines::twenty_one_first),
+        ("question 1 is not asked", line::faulty_files, lines::without::<1>),
+        ("question 2 is not asked", line::faulty_files, lines::without::<2>),
+        ("question 3 is not asked", line::faulty_files, lines::without::<3>),
+        ("question 4 is not asked", line::faulty_files, lines::without::<4>),
+        ("question 5 is not asked", line::faulty_files, lines::without::<5>),
+        ("question 6 is not asked", line::faulty_files, lines::without::<6>),
+        ("question 7 is not asked", line::faulty_files, lines::without::<7>),
+        ("question 8 is not asked", line::faulty_files, lines::without::<8>),
+        ("question 9 is not asked", line::faulty_files, lines::without::<9>),
+        ("question 10 is not asked", line::faulty_files, lines::without::<10>),
+        ("a refusal leaves the result area", line::faulty_files, lines::result_left),
+        ("a refusal leaves the result area", line::spoiled_texts, lines::result_left),
+        ("a refusal gives the file's length", line::faulty_files, lines::length_on_refusal),
+        ("a refusal gives the file's length", line::spoiled_texts, lines::length_on_refusal),
+        ("21 tells a line", line::spoiled_texts, lines::first_table_on_21),
+        ("8 bytes of result are enough", line::all_lengths, lines::short_result),
+        ("24 bytes of result are asked for", line::all_lengths, lines::longer_result_asked),
+        ("a short result area is written", line::all_lengths, lines::short_result_written),
+        ("a byte after the result is written", line::all_lengths, lines::behind_result_written),
+    ]
+}
+
+/// Parts that are not those of the file.
+fn wrong_parts() -> Vec<(&'static str, Comparison<PartCall>, PartCall)> {
+    vec![
+        ("a copy is handed back", part::regions, parts::copied),
+        ("a copy is handed back", part::faulty_files, parts::copied),
+        ("a part of the typed text is handed back", part::regions, parts::of_the_typed_text),
+        ("an empty part elsewhere", part::regions, parts::empty_elsewhere),
+        ("an empty part elsewhere", part::faulty_files, parts::empty_elsewhere),
+        ("nothing is handed back", part::faulty_files, parts::nothing),
+    ]
+}
+
+/// One wrong call among the five of a file.
 fn wrong_calls() -> Vec<(&'static str, ComparisonOfAll, Calls)> {
     let check = |call| Calls { check: Tested { call, ..LIBRARY.check }, ..LIBRARY };
     let price = |call| Calls { price: Tested { call, ..LIBRARY.price }, ..LIBRARY };
+    let line = |call| Calls { line: Tested { call, ..LIBRARY.line }, ..LIBRARY };
     let list = |call| Calls { list: Tested { call, ..LIBRARY.list }, ..LIBRARY };
     let sheet = |call| Calls { sheet: Tested { call, ..LIBRARY.sheet }, ..LIBRARY };
     vec![
@@ -296,6 +430,11 @@ fn wrong_calls() -> Vec<(&'static str, ComparisonOfAll, Calls)> {
         ("list does not ask for the sum", every_call::one_byte_changes, list(lists::without_sum)),
         ("price does not ask for the sum", every_call::one_byte_changes, price(prices::without_sum)),
         ("sheet does not ask for the sum", every_call::one_byte_changes, sheet(sheets::without_sum)),
+        ("line does not ask for the sum", every_call::one_byte_changes, line(lines::without_sum)),
+        ("line adds a line end", every_call::cuts, line(lines::line_end_added)),
+        ("line takes the old form", every_call::old_form, line(lines::old_form_taken)),
+        ("line does not ask question 4 of damaged files", every_call::damaged_files, line(lines::without::<4>)),
+        ("line does not ask question 2 of random bytes", every_call::random_files, line(lines::without::<2>)),
         ("check adds a line end", every_call::cuts, check(checks::line_end_added)),
         ("list adds a line end", every_call::cuts, list(lists::line_end_added)),
         ("price adds a line end", every_call::cuts, price(prices::line_end_added)),
