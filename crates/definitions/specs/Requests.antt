@@ -231,7 +231,7 @@ pub record FoundLines : Type 0 where
       "" ∷ "(" ∷ "()" ∷ "0 1" ∷ "(0 1" ∷ "0 1)" ∷ "(0  1)" ∷ "( 0 1)" ∷ "(0 1 )" ∷ " (0 1)" ∷ "(0 1) " ∷ "(00)" ∷ "(-)" ∷ "(0,1)" ∷ "(10000000)" ∷ "(0 1)\n"
       ∷ "(0)(1)" ∷ "(cost (0) (3 1))" ∷ [])
       ≡ replicate 18 (noLine 21 102)
-  pub tenFirst : lineOutcome (overOneAndTwo 0) [] ≡ noLine 10 97
+  pub tenFirst : map (line (overOneAndTwo 0)) ("(1 2)" ∷ "" ∷ []) ≡ replicate 2 (noLine 10 97)
   pub refusedFile : line (text "(region)") "(0)" ≡ noLine 2 8
   pub inMemory : partOf 5 1000 paperFile (line paperFile "(0)") ≡ record { number = 0; block = 5; place = 1051; size = 16; bytes = text "(cost (0) (3 1))" }
   pub emptyInMemory : partOf 5 1000 paperFile (line paperFile "()") ≡ record { number = 21; block = 5; place = 1102; size = 0; bytes = [] }
