@@ -1,28 +1,60 @@
 -- Question 21, and whether a line begins as the line of a table over the typed members does.
 use mathlib.Core.Path.{_≡_, ap, _∙_}
+use Prim.Native.Nat.{_≤_}
 use native.Mathlib.Decide.{decLe}
 use native.Mathlib.Omega.{arith}
 use borrow.Author.Tests.{le-leb, lt-leb}
-use lib.ListN.{drop}
-use Rattle.definitions.specs.Basics.{ℕ, false, none, some, bind, List, _++_, length, leb, text, isSome}
-use Rattle.definitions.specs.Layout.{exactly, number, items}
+use Rattle.definitions.specs.Basics.{ℕ, _<_, Bool, true, false, Option, none, some, bind, List, [], _++_, length, leb, text, isSome}
+use Rattle.definitions.specs.Layout.{exactly, word, number, items}
 use Rattle.definitions.specs.Lookup.{typedRight}
 use Rattle.theorems.specs.Lookup.{begins}
+use Rattle.scanner.specs.Answers.{ReadAt, read-as}
+use Rattle.scanner.specs.Bounds.{number-bounded}
+use Rattle.scanner.specs.Separators.{separator}
 use Rattle.scanner.specs.Tokens.{more-left, nothing-left}
 use Rattle.scanner.specs.Words.{words-there, words-missing}
+use Rattle.table_reader.specs.TakenItems.{ItemsTaken, items-start, items-no-list, items-no-item, items-next, items-closed, items-no-separator}
 
-module _ (typed : List ℕ) where
-  pub no-list : items number typed ≡ none → typedRight typed ≡ false
-  unfolding typedRight bind
-  no-list e = rw e
+-- On the way through the typed list: the members before place i are taken.
+pub record Taking (typed : List ℕ) (i : ℕ) : Type 0 where
+  pub said : List ℕ
+  pub taken : ItemsTaken number typed 0 said i
 
-  -- A list was read: nothing may stand after it.
-  pub list-read : (next : ℕ) {said : List ℕ} → items number typed ≡ some (said, drop next typed) → leb (length typed) next ≡ typedRight typed
-  unfolding typedRight bind
-  list-read next e = elim (decLe (length typed) next) [
-    | yes h ↦ rw (e, nothing-left typed next h) (le-leb (length typed) next h)
-    | no h ↦ rw (e, more-left typed next (omega arith)) (lt-leb (length typed) next (omega arith))
-  ]
+no-list : (typed : List ℕ) → items number typed ≡ none → false ≡ typedRight typed
+unfolding typedRight bind
+no-list typed e = rw e
+
+-- The bracket that opens it.
+module _ {typed : List ℕ} {o : Option (Unit {0} × ℕ)} (h : ReadAt (word "(") typed 0 o) where
+  pub not-opened : o ≡ none → false ≡ typedRight typed
+  not-opened e = no-list typed (items-no-list number (read-as e h))
+
+  pub taking-start : {start : ℕ} → o ≡ some (tt, start) → Taking typed start
+  taking-start e = record { said = []; taken = items-start (read-as e h) }
+
+-- A member, and what stands after it.
+module _ {typed : List ℕ} {i : ℕ} (t : Taking typed i) {o : Option (ℕ × ℕ)} (h : ReadAt number typed i o) where
+  pub no-member : o ≡ none → false ≡ typedRight typed
+  no-member e = no-list typed (items-no-item number-bounded (t .taken) (read-as e h))
+
+  module _ {member end : ℕ} (e : o ≡ some (member, end)) {step : Option (Bool × ℕ)} (q : ReadAt separator typed end step) where
+    pub not-separated : step ≡ none → false ≡ typedRight typed
+    not-separated f = no-list typed (items-no-separator number-bounded (t .taken) (read-as e h) (read-as f q))
+
+    pub taking-on : {next : ℕ} → step ≡ some (true, next) → Taking typed next × (i < next) × (next ≤ length typed)
+    taking-on f =
+        let (taken, ahead, within) = items-next number-bounded (t .taken) (read-as e h) (read-as f q) in
+        (record { said = _; taken = taken }, ahead, within)
+
+    -- The list is read: nothing may stand after it.
+    pub closed : (next : ℕ) → step ≡ some (false, next) → leb (length typed) next ≡ typedRight typed
+    unfolding typedRight bind
+    closed next f =
+        let list = items-closed number-bounded (t .taken) (read-as e h) (read-as f q) .read in
+        elim (decLe (length typed) next) [
+          | yes all ↦ rw (list, nothing-left typed next all) (le-leb (length typed) next all)
+          | no more ↦ rw (list, more-left typed next (omega arith)) (lt-leb (length typed) next (omega arith))
+        ]
 
 module _ (typed line : List ℕ) where
   -- The line's first bytes are missing.

@@ -8,19 +8,38 @@ use answers::checked_number;
 use held_region::FORBIDDEN;
 use line_reader::line_end;
 use reader::load;
+use scanner::ItemStep;
+use scanner::Number;
 use scanner::Passed;
 use scanner::bytes_at;
-use table_reader::members_at;
+use scanner::item_step;
+use scanner::number_at;
+use scanner::open_at;
 
-// Question 21: are the typed bytes a list of members, with nothing after it?
+// Question 21: are the typed bytes a list of members, with nothing after it? None of them is held.
 fn typed_right(typed: &[u8]) -> bool
     ensures { λ r. ⌜ r ≡ typedRight (now (typed .entry)) ⌝ }
 {
-    let members = members_at(typed, 0);
-    if !members.found {
+    let Passed::At(start) = open_at(typed, 0) else {
         return false;
+    };
+    let mut i = start;
+    loop {
+        let Number::Value(_, end) = number_at(typed, i) else {
+            return false;
+        };
+        match item_step(typed, end) {
+            ItemStep::Next(next) => {
+                i = next;
+            }
+            ItemStep::Closed(next) => {
+                return typed.len() <= next;
+            }
+            ItemStep::Nothing => {
+                return false;
+            }
+        }
     }
-    typed.len() <= members.next
 }
 
 // Does a line begin as the line of a table over the typed members does?

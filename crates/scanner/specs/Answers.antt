@@ -29,6 +29,10 @@ pub record ReadAt {A : Type 0} (reader : Reader ℕ A) (s : List ℕ) (at : ℕ)
   pub says : resting s found ≡ reader (drop at s)
   pub ahead : Ahead s at found
 
+-- What was found, said another way.
+pub read-as : {A : Type 0} {reader : Reader ℕ A} {s : List ℕ} {at : ℕ} {found other : Option (A × ℕ)} → found ≡ other → ReadAt reader s at found → ReadAt reader s at other
+read-as e h = rw e at h
+
 -- What the reader gives there, by what was found.
 module _ {A : Type 0} {reader : Reader ℕ A} {s : List ℕ} {at : ℕ} {found : Option (A × ℕ)} (h : ReadAt reader s at found) where
   pub there : {a : A} {next : ℕ} → found ≡ some (a, next) → reader (drop at s) ≡ some (a, drop next s)

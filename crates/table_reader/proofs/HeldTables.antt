@@ -12,7 +12,7 @@ use Rattle.held_region.specs.Meaning.{codeOf, noTable}
 use Rattle.scanner.specs.declared.Passed.{Passed}
 use Rattle.scanner.specs.declared.Passed.the-variants.{At, Nothing as NotPassed}
 use Rattle.scanner.specs.Words.{formStart, words-there, words-missing}
-use Rattle.scanner.specs.Answers.{ReadAt, passed, there, missing}
+use Rattle.scanner.specs.Answers.{ReadAt, passed, there, missing, read-as}
 use Rattle.scanner.specs.Separators.{separator, separator-ahead}
 use Rattle.scanner.specs.Items.{Bounded}
 use Rattle.table_reader.specs.declared.Entries.{Entries}
@@ -29,10 +29,6 @@ module _ {There Missing : Type 0} where
 
   pub not-found : Missing → Found false There Missing
   not-found m = record { there = λ e. absurd (false≢true e); missing = λ e. m }
-
--- What is read, said another way.
-read-as : {A : Type 0} {reader : Reader ℕ A} {s : List ℕ} {at : ℕ} {o p : Option (A × ℕ)} → o ≡ p → ReadAt reader s at o → ReadAt reader s at p
-read-as e h = rw e at h
 
 -- A list begins, or is not there.
 module _ {A : Type 0} (item : Reader ℕ A) {s : List ℕ} {at : ℕ} {r : Passed} (h : ReadAt (word "(") s at (passed r)) where
