@@ -225,6 +225,7 @@ pub record FoundLines : Type 0 where
   pub firstOfEqual : line severalTables "(1)" ≡ at 87 14
   pub noSuchLine :
       map (line paperFile) ("(1)" ∷ "(1 0)" ∷ "(0 0)" ∷ "(0 1 2)" ∷ "(0 1 2 3 4)" ∷ "(32)" ∷ "(9999999)" ∷ []) ≡ replicate 7 (at 102 0)
+  pub someOfTheMembers : map (line (overOneAndTwo 1)) ("(1)" ∷ "(2)" ∷ []) ≡ replicate 2 (at 97 0)
   pub forbiddenEntries : read allForbidden "(0)" ≡ text "(cost (0) (- -))"
   pub number21 :
       map (line paperFile) (
@@ -250,6 +251,7 @@ foundLines = record {
   firstOfTwo = refl;
   firstOfEqual = refl;
   noSuchLine = refl;
+  someOfTheMembers = refl;
   forbiddenEntries = refl;
   number21 = refl;
   tenFirst = refl;
