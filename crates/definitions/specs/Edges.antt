@@ -320,5 +320,5 @@ rows = record {
   paperYields = refl;
   yields = refl;
   sameClinic = record { beds = refl; fixed = refl; tables = λ t. refl; apartInFirst = refl; apartInSecond = refl };
-  sameBeginning = record { firstRow = omega arith; secondRow = omega arith; sameRows = refl };
+  sameBeginning = record { firstRow = omega arith; secondRow = omega arith; sameRows = refl {a = row 0 (1 ∷ []) ∷ []} };
 }

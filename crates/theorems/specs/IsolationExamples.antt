@@ -72,7 +72,7 @@ unfolding everything
 apart-alike = record {
   firstYields = refl;
   secondYields = refl;
-  sameClinic = record { beds = refl; fixed = refl; tables = times-swap (single 0) (double 0 1); apartInFirst = refl; apartInSecond = refl };
+  sameClinic = record { beds = refl {a = 2 ∷ 2 ∷ []}; fixed = refl {a = none ∷ none ∷ []}; tables = times-swap (single 0) (double 0 1); apartInFirst = refl; apartInSecond = refl };
   firstSheet = refl;
   secondSheet = refl;
   noPatients = refl;
@@ -94,7 +94,7 @@ pub joined-differs : Joined
 unfolding everything
 joined-differs = record {
   secondYields = refl;
-  beds = refl;
+  beds = refl {a = 2 ∷ 2 ∷ []};
   tables = times-swap (single 0) (double 0 1);
   joinedInSecond = refl;
   secondSheet = refl;
@@ -123,7 +123,7 @@ pub fixed-differs : FixedOtherwise
 unfolding everything
 fixed-differs = record {
   secondYields = refl;
-  beds = refl;
+  beds = refl {a = 2 ∷ 2 ∷ []};
   firstFixed = refl;
   secondFixed = refl;
   tables = times-swap (single 0) (double 0 1);
