@@ -1,15 +1,14 @@
--- What is left to store, byte by byte and number by number, and when a result area is long enough.
+-- What is left to store, byte by byte and number by number.
 use mathlib.Core.Path.{ap}
 use Prim.Native.Nat.{_≤_}
 use native.Mathlib.Numerals.{add-one}
 use native.Mathlib.Omega.{arith}
-use borrow.Author.Tests.{le-leb, lt-leb}
 use mir.Val.{boolByte}
 use lib.ListN.{set, drop, drop-of-length-le, length-take}
 use lib.Seq.{drop-cons, getD-take, length-take-le}
 use Rattle.definitions.specs.Basics.{ℕ, suc, _+_, _-_, _*_, _/_, _%_, _<_, _≡_, refl, List, [], _∷_, Bool, true, false, cond, length, getD, take, sets}
 use Rattle.definitions.specs.Outcomes.{written}
-use Rattle.definitions.specs.Boundary.{bytesOf, resultAfter}
+use Rattle.definitions.specs.Boundary.{bytesOf}
 
 -- A loop over eight bytes from place `at` on: the area once those from byte i on are stored, which are the lowest of the rest.
 unfoldable pub bytesLeft : ℕ → ℕ → List ℕ → ℕ → List ℕ
@@ -56,16 +55,6 @@ module _ (n : ℕ) (held area : List ℕ) where
   numbers-done i h =
       let all : length (take n held) ≤ i = simp length-take (omega arith) in
       rw (drop-of-length-le (take n held) all)
-
--- A result area with room for the numbers has them afterwards; a shorter one is as it was.
-module _ (numbers result : List ℕ) where
-  pub result-written : length numbers * 8 ≤ length result → written 0 8 (bytesOf 8) numbers result ≡ resultAfter numbers result
-  unfolding resultAfter
-  result-written h = rw (le-leb (length numbers * 8) (length result) h)
-
-  pub result-short : length result < length numbers * 8 → result ≡ resultAfter numbers result
-  unfolding resultAfter
-  result-short h = rw (lt-leb (length numbers * 8) (length result) h)
 
 -- Two numbers, one behind the other.
 pub pair-written : (a b : ℕ) (result : List ℕ) {first both : List ℕ} → first ≡ sets result 0 (bytesOf 8 a) → both ≡ sets first 8 (bytesOf 8 b)

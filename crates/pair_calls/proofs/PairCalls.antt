@@ -11,11 +11,12 @@ use Rattle.definitions.specs.Lookup.{FilePart, lineOver, askedByLine, LineOutco
 use Rattle.definitions.specs.Boundary.{roomForNumbers, resultAfter, PairCall, priceCallOf, priceCall, partNumbers, lineCallOf, lineCall}
 use Rattle.theorems.specs.Answers.{Numbered}
 use Rattle.theorems.specs.Refusals.{price-number}
+use Rattle.byte_areas.specs.Results.{result-short}
 use Rattle.line_finder.specs.declared.FoundLine.{FoundLine}
 use Rattle.line_finder.specs.Found.{lineOf}
 use Rattle.answers.specs.Rooms.{orTwelve, with-room, without-room}
 
--- The number of such a call, by the length of its result area; and what is left of one that is too short.
+-- The number of such a call, by the length of its result area.
 module _ (asks : Asks) (result : List ℕ) where
   abbrev asked : ℕ
   asked = firstNo (callAsks asks (roomForNumbers 2 result))
@@ -26,10 +27,6 @@ module _ (asks : Asks) (result : List ℕ) where
   long-number : 16 ≤ length result → asked ≡ firstNo (entryAsks asks)
   long-number h = ap (λ room. firstNo (callAsks asks room)) (le-leb 16 (length result) h) ∙ with-room asks
 
-short-result : (a b : ℕ) (result : List ℕ) → length result < 16 → result ≡ resultAfter (a ∷ b ∷ []) result
-unfolding resultAfter
-short-result a b result h = rw (lt-leb 16 (length result) h)
-
 -- A call that is refused for its result area, and one that is not.
 module _ (file : List ℕ) (plan : Plan) (result : List ℕ) where
   pub price-short : {n : ℕ} → length result < 16 → n ≡ orTwelve (checkOf file) → record { number = n; result = result } ≡ priceCall file plan result
@@ -38,7 +35,7 @@ module _ (file : List ℕ) (plan : Plan) (result : List ℕ) where
       let asked = callAsks (askedByPrice file plan) (roomForNumbers 2 result) in
       let p = priceFound file plan asked in
       let number = e ∙ sym (short-number (askedByPrice file plan) result tt h) ∙ sym (price-number file plan asked) in
-      λ i. record { number = number i; result = short-result (cond (p .allowed) 1 0) (p .total) result h i }
+      λ i. record { number = number i; result = result-short (cond (p .allowed) 1 0 ∷ p .total ∷ []) result h i }
 
   pub price-long : {p : PriceOutcome} {after : List ℕ} → 16 ≤ length result → p ≡ priceOutcome file plan → after ≡ resultAfter (cond (p .allowed) 1 0 ∷ p .total ∷ []) result
       → record { number = p .number; result = after } ≡ priceCall file plan result
@@ -48,8 +45,8 @@ module _ (file : List ℕ) (plan : Plan) (result : List ℕ) where
       ∙ ap (λ q. priceCallOf q result) (e ∙ ap (λ n. priced n (total (regionOf file) plan)) (sym (long-number (askedByPrice file plan) result h)))
 
 short-part : (n : ℕ) (part : FilePart) (result : List ℕ) → length result < 16 → result ≡ resultAfter (partNumbers n part) result
-short-part zero part result h = short-result _ _ result h
-short-part (suc q) part result h = short-result _ _ result h
+short-part zero part result h = result-short _ result h
+short-part (suc q) part result h = result-short _ result h
 
 module _ (file typed result : List ℕ) where
   pub line-short : {n : ℕ} → length result < 16 → n ≡ orTwelve (checkOf file) → record { number = n; result = result } ≡ lineCall file typed result

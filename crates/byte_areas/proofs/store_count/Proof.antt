@@ -1,7 +1,7 @@
 use borrow.Author.Needs.{needs}
 use mathlib.Core.Path.{_∙_}
 use native.Mathlib.Omega.{arith}
-use Rattle.byte_areas.proofs.Stores.{result-written, result-short}
+use Rattle.byte_areas.specs.Results.{result-written, result-short}
 use Rattle.byte_areas.proofs.store_count.Statement.{statement}
 use Rattle.byte_areas.proofs.store_count.Tie as tie
 

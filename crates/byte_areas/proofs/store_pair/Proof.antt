@@ -1,7 +1,8 @@
 use borrow.Author.Needs.{needs}
 use mathlib.Core.Path.{_∙_}
 use native.Mathlib.Omega.{arith}
-use Rattle.byte_areas.proofs.Stores.{pair-written, result-written, result-short}
+use Rattle.byte_areas.specs.Results.{result-written, result-short}
+use Rattle.byte_areas.proofs.Stores.{pair-written}
 use Rattle.byte_areas.proofs.store_pair.Statement.{statement}
 use Rattle.byte_areas.proofs.store_pair.Tie as tie
 
