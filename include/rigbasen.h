@@ -97,8 +97,10 @@ uint64_t rigbasen_list(const uint8_t *file, size_t file_length,
  * The sheet of one clinic: of the list's rows, those whose beds for the clinic's k patients have not come before.
  * Questions 1 to 13. Question 12 asks for the same areas as list. A clinic number above 15 has no patient: 11.
  *
- * Row r has its k beds from beds[r * k] on, the clinic's patients in file order,
- * and the clinic's own cost, of the tables whose members are all its patients, from costs[r * 8] on.
+ * Row r has its k beds from beds[r * k] on, the clinic's patients in file order, and from costs[r * 8] on the clinic's own cost:
+ * its share of the cost of the list's row where these beds first came. Each table counts for the clinic of its lowest-numbered
+ * member, so in every row of the list the shares of all clinics add up to the row's cost. Where a table joins the clinic to others,
+ * a later row of the list with the same beds for the clinic may have another share; the sheet has the first.
  */
 uint64_t rigbasen_sheet(const uint8_t *file, size_t file_length, uint64_t clinic,
                         uint8_t *beds, size_t beds_length,

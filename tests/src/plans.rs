@@ -1,4 +1,4 @@
-//! Plans, the list and sheets as document 01 defines them, by walking all plans one by one.
+//! Plans, the list and sheets as documents 01 and 02 define them, by walking all plans one by one.
 
 use crate::region::{Region, Table};
 
@@ -64,7 +64,7 @@ pub fn list(region: &Region) -> Vec<Row> {
 }
 
 /// The sheet of a clinic: of the list's rows, each whose beds for the clinic's patients, taken
-/// together, have not come before, with the clinic's own cost.
+/// together, have not come before, with the clinic's own cost of that row.
 pub fn sheet(region: &Region, list: &[Row], clinic: u64) -> Vec<Row> {
     let patients = region.patients_of(clinic);
     let mut rows: Vec<Row> = Vec::new();
@@ -77,8 +77,19 @@ pub fn sheet(region: &Region, list: &[Row], clinic: u64) -> Vec<Row> {
     rows
 }
 
-/// The sum over the tables whose members are all patients of the clinic.
-fn own_cost(region: &Region, clinic: u64, plan: &[u8]) -> u64 {
-    let own = |table: &&Table| table.members.iter().all(|member| region.patients[*member as usize].clinic == clinic);
-    region.tables.iter().filter(own).map(|table| entry(region, table, plan).expect("the plan is allowed")).sum()
+/// The clinic that a table counts for: that of its lowest-numbered member.
+pub fn clinic_of(region: &Region, table: &Table) -> u64 {
+    let lowest = table.members.iter().min().expect("a table has members");
+    region.patients[*lowest as usize].clinic
+}
+
+/// The clinic's share of an allowed plan's total: the sum over the tables that count for it.
+pub fn own_cost(region: &Region, clinic: u64, plan: &[u8]) -> u64 {
+    cost_of(region, plan, |table| clinic_of(region, table) == clinic)
+}
+
+/// The sum over some tables, for an allowed plan.
+pub fn cost_of(region: &Region, plan: &[u8], counts: impl Fn(&Table) -> bool) -> u64 {
+    let own = region.tables.iter().filter(|table| counts(table));
+    own.map(|table| entry(region, table, plan).expect("the plan is allowed")).sum()
 }

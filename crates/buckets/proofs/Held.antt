@@ -8,18 +8,21 @@ use Rattle.definitions.specs.Basics.{ℕ, zero, suc, _+_, _-_, _*_, _<_, refl, 
 use Rattle.definitions.specs.Limits.{limits, within, clinic, bedCount, entry}
 use Rattle.definitions.specs.Questions.{entriesWithin}
 use Rattle.definitions.specs.Syntax as Said
+use Rattle.definitions.specs.Sheets.{lowest}
 use Rattle.lists.specs.Tests.{both}
 use Rattle.lists.specs.Members.{getD-in}
 use Rattle.lists.specs.Every.{every-weaken}
 use Rattle.lists.specs.Keep.{keep-short, every-keep}
 use Rattle.lists.specs.Below.{length-by-places, at-place, every-place}
 use Rattle.theorems.specs.Accepted.{Accepted, at-most, TableRight, member-at, table-right, tables-few, mostTotal}
+use Rattle.theorems.specs.Lowest.{lowest-first}
 use Rattle.partial_rows.specs.Bounds.{smaller, leastOf, leastEntry}
 use Rattle.held_region.specs.declared.Table.{Table}
 use Rattle.held_region.specs.declared.Region.{Region}
 use Rattle.held_region.specs.Meaning.{mark, said, patientIn, tableIn, membersOf}
 use Rattle.held_region.specs.Stores.{tableAt, startOf}
 use Rattle.held_region.specs.Asked.{patients-asked, tables-said, members-said, entries-said, stands}
+use Rattle.held_region.specs.Related.{MembersKnown}
 use Rattle.buckets.specs.Least.{leastNumber, least-of-entries}
 use Rattle.buckets.specs.Written.{FixedFit, lastOf}
 
@@ -61,6 +64,10 @@ every-drop p (suc i) [] all = all
 every-drop p (suc i) (x ∷ l) all = every-drop p i l (both (p x) all .1)
 
 -- ---- a held table
+
+-- Members rise, so the lowest is the first.
+pub first-lowest : (t : Table) → MembersKnown t → 0 < t .members → lowest (membersOf t) ≡ getD (t .first) 0 0
+first-lowest t known held = lowest-first (membersOf t) (known .rising) ∙ at-place (λ j. getD (t .first) j 0) 0 (t .members) 0 held
 
 module _ (h : Region) (store : List ℕ) (a : Accepted (said h store)) where
   abbrev r : Said.Region
@@ -113,6 +120,9 @@ module _ (h : Region) (store : List ℕ) (a : Accepted (said h store)) where
 
     pub count-same : table .members ≡ length (t .members)
     count-same = sym (length-by-places (λ j. getD (table .first) j 0) 0 (table .members)) ∙ ap length members-same
+
+    pub some-members : 0 < table .members
+    some-members = omega (arith, count-same, held-right .some)
 
     pub first-same : (j : ℕ) → j < table .members → getD (table .first) j 0 ≡ getD (t .members) j 0
     first-same j m = sym (at-place (λ n. getD (table .first) n 0) 0 (table .members) j m) ∙ ap (λ ms. getD ms j 0) members-same

@@ -6,4 +6,4 @@ pub mod Written
 pub mod Highest
 pub mod Chains
 pub mod WithTables
-pub mod Among
+pub mod Counting

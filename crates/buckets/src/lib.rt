@@ -5,17 +5,17 @@ use held_region::Patient;
 use held_region::Region;
 use held_region::Table;
 use patient_set::PatientSet;
-use region_sets::is_among;
 use scanner::Optional;
 ghost use mathlib.Core.Path.{_≡_};
 ghost use Prim.Native.Nat.{_≤_, _<_};
 ghost use Rattle.theorems.specs.Accepted.{Accepted};
 ghost use Rattle.definitions.specs.Basics.{true};
-ghost use Rattle.held_region.specs.Meaning.{optional, said};
+ghost use Rattle.held_region.specs.Meaning.{optional, membersOf, said};
 ghost use Rattle.held_region.specs.Asked.{noneOrBelow};
+ghost use Rattle.held_region.specs.Related.{MembersKnown};
 ghost use Rattle.buckets.specs.Permitted.{firstOf, endOf};
 ghost use Rattle.buckets.specs.WithTables.{withTables};
-ghost use Rattle.buckets.specs.Among.{isAmong};
+ghost use Rattle.buckets.specs.Counting.{lowestIn, countsFor};
 ghost use Rattle.buckets.specs.Terms.{Prepared};
 ghost use Rattle.buckets.specs.Least.{leastNumber};
 ghost use Rattle.buckets.specs.Written.{FixedFit, PatientsWritten, MembersWritable, MembersWritten, LastKnown, lastOf, TermKnown, TermAdded};
@@ -133,11 +133,20 @@ fn add_term(
     patients[s * 5 + 4] = k as u32;
 }
 
-// Every table among the patients of a set as a term in the bucket of its highest member.
+// Does a table count for the patients of a set: is its lowest member one of them? Members rise, so it is the first.
+fn counts_for(table: Table, of: PatientSet) -> bool
+    requires { ⌜ (MembersKnown table) × (0 < table .members) ⌝ }
+    ensures { λ a. ⌜ a ≡ lowestIn (of .0) (membersOf table) ⌝ }
+{
+    let s = table.first[0] as usize;
+    of.has(s)
+}
+
+// Every table that counts for the patients of a set as a term in the bucket of its highest member.
 // From the last table on, so that each bucket has the order of the file.
-pub fn prepare_within(region: Region, store: &[u32; 4096], of: PatientSet) -> Buckets
+pub fn prepare_for(region: Region, store: &[u32; 4096], of: PatientSet) -> Buckets
     requires { ⌜ Accepted (said region (now store)) ⌝ }
-    ensures { λ b. ⌜ Prepared (withTables (said region (now (store .entry))) (isAmong (of .0))) (now (store .entry)) (b .patients) (b .terms) ⌝ }
+    ensures { λ b. ⌜ Prepared (withTables (said region (now (store .entry))) (countsFor (of .0))) (now (store .entry)) (b .patients) (b .terms) ⌝ }
 {
     let held = region.patients;
     let mut patients = patient_words(held, region.v);
@@ -148,7 +157,7 @@ pub fn prepare_within(region: Region, store: &[u32; 4096], of: PatientSet) -> Bu
         i -= 1;
         let table = region.tables[i];
         start -= table.entries;
-        if is_among(table, of) {
+        if counts_for(table, of) {
             add_term(&mut patients, &mut terms, store, table, i, start);
         }
     }
@@ -163,5 +172,5 @@ pub fn prepare(region: Region, store: &[u32; 4096]) -> Buckets
     requires { ⌜ Accepted (said region (now store)) ⌝ }
     ensures { λ b. ⌜ Prepared (said region (now (store .entry))) (now (store .entry)) (b .patients) (b .terms) ⌝ }
 {
-    prepare_within(region, store, PatientSet::FULL)
+    prepare_for(region, store, PatientSet::FULL)
 }

@@ -9,7 +9,7 @@ use Rattle.definitions.specs.Questions.{shortEnough, laidOut, countsTrue
 use Rattle.definitions.specs.Questions.{entryCountsRight, entriesWithin, following, ancestors, membersRelated, clinicPresent, roomForRows}
 use Rattle.definitions.specs.Questions.{areasLongEnough, planAllowed, planFits, regionOf, askedByCheck, checkOf, askedByList, askedBySheet, askedByPrice}
 use Rattle.definitions.specs.Sheets.{part, ownTables, ownCost, ownRow, sheetOf}
-use Rattle.definitions.specs.Isolation.{tablesAmong, timesIn, joins}
+use Rattle.definitions.specs.Isolation.{isAmong, tablesAmong, timesIn, joins}
 use Rattle.definitions.specs.Outcomes.{listFound, sheetFound, outcomeOf, listOutcome, sheetOutcome, priceFound, priceOutcome}
 use Rattle.definitions.specs.Writer.{regionFrom, asHeld, writtenFile, roomForFile, askedByWrite, writeOutcomeOf, writeOutcome}
 use Rattle.definitions.specs.Lookup.{typedRight, typedMembers, isOver, lineOver, askedByLine, lineFound, lineOutcome}
@@ -27,7 +27,7 @@ unfolding plansFor place entryFor costOver fixing constraints total listOf short
 questions = tt
 
 unfoldable pub answers : Unit {0}
-unfolding part ownTables ownCost ownRow sheetOf tablesAmong timesIn joins listFound sheetFound outcomeOf listOutcome sheetOutcome priceFound priceOutcome resultAfter callOf listCall sheetCall priceCallOf priceCall printedRow printedRows clinicsPresent printed
+unfolding part ownTables ownCost ownRow sheetOf isAmong tablesAmong timesIn joins listFound sheetFound outcomeOf listOutcome sheetOutcome priceFound priceOutcome resultAfter callOf listCall sheetCall priceCallOf priceCall printedRow printedRows clinicsPresent printed
 answers = tt
 
 unfoldable pub requested : Unit {0}

@@ -84,7 +84,7 @@ ownTable = table (0 ∷ 2 ∷ []) (some 4 ∷ none ∷ some 1 ∷ some 0 ∷ som
 abbrev joinedTables : List Table
 joinedTables = ownTable ∷ table (0 ∷ 1 ∷ []) (some 5 ∷ some 0 ∷ some 1 ∷ some 7 ∷ []) ∷ table (0 ∷ []) (some 1 ∷ some 2 ∷ []) ∷ table (1 ∷ []) (some 0 ∷ some 3 ∷ []) ∷ []
 
-abbrev joined : ℕ → List ℕ
+abbrev pub joined : ℕ → List ℕ
 joined m = fileOf m (patient 0 2 none ∷ patient 1 2 (some 0) ∷ patient 0 3 (some 1) ∷ []) joinedTables
 
 -- A table over patients with 2, 3 and 2 beds; its entries are 20, 21 and so on.
@@ -287,7 +287,7 @@ pub record Rows : Type 0 where
       ≡ row 3 (1 ∷ 0 ∷ 0 ∷ []) ∷ row 5 (0 ∷ 1 ∷ 2 ∷ []) ∷ row 5 (1 ∷ 0 ∷ 2 ∷ []) ∷ row 6 (1 ∷ 0 ∷ 1 ∷ []) ∷ row 7 (0 ∷ 0 ∷ 2 ∷ []) ∷ []
   pub joinedSheet :
       sheetOutcome (joined 5) 0 (lent 15) (lent 5) (lent workSize)
-      ≡ record { number = 0; rows = 4; beds = 1 ∷ 0 ∷ 0 ∷ 2 ∷ 1 ∷ 2 ∷ 1 ∷ 1 ∷ lent 7; costs = 2 ∷ 2 ∷ 4 ∷ 5 ∷ 9 ∷ []; work = cleared workSize }
+      ≡ record { number = 0; rows = 4; beds = 1 ∷ 0 ∷ 0 ∷ 2 ∷ 1 ∷ 2 ∷ 1 ∷ 1 ∷ lent 7; costs = 3 ∷ 2 ∷ 5 ∷ 6 ∷ 9 ∷ []; work = cleared workSize }
   pub otherSheet :
       sheetOutcome (joined 5) 1 (lent 15) (lent 5) (lent workSize)
       ≡ record { number = 0; rows = 2; beds = 0 ∷ 1 ∷ lent 13; costs = 0 ∷ 3 ∷ lent 3; work = cleared workSize }

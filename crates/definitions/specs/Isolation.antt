@@ -1,9 +1,8 @@
 -- The words of demand 3: which files are compared, when a clinic is the same in both, and how the two sheets then agree.
 use Rattle.definitions.specs.Basics.{ℕ, suc, _<_, min, _≡_, Bool, true, false, not, _&&_, cond, Option, none, some, List, [], _∷_}
-use Rattle.definitions.specs.Basics.{map, length, take, eqb, any, keep, same, contains}
+use Rattle.definitions.specs.Basics.{map, length, take, eqb, every, any, keep, same, contains}
 use Rattle.definitions.specs.Syntax.{Table, Region, bedCounts, fixedBeds, patientsOf}
 use Rattle.definitions.specs.Plans.{Row}
-use Rattle.definitions.specs.Sheets.{ownTables}
 use Rattle.definitions.specs.Questions.{firstNo, entryAsks, askedByList}
 
 -- A file yields a list when questions 1 to 10 and 13 are answered yes: list gives 0 where the areas are long enough.
@@ -18,10 +17,15 @@ abbrev pub placeAmong : List ℕ → ℕ → ℕ
 placeAmong [] s = 0
 placeAmong (p ∷ ps) s = cond (eqb p s) 0 (suc (placeAmong ps s))
 
--- The tables among the clinic's patients, with the places of their members.
+-- A table among the clinic's patients has only these as members.
+unfoldable pub isAmong : Region → ℕ → Table → Bool
+isAmong region clinic t = every (contains (patientsOf region clinic)) (t .members)
+
+-- The tables among them, with the places of their members.
 unfoldable pub tablesAmong : Region → ℕ → List Table
 tablesAmong region clinic =
-    map (λ t. record { members = map (placeAmong (patientsOf region clinic)) (t .members); entries = t .entries }) (ownTables region clinic)
+    map (λ t. record { members = map (placeAmong (patientsOf region clinic)) (t .members); entries = t .entries })
+    (keep (isAmong region clinic) (region .tables))
 
 abbrev pub sameEntry : Option ℕ → Option ℕ → Bool
 sameEntry none none = true

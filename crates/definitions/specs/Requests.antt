@@ -1,11 +1,11 @@
 -- For each landed request of document 02, in one statement: each of its numbers, each bound, and what a builder gets wrong.
 use Prim.Native.String.{String}
-use Rattle.definitions.specs.Basics.{ℕ, _+_, _-_, _^_, _≡_, refl, true, false, Option, none, some, List, [], _∷_, _++_, map, flatten, flatMap, length, replicate, text}
+use Rattle.definitions.specs.Basics.{ℕ, _+_, _-_, _^_, _≡_, refl, true, false, Option, none, some, List, [], _∷_, _++_, map, flatten, flatMap, length, replicate, text, below, sum}
 use Rattle.definitions.specs.Syntax.{Patient, Table, Region, fixedBeds, patientsOf}
 use Rattle.definitions.specs.Layout.{layout}
-use Rattle.definitions.specs.Plans.{constraints, listOf}
+use Rattle.definitions.specs.Plans.{Row, constraints, listOf}
 use Rattle.definitions.specs.Questions.{regionOf, checkOf}
-use Rattle.definitions.specs.Sheets.{sheetOf}
+use Rattle.definitions.specs.Sheets.{lowest, ownTables, ownCost, sheetOf}
 use Rattle.definitions.specs.Outcomes.{priceOutcome}
 use Rattle.definitions.specs.Writer.{writtenFile, WriteOutcome, writeOutcome}
 use Rattle.definitions.specs.Lookup.{bytesAt, LineOutcome, lineOutcome, partOf}
@@ -13,6 +13,7 @@ use Rattle.definitions.specs.Boundary.{bytesOf, lentTableCount, PairCall
 use Rattle.definitions.specs.Computing.{everything}
 use Rattle.definitions.specs.Examples.{paperFile, patient, fixed, table, fileOf, row, lent, cleared, list, refusal, overOneAndTwo, allForbidden}
 use Rattle.definitions.specs.Cases.{paperRegion, eight}
+use Rattle.definitions.specs.Edges.{joined}
 
 -- ---- #101: the writer
 
@@ -263,4 +264,45 @@ foundLines = record {
   calledRefused = refl;
   calledShort = refl;
   calledTenFirst = refl;
+}
+
+-- ---- #104: a clinic's share
+
+-- The shares of some clinics in each row of the list; of all clinics, added; and the totals.
+abbrev shares : List ℕ → List ℕ → List (List ℕ)
+shares clinics file = map (λ w. map (λ c. ownCost (regionOf file) c w) clinics) (listOf (regionOf file))
+
+abbrev sharesAdded : List ℕ → List ℕ
+sharesAdded file = map sum (shares (below 16) file)
+
+abbrev totals : List ℕ → List ℕ
+totals file = map (λ w. w .cost) (listOf (regionOf file))
+
+-- Patients 0, 1 and 2 at these clinics, each the parent of the next, with 1, 2 and 2 beds, and a table over all of them.
+abbrev threeJoined : ℕ → ℕ → ℕ → List ℕ
+threeJoined a b c = fileOf 4 (patient a 1 none ∷ patient b 2 (some 0) ∷ patient c 2 (some 1) ∷ []) (table (0 ∷ 1 ∷ 2 ∷ []) (some 4 ∷ some 9 ∷ some 6 ∷ none ∷ []) ∷ [])
+
+pub record Shares : Type 0 where
+  pub lowestMember : map lowest ((3 ∷ []) ∷ (1 ∷ 2 ∷ []) ∷ (5 ∷ 4 ∷ 8 ∷ []) ∷ []) ≡ 3 ∷ 1 ∷ 4 ∷ []
+  pub joinedTables : map (λ c. map (λ t. t .members) (ownTables (regionOf (joined 1)) c)) (0 ∷ 1 ∷ 2 ∷ []) ≡ ((0 ∷ 2 ∷ []) ∷ (0 ∷ 1 ∷ []) ∷ (0 ∷ []) ∷ []) ∷ ((1 ∷ []) ∷ []) ∷ [] ∷ []
+  pub joinedShares : shares (0 ∷ 1 ∷ []) (joined 5) ≡ (3 ∷ 0 ∷ []) ∷ (2 ∷ 3 ∷ []) ∷ (5 ∷ 0 ∷ []) ∷ (6 ∷ 0 ∷ []) ∷ (7 ∷ 0 ∷ []) ∷ []
+  pub firstCame : sheetOf (regionOf (joined 5)) 0 ≡ row 3 (1 ∷ 0 ∷ []) ∷ row 2 (0 ∷ 2 ∷ []) ∷ row 5 (1 ∷ 2 ∷ []) ∷ row 6 (1 ∷ 1 ∷ []) ∷ []
+  pub lowestOnly : map (sheetOf (regionOf (threeJoined 7 2 2))) (2 ∷ 7 ∷ []) ≡ (row 0 (0 ∷ 0 ∷ []) ∷ row 0 (1 ∷ 0 ∷ []) ∷ row 0 (0 ∷ 1 ∷ []) ∷ []) ∷ (row 4 (0 ∷ []) ∷ []) ∷ []
+  pub joinedAdded : sharesAdded (joined 12) ≡ totals (joined 12)
+  pub lastClinic : sharesAdded (threeJoined 15 0 0) ≡ 4 ∷ 6 ∷ 9 ∷ []
+  pub withFixed : sharesAdded (fileOf 3 (patient 1 2 none ∷ fixed 0 2 (some 0) 1 ∷ []) (paperRegion .tables)) ≡ 5 ∷ []
+  pub noTables : sharesAdded (fileOf 2 (patient 3 2 none ∷ []) []) ≡ 0 ∷ 0 ∷ []
+
+pub sharesAddUp : Shares
+unfolding everything lent cleared
+sharesAddUp = record {
+  lowestMember = refl;
+  joinedTables = refl;
+  joinedShares = refl;
+  firstCame = refl;
+  lowestOnly = refl;
+  joinedAdded = refl {a = 3 ∷ 5 ∷ 5 ∷ 6 ∷ 7 ∷ 8 ∷ 10 ∷ 12 ∷ 14 ∷ 15 ∷ []};
+  lastClinic = refl;
+  withFixed = refl;
+  noTables = refl;
 }

@@ -3,10 +3,10 @@ use mathlib.Core.Path.{sym, ap, ap₂, _∙_}
 use mathlib.Core.Logic.{_⊎_, inl, inr, _↔_}
 use mathlib.Core.Bool.{true≢false, and-false, and-assoc}
 use mathlib.Core.Option.{Option·none-ne-some}
-use borrow.Author.Tests.{eqb-true, eq-eqb}
-use Rattle.definitions.specs.Basics.{ℕ, zero, suc, _<_, _≡_, refl, Bool, true, false, _&&_, _||_, Option, none, some}
+use borrow.Author.Tests.{eqb-true, eq-eqb, not-false}
+use Rattle.definitions.specs.Basics.{ℕ, zero, suc, _<_, _≡_, refl, Bool, true, false, not, _&&_, _||_, Option, none, some}
 use Rattle.definitions.specs.Basics.{List, [], _∷_, _++_, map, flatMap, length, getD, eqb, every, everyTwo, any, contains}
-use Rattle.lists.specs.Tests.{both, join}
+use Rattle.lists.specs.Tests.{both, join, same-answer}
 use Rattle.lists.specs.Members.{_∈_, here, there, here-or-there, none-in-nil, getD-in}
 
 module _ {A : Type 0} (test : A → Bool) where
@@ -82,6 +82,13 @@ module _ {A : Type 0} (test other : A → Bool) where
   pub every-same : (l : List A) → ((x : A) → x ∈ l → test x ≡ other x) → every test l ≡ every other l
   every-same [] same = refl
   every-same (x ∷ l) same = ap₂ (λ a b. a && b) (same x (here refl)) (every-same l (λ y k. same y (there k)))
+
+-- Where it is not so that one passes and one fails, all do what one of them does.
+pub all-or-none : {A : Type 0} (f : A → Bool) (l : List A) {x : A} → x ∈ l → (any f l && any (λ y. not (f y)) l) ≡ false → every f l ≡ f x
+all-or-none f l {x} k apart = same-answer (λ all. every-in f l all k) (λ one. every-all f l (λ y i. not-false (f y) (any-false _ l .0 (none-fails one) y i)))
+  where
+    none-fails : f x ≡ true → any (λ y. not (f y)) l ≡ false
+    none-fails one = ap (λ b. b && any (λ y. not (f y)) l) (sym (any-in f l k one)) ∙ apart
 
 -- A test of any two elements, in one order or the other.
 pub every-two-in : {A : Type 0} (f : A → A → Bool) (l : List A) → everyTwo f l ≡ true → {a b : A} → a ∈ l → b ∈ l

@@ -8,7 +8,7 @@ use native.Mathlib.Omega.{arith}
 use borrow.Author.Tests.{leb-true}
 use Prim.Native.Nat.{_≤_}
 use Rattle.definitions.specs.Basics.{ℕ, zero, suc, _<_, _*_, _^_, _≡_, refl, true, Option, none, some, Option·elim}
-use Rattle.definitions.specs.Basics.{List, [], _∷_, _++_, map, length, getD, leb, product, flatten, flatMap, filterMap, dropLast, onAll, every}
+use Rattle.definitions.specs.Basics.{List, [], _∷_, _++_, map, length, getD, drop, leb, product, flatten, flatMap, filterMap, dropLast, onAll, every}
 use Rattle.lists.specs.Tests.{both}
 use Rattle.lists.specs.Members.{_∈_, here, there, here-or-there, none-in-nil, in-cast, Distinct}
 
@@ -27,6 +27,16 @@ module _ {A B : Type 0} where
   pub on-all-same : (f g : A → Option B) (l : List A) → ((x : A) → x ∈ l → f x ≡ g x) → onAll f l ≡ onAll g l
   on-all-same f g [] h = refl
   on-all-same f g (x ∷ l) h = rw (h x (here refl), on-all-same f g l (λ y k. h y (there k)))
+
+-- Where the image of a list has an element and what stands before it, so has the list.
+pub map-split : {A B : Type 0} (f : A → B) (l : List A) (image : List B) (y : B) (rest : List B) → map f l ≡ image ++ y ∷ rest
+    → (before : List A) × (x : A) × (after : List A) × (l ≡ before ++ x ∷ after) × (map f before ≡ image) × (f x ≡ y)
+map-split f [] [] y rest e = absurd (omega (arith, ap length e))
+map-split f [] (z ∷ image) y rest e = absurd (omega (arith, ap length e))
+map-split {B = B} f (x ∷ l) [] y rest e = ([], x, l, refl, refl, ap (λ (m : List B). getD m 0 y) e)
+map-split {A} {B} f (x ∷ l) (z ∷ image) y rest e =
+    let (before, w, after, is, same, one) = map-split f l image y rest (ap (drop 1) e) in
+    (x ∷ before, w, after, ap {B = List A} (λ m. x ∷ m) is, ap₂ {C = List B} (λ a m. a ∷ m) (ap (λ (m : List B). getD m 0 y) e) same, one)
 
 -- What a partial function gives: each result comes from an element.
 module _ {A B : Type 0} (f : A → Option B) where

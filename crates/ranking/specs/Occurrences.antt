@@ -3,7 +3,7 @@ use mathlib.Core.Path.{sym, ap, _∙_}
 use mathlib.Core.Logic.{_⊎_, inl, inr}
 use mathlib.Core.Bool.{true≢false}
 use native.Mathlib.Omega.{arith}
-use Rattle.definitions.specs.Basics.{ℕ, zero, suc, _≡_, refl, Bool, true, false, _||_, Ordering, List, [], _∷_, map, length, any, firstOccurrences}
+use Rattle.definitions.specs.Basics.{ℕ, zero, suc, _≡_, refl, Bool, true, false, _||_, Ordering, List, [], _∷_, _++_, map, length, any, firstOccurrences}
 use Rattle.lists.specs.Members.{_∈_, Distinct, here, there, here-or-there, none-in-nil, in-map-cases, in-cast}
 use Rattle.ranking.specs.Orders.{Order, View, before, equal, after}
 use Rattle.ranking.specs.First.{First, Least, Past, first-zero, first-least, first-tail, first-cons}
@@ -14,9 +14,24 @@ pub record Tests {A K : Type 0} (key : A → K) (alike : A → A → Bool) : Typ
   pub same-alike : (x y : A) → key x ≡ key y → alike x y ≡ true
 
 module _ {A K : Type 0} (key : A → K) where
+  -- An element of xs, before which none has its key.
+  pub record FirstIn (xs : List A) (y : A) : Type 0 where
+    pub before : List A
+    pub after : List A
+    pub stands : xs ≡ before ++ y ∷ after
+    pub new : key y ∈ map key before → ⊥
+
+  first-next : (x : A) {xs : List A} {y : A} → FirstIn xs y → (key y ≡ key x → ⊥) → FirstIn (x ∷ xs) y
+  first-next x f other = record {
+    before = x ∷ f .before;
+    after = f .after;
+    stands = ap {B = List A} (λ l. x ∷ l) (f .stands);
+    new = λ k. elim (here-or-there k) [ inl e ↦ other e | inr t ↦ f .new t ];
+  }
+
   -- Of the elements of xs whose key has not been seen, the first with each key is kept.
   pub record KeptOnce (seen xs kept : List A) : Type 0 where
-    pub only : (y : A) → y ∈ kept → y ∈ xs
+    pub first : (y : A) → y ∈ kept → FirstIn xs y
     pub new : (y : A) → y ∈ kept → key y ∈ map key seen → ⊥
     pub differ : Distinct (map key kept)
     pub every : (y : A) → y ∈ xs → (key y ∈ map key kept) ⊎ (key y ∈ map key seen)
@@ -41,18 +56,21 @@ module _ {A K : Type 0} {key : A → K} {alike : A → A → Bool} (tests : Test
       go false e (missing n) = missing (λ k. elim (here-or-there k) [ inl q ↦ true≢false (sym (tests .same-alike x y q) ∙ e) | inr t ↦ n t ])
 
   pub kept-once : (seen xs : List A) → KeptOnce key seen xs (firstOccurrences alike seen xs)
-  kept-once seen [] = record { only = λ y k. k; new = λ y k. absurd (none-in-nil k); differ = tt; every = λ y k. absurd (none-in-nil k) }
+  kept-once seen [] = record { first = λ y k. absurd (none-in-nil k); new = λ y k. absurd (none-in-nil k); differ = tt; every = λ y k. absurd (none-in-nil k) }
   kept-once seen (x ∷ xs) = go (seen-view x seen) (kept-once seen xs) (kept-once (x ∷ seen) xs)
     where
       go : {b : Bool} {s t : List A} → Seen key x seen b → KeptOnce key seen xs s → KeptOnce key (x ∷ seen) xs t → KeptOnce key seen (x ∷ xs) (keptIf b x s t)
       go (found c) old new = record {
-        only = λ y k. there (old .only y k);
+        first = λ y k. first-next key x (old .first y k) (λ e. old .new y k (in-cast e c));
         new = old .new;
         differ = old .differ;
         every = λ y k. elim (here-or-there k) [ inl e ↦ inr (in-cast (ap key e) c) | inr t ↦ old .every y t ];
       }
       go {t} (missing n) old new = record {
-        only = λ y k. elim (here-or-there k) [ inl e ↦ here e | inr u ↦ there (new .only y u) ];
+        first = λ y k. elim (here-or-there k) [
+          | inl e ↦ record { before = []; after = xs; stands = ap {B = List A} (λ z. z ∷ xs) (sym e); new = none-in-nil }
+          | inr u ↦ first-next key x (new .first y u) (λ e. new .new y u (here e))
+        ];
         new = λ y k c. elim (here-or-there k) [ inl e ↦ n (in-cast (sym (ap key e)) c) | inr u ↦ new .new y u (there c) ];
         differ = (λ k. let (y, i, e) = in-map-cases key t k in new .new y i (here e), new .differ);
         every = λ y k. elim (here-or-there k) [

@@ -7,7 +7,7 @@ use patient_set::PatientSet;
 use scanner::Optional;
 ghost use mathlib.Core.Path.{_≡_};
 ghost use Prim.Native.Nat.{ℕ, _<_};
-ghost use Rattle.definitions.specs.Basics.{some, List, ltb, every, keep, contains};
+ghost use Rattle.definitions.specs.Basics.{some, List, ltb, every, keep};
 ghost use Rattle.definitions.specs.Syntax.{patientsOf};
 ghost use Rattle.definitions.specs.Questions.{membersRelated};
 ghost use Rattle.patient_set.specs.Sets.{inSet, members};
@@ -57,22 +57,6 @@ pub fn member_set(table: Table) -> PatientSet
         place += 1;
     }
     set
-}
-
-// Are all members of a table in the set?
-pub fn is_among(table: Table, of: PatientSet) -> bool
-    requires { ⌜ MembersKnown table ⌝ }
-    ensures { λ a. ⌜ a ≡ every (contains (members (of .0))) (membersOf table) ⌝ }
-{
-    let mut place = 0;
-    while place < table.members {
-        let s = table.first[place] as usize;
-        if !of.has(s) {
-            return false;
-        }
-        place += 1;
-    }
-    true
 }
 
 // The ancestors of who has this parent: the parent, and its ancestors.

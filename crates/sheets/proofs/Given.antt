@@ -2,23 +2,23 @@
 use mathlib.Core.Path.{sym, ap}
 use native.Mathlib.Omega.{arith}
 use Rattle.definitions.specs.Basics.{ℕ, List}
-use Rattle.theorems.specs.Accepted.{patients-few}
+use Rattle.theorems.specs.Accepted.{Accepted, patients-few}
 use Rattle.held_region.specs.declared.Region.{Region}
 use Rattle.held_region.specs.Meaning.{said}
 use Rattle.held_region.specs.Asked.{patients-said}
 use Rattle.buckets.specs.Terms.{Prepared}
 use Rattle.buckets.specs.WithTables.{withTables}
-use Rattle.buckets.specs.Among.{isAmong}
+use Rattle.buckets.specs.Counting.{countsFor}
 use Rattle.row_list.specs.Rows.{rowsIn}
 use Rattle.sheets.specs.Steps.{Listed, AsksList, GivesList}
 use Rattle.sheets.specs.Sheets.{Given, Asks, Gives}
 
 module _ (h : Region) (store : List ℕ) (n set : ℕ) (work patients terms : List ℕ)
-    (prepared : Prepared (withTables (said h store) (isAmong set)) store patients terms) where
+    (accepted : Accepted (said h store)) (prepared : Prepared (withTables (said h store) (countsFor set)) store patients terms) where
   given-listed : (clinic : ℕ) → Given h store clinic n set work → Listed (said h store) clinic store patients terms (h .v) n set work
   given-listed clinic g =
       record {
-        own = record { prepared = prepared; ofClinic = g .patients; all = sym (patients-said h store) };
+        own = record { accepted = accepted; prepared = prepared; ofClinic = g .patients; all = sym (patients-said h store) };
         list = g .list;
       }
 
@@ -28,7 +28,7 @@ module _ (h : Region) (store : List ℕ) (n set : ℕ) (work patients terms : Li
         region = said h store;
         clinic = a .clinic;
         listed = given-listed (a .clinic) (a .given);
-        fewPatients = omega (arith, patients-said h store, patients-few (said h store) (a .accepted));
+        fewPatients = omega (arith, patients-said h store, patients-few (said h store) accepted);
         few = a .few;
         long = a .long;
       }

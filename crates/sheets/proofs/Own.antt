@@ -8,20 +8,23 @@ use Rattle.definitions.specs.Basics.{ℕ, _<_, true, Option·getD, List, map, l
 use Rattle.definitions.specs.Syntax.{Region, patientAt, patientsOf}
 use Rattle.definitions.specs.Plans as Said
 use Rattle.definitions.specs.Plans.{bedOf, entryFor, costOver}
-use Rattle.definitions.specs.Sheets.{part, ownTables, ownCost, ownRow}
+use Rattle.definitions.specs.Sheets.{lowest, part, ownTables, ownCost, ownRow}
 use Rattle.lists.specs.Members.{_∈_, getD-in, in-map-cases}
 use Rattle.lists.specs.Every.{every-in, every-all}
-use Rattle.lists.specs.Keep.{every-keep}
+use Rattle.lists.specs.Keep.{every-keep, keep-same}
 use Rattle.lists.specs.Maps.{map-same}
 use Rattle.lists.specs.Below.{numbers-enumerate}
 use Rattle.theorems.specs.List.{Allowed}
+use Rattle.theorems.specs.Accepted.{table-right}
+use Rattle.theorems.specs.Lowest.{lowest-in}
+use Rattle.theorems.specs.Clinics.{clinic-patient}
 use Rattle.patient_set.specs.Sets.{members}
 use Rattle.patient_set.specs.Laws.{size-most}
 use Rattle.partial_rows.specs.Beds.{inside, fits-beds}
 use Rattle.partial_rows.specs.Padding.{unpadded}
 use Rattle.buckets.specs.Terms.{Fitting, fitting-low}
 use Rattle.buckets.specs.WithTables.{withTables}
-use Rattle.buckets.specs.Among.{isAmong}
+use Rattle.buckets.specs.Counting.{countsFor}
 use Rattle.pricing.specs.Pricing.{AsksAll}
 use Rattle.packed_rows.specs.declared.Row.{Row}
 use Rattle.packed_rows.specs.Packed.{rowOf, packable}
@@ -37,12 +40,12 @@ listed-fits r w beds a e s h =
 
 module _ {r : Region} {clinic : ℕ} {store patients terms : List ℕ} {v set : ℕ} (own : Own r clinic store patients terms v set) where
   -- The region with only the own tables has the same patients, so its price may be asked.
-  with-fits : (beds : List ℕ) → Fitting r beds → Fitting (withTables r (isAmong set)) beds
+  with-fits : (beds : List ℕ) → Fitting r beds → Fitting (withTables r (countsFor set)) beds
   unfolding patientAt
   with-fits beds fits s h = fits s h
 
   pub own-asks : (beds : List ℕ) → v ≤ 32 → Fitting r beds → AsksAll store patients terms v beds
-  own-asks beds few fits = record { region = withTables r (isAmong set); prepared = own .prepared; fits = with-fits beds fits; all = own .all; few = few }
+  own-asks beds few fits = record { region = withTables r (countsFor set); prepared = own .prepared; fits = with-fits beds fits; all = own .all; few = few }
 
   -- The patients of the clinic are patients.
   patients-known : every (λ s. ltb s v) (patientsOf r clinic) ≡ true
@@ -58,8 +61,15 @@ module _ {r : Region} {clinic : ℕ} {store patients terms : List ℕ} {v set : 
       let inside = getD-in (take n taken) s 0 (omega (arith, length-take-le n taken (omega (arith, size-most set)))) in
       let (q, i, e) = in-map-cases (bedOf beds) (members set) (subst (λ (l : List ℕ). getD (take n taken) s 0 ∈ l) is inside) in
       let known = ltb-true q v (every-in (λ t. ltb t v) (patientsOf r clinic) patients-known (subst (λ (l : List ℕ). q ∈ l) (own .ofClinic) i)) in
-      let low = fitting-low (withTables r (isAmong set)) (own .prepared .accepted) beds (with-fits beds fits) q (omega (arith, own .all)) in
+      let low = fitting-low (withTables r (countsFor set)) (own .prepared .accepted) beds (with-fits beds fits) q (omega (arith, own .all)) in
       omega (arith, e, low, getD-take n taken s 0 h)
+
+  -- The tables that count for the clinic's patients are those that count for the clinic.
+  tables-own : keep (countsFor set) (r .tables) ≡ ownTables r clinic
+  unfolding ownTables
+  tables-own = keep-same (countsFor set) _ (r .tables) (λ t k.
+      let right = table-right r (own .accepted) k in
+      ap (λ l. contains l (lowest (t .members))) (own .ofClinic) ∙ clinic-patient r clinic (lowest (t .members)) (right .known (lowest-in (t .members) (right .some))))
 
   -- The beds and the cost.
   own-beds : (beds taken : List ℕ) → PartTaken beds (members set) taken → take (length (members set)) taken ≡ part r clinic (take v beds)
@@ -69,10 +79,10 @@ module _ {r : Region} {clinic : ℕ} {store patients terms : List ℕ} {v set : 
       ∙ map-same (bedOf beds) (bedOf (take v beds)) (patientsOf r clinic) (λ s k. sym (getD-take v beds s 0 (ltb-true s v (every-in _ (patientsOf r clinic) patients-known k))))
 
   own-cost : (beds : List ℕ) (cost first : ℕ) → Fitting r beds → Priced store patients terms v beds first → first ≡ ownCost r clinic (record { cost = cost; beds = take v beds })
-  unfolding ownCost ownTables costOver entryFor patientAt
+  unfolding ownCost costOver entryFor patientAt
   own-cost beds cost first fits priced =
-      priced (withTables r (isAmong set)) (own .prepared) (with-fits beds fits) (own .all)
-      ∙ ap (λ l. Option·getD (costOver (keep (λ t. every (contains l) (t .members)) (r .tables)) r (take v beds)) 0) (own .ofClinic)
+      priced (withTables r (countsFor set)) (own .prepared) (with-fits beds fits) (own .all)
+      ∙ ap (λ tables. Option·getD (costOver tables r (take v beds)) 0) tables-own
 
 -- The row that is packed.
 pub own-made : {store patients terms : List ℕ} {v : ℕ} (row : Row) (set : ℕ) (result : Row) (beds taken : List ℕ) (k first : ℕ)

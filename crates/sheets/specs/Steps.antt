@@ -5,10 +5,11 @@ use Rattle.definitions.specs.Syntax.{Region, patientsOf}
 use Rattle.definitions.specs.Plans as Said
 use Rattle.definitions.specs.Plans.{bedOf, costOver, listOf}
 use Rattle.definitions.specs.Sheets.{ownRow, sameBeds, sheetOf}
+use Rattle.theorems.specs.Accepted.{Accepted}
 use Rattle.patient_set.specs.Sets.{members}
 use Rattle.buckets.specs.Terms.{Fitting, Prepared}
 use Rattle.buckets.specs.WithTables.{withTables}
-use Rattle.buckets.specs.Among.{isAmong}
+use Rattle.buckets.specs.Counting.{countsFor}
 use Rattle.partial_rows.specs.Padding.{unpadded, Padded}
 use Rattle.packed_rows.specs.declared.Row as Code
 use Rattle.packed_rows.specs.Packed.{rowOf}
@@ -28,7 +29,8 @@ Priced store patients terms v beds n =
 
 -- The words are the buckets of a clinic's own tables, and the set holds its patients.
 pub record Own (r : Region) (clinic : ℕ) (store patients terms : List ℕ) (v set : ℕ) : Type 0 where
-  pub prepared : Prepared (withTables r (isAmong set)) store patients terms
+  pub accepted : Accepted r
+  pub prepared : Prepared (withTables r (countsFor set)) store patients terms
   pub ofClinic : members set ≡ patientsOf r clinic
   pub all : v ≡ length (r .patients)
 

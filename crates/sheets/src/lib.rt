@@ -1,5 +1,5 @@
 // The rows of a clinic's sheet, collected behind the list in the work area.
-use buckets::prepare_within;
+use buckets::prepare_for;
 use held_region::Region;
 use packed_rows::Row;
 use packed_rows::beds_of;
@@ -143,7 +143,7 @@ pub fn sheet_rows(
     requires { ⌜ Asks region (now store) n (clinic .0) (now work) ⌝ }
     ensures { λ k. ⌜ Gives region (now (store .entry)) n (clinic .0) (now (work .entry)) (now (work .exit)) k ⌝ }
 {
-    let buckets = prepare_within(region, store, clinic);
+    let buckets = prepare_for(region, store, clinic);
     let patients = buckets.patients;
     let terms = buckets.terms;
     keep_rows(work, &patients, &terms, store, region.v, n, clinic)

@@ -54,7 +54,7 @@ sheets-agree first second c inFirst inSecond same = first-unique {m = min (lengt
 
 -- Demand 3, of the sheets of any two files.
 members-known : (file : List ℕ) → YieldsList file → MembersPatients (regionOf file)
-members-known file yields t k s i = table-right (regionOf file) (yielding file yields) k .known i
+members-known file yields t k = let right = table-right (regionOf file) (yielding file yields) k in (right .some, λ s i. right .known i)
 
 pub same-beginning : (f g : List ℕ) (c : ℕ) → YieldsList f → YieldsList g → SameClinic c (regionOf f) (regionOf g)
     → SameBeginning (sheetOf (regionOf f) c) (sheetOf (regionOf g) c)

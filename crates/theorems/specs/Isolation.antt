@@ -1,22 +1,19 @@
 -- Where no table joins a clinic to the others, its sheet is the beginning of the ranked list of the clinic alone.
 use mathlib.Core.Path.{sym, ap, ap₂, _∙_}
 use mathlib.Core.Logic.{inl, inr}
-use mathlib.Core.Bool.{true≢false}
 use mathlib.Core.List.{map-map}
 use native.Mathlib.Omega.{arith}
 use Prim.Native.Nat.{_≤_}
 use lib.ListN.{length-map}
-use borrow.Author.Tests.{not-true}
 use Rattle.definitions.specs.Basics.{ℕ, suc, _+_, _<_, _≡_, refl, Bool, true, false, not, Option, some, Option·getD}
-use Rattle.definitions.specs.Basics.{List, [], _∷_, map, length, take, eqb, every, any, keep, contains, below}
+use Rattle.definitions.specs.Basics.{List, [], _∷_, map, length, take, eqb, any, keep, contains, below}
 use Rattle.definitions.specs.Syntax.{Patient, Table, Region, patientNumbers, patientAt, bedCounts, patientsOf}
 use Rattle.definitions.specs.Plans.{Plan, bedOf, entryFor, costOver, total, Row, listOf}
-use Rattle.definitions.specs.Sheets.{part, ownTables, ownCost, ownRow, sheetOf}
-use Rattle.definitions.specs.Isolation.{tablesAmong, joins}
-use Rattle.lists.specs.Tests.{join}
+use Rattle.definitions.specs.Sheets.{lowest, part, ownTables, ownCost, ownRow, sheetOf}
+use Rattle.definitions.specs.Isolation.{isAmong, tablesAmong, joins}
 use Rattle.lists.specs.Members.{_∈_}
-use Rattle.lists.specs.Every.{every-in, every-all, any-in, contains-in, contains-out}
-use Rattle.lists.specs.Keep.{keep-in, keep-out}
+use Rattle.lists.specs.Every.{every-in, any-false, all-or-none, contains-out}
+use Rattle.lists.specs.Keep.{keep-in, keep-out, keep-same}
 use Rattle.lists.specs.Below.{below-in, by-number}
 use Rattle.ranking.specs.First.{First, first-iff, first-prefix}
 use Rattle.ranking.specs.Combining.{Combined, Rising}
@@ -25,9 +22,11 @@ use Rattle.theorems.specs.Interleaving.{Interleaved, unweave, rising-mar
 use Rattle.theorems.specs.Interleaving.{interleave, interleaved, interleave-is, interleaved-keep}
 use Rattle.theorems.specs.Sums.{plus, plus-pairs, Halves, halves, sumOver, sum-split}
 use Rattle.theorems.specs.Fixed.{fixedCost, total-parts, tables-alone}
+use Rattle.theorems.specs.Lowest.{lowest-in}
+use Rattle.theorems.specs.Clinics.{clinic-patient}
 use Rattle.theorems.specs.Sameness.{beds-tests}
 use Rattle.ranking.specs.Parts.{parts-first}
-use Rattle.theorems.specs.Places.{alone, patientsAlone, alone-fits, alone-allowed, byPlaces, total-alone}
+use Rattle.theorems.specs.Places.{alone, patientsAlone, alone-fits, alone-allowed, byPlaces, cost-alone, total-alone}
 
 -- A plan has as many beds as there are patients.
 pub fits-length : (ds : List ℕ) (plan : Plan) → Fits ds plan → length ds ≡ length plan
@@ -36,9 +35,9 @@ fits-length [] (b ∷ plan) f = absurd f
 fits-length (d ∷ ds) [] f = absurd f
 fits-length (d ∷ ds) (b ∷ plan) f = ap suc (fits-length ds plan (f .1))
 
--- The members of every table are patients.
+-- Every table has a member, and its members are patients.
 abbrev pub MembersPatients : Region → Type 0
-MembersPatients region = (t : Table) → t ∈ region .tables → (s : ℕ) → s ∈ t .members → s < length (region .patients)
+MembersPatients region = (t : Table) → t ∈ region .tables → (0 < length (t .members)) × ((s : ℕ) → s ∈ t .members → s < length (region .patients))
 
 -- The clinic alone, for m plans: its patients' beds and the tables among them, by places, and nothing else.
 abbrev pub clinicAlone : ℕ → Region → ℕ → Region
@@ -60,11 +59,12 @@ module _ (region : Region) (c m : ℕ) (members : MembersPatients region) (apart
   abbrev others : List ℕ
   others = keep (λ s. not (mine s)) (patientNumbers region)
 
-  abbrev inside : Table → Bool
-  inside t = every (contains patients) (t .members)
+  -- The tables among them, and the other tables.
+  abbrev theirTables : List Table
+  theirTables = keep (isAmong region c) (region .tables)
 
   abbrev otherTables : List Table
-  otherTables = keep (λ t. not (inside t)) (region .tables)
+  otherTables = keep (λ t. not (isAmong region c t)) (region .tables)
 
   -- The clinic alone; the rest alone, for one plan.
   abbrev own : Region
@@ -73,31 +73,34 @@ module _ (region : Region) (c m : ℕ) (members : MembersPatients region) (apart
   abbrev rest : Region
   rest = alone 1 (patientsAlone region others) (map (byPlaces others) otherTables)
 
-  -- The members of the clinic's tables are its patients.
-  own-members : (t : Table) → t ∈ ownTables region c → (s : ℕ) → s ∈ t .members → s ∈ patients
-  unfolding ownTables
-  own-members t k s i = contains-out patients s (every-in (contains patients) (t .members) (keep-out inside (region .tables) k .1) i)
+  -- Since no table joins, a table is among them where any one of its members is theirs.
+  among-as-one : (t : Table) → t ∈ region .tables → (s : ℕ) → s ∈ t .members → isAmong region c t ≡ mine s
+  unfolding joins isAmong
+  among-as-one t k s i =
+      all-or-none (contains patients) (t .members) i (any-false (joins region c) (region .tables) .0 apart t k)
+      ∙ clinic-patient region c s (members t k .1 s i)
 
-  -- Since no table joins, where one member is the clinic's, all are. So the members of the other tables are other patients.
-  all-mine : (t : Table) → t ∈ region .tables → {s : ℕ} → s ∈ t .members → s ∈ patients → inside t ≡ true
-  unfolding joins
-  all-mine t k i j = every-all (contains patients) (t .members) (λ r u. go r u (contains patients r) refl)
-    where
-      go : (r : ℕ) → r ∈ t .members → (b : Bool) → contains patients r ≡ b → contains patients r ≡ true
-      go r u true e = e
-      go r u false e =
-          let joined = join (any-in (contains patients) (t .members) i (contains-in patients j)) (any-in (λ s. not (contains patients s)) (t .members) u (ap not e)) in
-          absurd (true≢false (sym (any-in (joins region c) (region .tables) k joined) ∙ apart))
+  -- So the tables that count for the clinic are those among its patients.
+  pub own-apart : ownTables region c ≡ theirTables
+  unfolding ownTables
+  own-apart = keep-same _ (isAmong region c) (region .tables) (λ t k. sym (among-as-one t k (lowest (t .members)) (lowest-in (t .members) (members t k .0))))
+
+  -- The members of the one are patients of the clinic, and those of the others are other patients.
+  own-members : (t : Table) → t ∈ theirTables → (s : ℕ) → s ∈ t .members → s ∈ patients
+  unfolding isAmong
+  own-members t k s i = contains-out patients s (every-in (contains patients) (t .members) (keep-out (isAmong region c) (region .tables) k .1) i)
 
   other-members : (t : Table) → t ∈ otherTables → (s : ℕ) → s ∈ t .members → s ∈ others
-  unfolding patientsOf
   other-members t k s i =
-      let (kept, outside) = keep-out (λ t. not (inside t)) (region .tables) k in
-      go kept (not-true (inside t) outside) (below-in (length (region .patients)) (members t kept s i)) (mine s) refl
-    where
-      go : t ∈ region .tables → inside t ≡ false → s ∈ patientNumbers region → (b : Bool) → mine s ≡ b → s ∈ others
-      go kept outside number true e = absurd (true≢false (sym (all-mine t kept i (keep-in mine (patientNumbers region) number e)) ∙ outside))
-      go kept outside number false e = keep-in (λ s. not (mine s)) (patientNumbers region) number (ap not e)
+      let (kept, outside) = keep-out (λ t. not (isAmong region c t)) (region .tables) k in
+      keep-in (λ s. not (mine s)) (patientNumbers region) (below-in (length (region .patients)) (members t kept .1 s i)) (ap not (sym (among-as-one t kept s i)) ∙ outside)
+
+  -- So the own cost of a row is what the clinic alone charges for its part: it depends on nothing else.
+  pub own-alone : (w : Row) → ownCost region c w ≡ Option·getD (costOver (tablesAmong region c) own (part region c (w .beds))) 0
+  unfolding ownCost part tablesAmong
+  own-alone w =
+      ap (λ o. Option·getD o 0)
+      (ap (λ l. costOver l region (w .beds)) own-apart ∙ sym (cost-alone region patients m (w .beds) theirTables (tablesAmong region c) own-members))
 
   -- The total is that of the clinic alone and that of the rest: of the tables and of the fixed beds.
   abbrev fixedOver : Plan → List ℕ → Option ℕ
@@ -105,16 +108,20 @@ module _ (region : Region) (c m : ℕ) (members : MembersPatients region) (apart
 
   own-total : (plan : Plan) → total own (map (bedOf plan) patients) ≡ plus (costOver (ownTables region c) region plan) (fixedOver plan patients)
   unfolding tablesAmong
-  own-total plan = total-alone region patients m plan (ownTables region c) own-members
+  own-total plan =
+      total-alone region patients m plan theirTables own-members
+      ∙ ap (λ l. plus (costOver l region plan) (fixedOver plan patients)) (sym own-apart)
 
   rest-total : (plan : Plan) → total rest (map (bedOf plan) others) ≡ plus (costOver otherTables region plan) (fixedOver plan others)
   rest-total plan = total-alone region others 1 plan otherTables other-members
 
   total-apart : (plan : Plan) → total region plan ≡ plus (total own (map (bedOf plan) patients)) (total rest (map (bedOf plan) others))
-  unfolding costOver ownTables patientsOf
+  unfolding costOver patientsOf
   total-apart plan =
       total-parts region plan
-      ∙ ap₂ plus (sum-split (entryFor region plan) inside (region .tables)) (sum-split (fixedCost region plan) mine (patientNumbers region))
+      ∙ ap₂ plus
+      (sum-split (entryFor region plan) (isAmong region c) (region .tables) ∙ ap (λ l. plus (costOver l region plan) (costOver otherTables region plan)) (sym own-apart))
+      (sum-split (fixedCost region plan) mine (patientNumbers region))
       ∙ plus-pairs (costOver (ownTables region c) region plan) (costOver otherTables region plan) (fixedOver plan patients) (fixedOver plan others)
       ∙ sym (ap₂ plus (own-total plan) (rest-total plan))
 

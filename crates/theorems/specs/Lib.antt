@@ -17,11 +17,13 @@ pub mod Interleaving
 pub mod Sums
 pub mod Fixed
 pub mod Accepted
+pub mod Lowest
 pub mod Clinics
 pub mod Sameness
 pub mod Places
 pub mod Isolation
 pub mod SheetRows
+pub mod Shares
 pub mod Yields
 pub mod SheetAreas
 pub mod Agreement

@@ -103,11 +103,14 @@ module _ (region : Region) (patients : List ℕ) (m : ℕ) (plan : Plan) where
       (map-at (λ s. patientAlone (patientAt region s)) patients j 0 _ inside) (map-at (bedOf plan) patients j 0 0 inside))))
       ∙ ap (sumOver (fixedCost region plan)) (by-number patients 0)
 
-  -- So the region of some patients alone, with some of their tables, prices their beds as the whole region does.
+  -- So the region of some patients alone, with some of their tables, prices their beds as the whole region does: the tables, and all.
+  pub cost-alone : (l tables : List Table) → ((t : Table) → t ∈ l → (s : ℕ) → s ∈ t .members → s ∈ patients)
+      → costOver (map (byPlaces patients) l) (alone m (patientsAlone region patients) tables) their ≡ costOver l region plan
+  unfolding costOver
+  cost-alone l tables h = sum-map (entryFor region plan) (entryFor (these region patients m tables) their) (byPlaces patients) l (λ t k. entry-alone tables t (h t k))
+
   pub total-alone : (l : List Table) → ((t : Table) → t ∈ l → (s : ℕ) → s ∈ t .members → s ∈ patients)
       → total (alone m (patientsAlone region patients) (map (byPlaces patients) l)) their ≡ plus (costOver l region plan) (sumOver (fixedCost region plan) patients)
-  unfolding costOver
   total-alone l h =
       let tables = map (byPlaces patients) l in
-      total-parts (these region patients m tables) their
-      ∙ ap₂ plus (sum-map (entryFor region plan) (entryFor (these region patients m tables) their) (byPlaces patients) l (λ t k. entry-alone tables t (h t k))) (fixed-alone tables)
+      total-parts (these region patients m tables) their ∙ ap₂ plus (cost-alone l tables h) (fixed-alone tables)

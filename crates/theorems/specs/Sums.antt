@@ -1,11 +1,16 @@
--- Sums of entries of which some may be forbidden: in two parts, after renaming, and in any order.
+-- Sums of entries of which some may be forbidden: in parts, after renaming, and in any order.
 use mathlib.Core.Path.{sym, ap, ap₂, _∙_}
-use mathlib.Core.Option.{Option·none-ne-some}
+use mathlib.Core.Option.{Option·none-ne-some, Option·some-injective}
 use native.Mathlib.Omega.{arith}
 use native.Mathlib.Nat.{zero-add, add-zero}
-use Rattle.definitions.specs.Basics.{ℕ, _+_, _<_, _≡_, refl, Bool, true, false, not, cond, Option, none, some, Option·map, bind}
-use Rattle.definitions.specs.Basics.{List, [], _∷_, _++_, map, length, sum, keep, onAll}
+use borrow.Author.Tests.{eqb-true, eqb-false, ne-eqb, not-true}
+use Prim.Native.Nat.{_≤_}
+use Rattle.definitions.specs.Basics.{ℕ, zero, suc, _+_, _<_, _≡_, refl, Bool, true, false, not, _&&_, cond, Option, none, some, Option·map, Option·getD, bind}
+use Rattle.definitions.specs.Basics.{List, [], _∷_, _++_, map, length, eqb, sum, numbersFrom, keep, onAll}
 use Rattle.lists.specs.Members.{_∈_, here, there}
+use Rattle.lists.specs.Keep.{keep-out, keep-keep, keep-same}
+use Rattle.lists.specs.Maps.{map-same}
+use Rattle.lists.specs.Below.{numbers-enumerate}
 use Rattle.ranking.specs.Occurrences.{Tests}
 
 -- The sum of two costs, forbidden where one of them is.
@@ -89,6 +94,40 @@ sum-split {A} entry f (x ∷ l) = go (f x) (sum-split entry f l)
         → sumOver entry (x ∷ l) ≡ plus (sumOver entry (cond b (x ∷ ins) ins)) (sumOver entry (cond (not b) (x ∷ outs) outs))
     go true e = rw (sum-cons entry x l, sum-cons entry x ins, e) (plus-assoc (entry x) (sumOver entry ins) (sumOver entry outs))
     go false e = rw (sum-cons entry x l, sum-cons entry x outs, e) (plus-swap (entry x) (sumOver entry ins) (sumOver entry outs))
+
+-- The sums over what has each key, one after the other, add up to the sum over all.
+module _ {A : Type 0} (entry : A → Option ℕ) (key : A → ℕ) where
+  abbrev sumAt : List A → ℕ → ℕ
+  sumAt l k = Option·getD (sumOver entry (keep (λ x. eqb (key x) k) l)) 0
+
+  -- What has a later key stands among what does not have this one.
+  later-at : (a : ℕ) (l : List A) (k : ℕ) → a < k → sumAt l k ≡ sumAt (keep (λ x. not (eqb (key x) a)) l) k
+  later-at a l k h = ap (λ m. Option·getD (sumOver entry m) 0)
+      (keep-same _ _ l (λ x i. go (key x) (eqb (key x) a) refl) ∙ sym (keep-keep (λ x. eqb (key x) k) (λ x. not (eqb (key x) a)) l))
+    where
+      go : (n : ℕ) (b : Bool) → eqb n a ≡ b → eqb n k ≡ (not b && eqb n k)
+      go n true e = ne-eqb n k (λ q. omega (arith, eqb-true n a e))
+      go n false e = refl
+
+  pub sum-by-key : (a n : ℕ) (l : List A) → ((x : A) → x ∈ l → (a ≤ key x) × (key x < a + n)) → (total : ℕ) → sumOver entry l ≡ some total
+      → sum (map (sumAt l) (numbersFrom a n)) ≡ total
+  sum-by-key a zero [] keys total e = Option·some-injective 0 total e
+  sum-by-key a zero (x ∷ l) keys total e = absurd (omega (arith, keys x (here refl) .0, keys x (here refl) .1))
+  sum-by-key a (suc n) l keys total e =
+      let parts = halves (sumOver entry (keep (λ x. eqb (key x) a) l)) (sumOver entry rest) total (sym (sum-split entry (λ x. eqb (key x) a) l) ∙ e) in
+      let first : sumAt l a ≡ parts .x = ap (λ o. Option·getD o 0) (parts .left) in
+      let same = map-same (sumAt l) (sumAt rest) (numbersFrom (suc a) n) (λ k i. later-at a l k (numbers-enumerate (suc a) n .only k i .0)) in
+      let others : sum (map (sumAt l) (numbersFrom (suc a) n)) ≡ parts .y = ap sum same ∙ sum-by-key (suc a) n rest rest-keys (parts .y) (parts .right) in
+      ap₂ (λ p q. p + q) first others ∙ sym (parts .whole)
+    where
+      rest : List A
+      rest = keep (λ x. not (eqb (key x) a)) l
+
+      rest-keys : (x : A) → x ∈ rest → (suc a ≤ key x) × (key x < suc a + n)
+      rest-keys x k =
+          let (i, out) = keep-out (λ x. not (eqb (key x) a)) l k in
+          let (low, high) = keys x i in
+          (omega (arith, low, eqb-false (key x) a (not-true _ out)), omega (arith, high))
 
 -- The sum over what stands in front and the sum over what follows.
 pub sum-append : {A : Type 0} (entry : A → Option ℕ) (l k : List A) → sumOver entry (l ++ k) ≡ plus (sumOver entry l) (sumOver entry k)

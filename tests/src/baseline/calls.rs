@@ -120,7 +120,7 @@ pub fn sheet(file: &[u8], clinic: u64, areas: &mut Areas) -> u64 {
         if patients.is_empty() {
             return Err(11);
         }
-        let own = |table: &&Table| table.members().iter().all(|member| inside(*member as usize));
+        let own = |table: &&Table| inside(table.members()[0] as usize);
         let own_tables: Vec<&Table> = held.tables().iter().filter(own).collect();
         let mut parts: Vec<Vec<u8>> = Vec::new();
         for row in rows_of(&held, areas)? {

@@ -12,6 +12,7 @@ pub mod part;
 pub mod price;
 pub mod printing;
 pub mod report;
+pub mod shares;
 pub mod sheet;
 pub mod write;
 pub mod wrong;
@@ -129,6 +130,7 @@ fn run_calls(calls: Calls, seed: u64, count: usize, done: fn(&Tally)) -> Result<
     add(line::run(calls.line, seed, count)?);
     add(list::run(calls.list, seed, count)?);
     add(sheet::run(calls.sheet, seed, count)?);
+    add(shares::run(calls.sheet, seed, count)?);
     add(clinic_pairs::run(calls.sheet, seed, count)?);
     add(write::run(calls.write, seed, count)?);
     Ok(all)
@@ -149,6 +151,7 @@ pub fn run_few(seed: u64) -> Result<(), Difference> {
     sheet::regions(BARE.sheet, seed, 48)?.print();
     sheet::joined_regions(BARE.sheet, seed, 24)?.print();
     sheet::faulty_files(BARE.sheet, seed, 24)?.print();
+    shares::small_regions(BARE.sheet, seed, 4)?.print();
     clinic_pairs::apart(BARE.sheet, seed, 24)?.print();
     large::lists(BARE.list, seed, 4)?.print();
     large::sheets(BARE.sheet, seed, 2)?.print();

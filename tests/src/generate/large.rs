@@ -7,9 +7,13 @@ use crate::limits::HIGHEST_ENTRY;
 use crate::random::Random;
 use crate::region::{Patient, Region, Table};
 
-/// Many small clinics, a region of zero prices, or patients with no table at all; in half of them beds are fixed.
+/// Many small clinics, a region of zero prices, or patients with no table at all. In half of them the patients are dealt to clinics
+/// anew, so that tables join these, and in half beds are fixed.
 pub fn region(random: &mut Random) -> Region {
     let mut region = free_region(random);
+    if random.chance(50) {
+        region.patients.iter_mut().for_each(|patient| patient.clinic = random.between(0, 15));
+    }
     if random.chance(50) {
         fix_share(&mut region, random.pick(&[5, 20, 100]), random);
     }

@@ -13,7 +13,7 @@ mod writes;
 
 use crate::compare::printing::{self, Text};
 use crate::compare::report::{Difference, Tally};
-use crate::compare::{check, clinic_pairs, every_call, large, line, list, part, price, sheet, write};
+use crate::compare::{check, clinic_pairs, every_call, large, line, list, part, price, shares, sheet, write};
 use crate::compare::{
     Calls, CheckCall, LineCall, ListCall, PartCall, PriceCall, SheetCall, Tested, WriteCall, LIBRARY,
 };
@@ -44,7 +44,7 @@ pub fn run() -> Result<Tally, Difference> {
     for (name, comparison, call) in wrong_lists().into_iter().chain(fixed_lists()) {
         found(&mut tally, name, comparison(Tested { name, call }, SEED, COUNT))?;
     }
-    for (name, comparison, call) in wrong_sheets().into_iter().chain(fixed_sheets()) {
+    for (name, comparison, call) in wrong_sheets().into_iter().chain(wrong_shares()).chain(fixed_sheets()) {
         found(&mut tally, name, comparison(Tested { name, call }, SEED, COUNT))?;
     }
     for (name, comparison, call) in wrong_writes().into_iter().chain(unlike_writes()).chain(fixed_writes()) {
@@ -177,8 +177,6 @@ fn fixed_lists() -> Vec<(&'static str, Comparison<ListCall>, ListCall)> {
 
 fn wrong_sheets() -> Vec<(&'static str, Comparison<SheetCall>, SheetCall)> {
     vec![
-        ("joining tables count in the own cost", sheet::regions, sheets::joining_counted),
-        ("joining tables count in the own cost", sheet::joined_regions, sheets::joining_counted),
         ("the cost is the plan's total", sheet::regions, sheets::total_as_cost),
         ("repeated rows are kept", sheet::regions, sheets::repeats_kept),
         ("rows that repeat a cost are dropped", sheet::regions, sheets::equal_costs_dropped),
@@ -198,6 +196,23 @@ fn wrong_sheets() -> Vec<(&'static str, Comparison<SheetCall>, SheetCall)> {
         ("the cost tells of the other patients", clinic_pairs::apart_large, sheets::cost_with_patients),
         ("joining tables are left out of the list", clinic_pairs::joined, sheets::joining_left_out),
         ("a row is lost in a large region", large::sheets, sheets::last_lost_in_large),
+    ]
+}
+
+/// Sheets whose tables count for another clinic, or whose costs are those of another row.
+fn wrong_shares() -> Vec<(&'static str, Comparison<SheetCall>, SheetCall)> {
+    vec![
+        ("joining tables count for no clinic", sheet::regions, sheets::joining_for_nobody),
+        ("joining tables count for no clinic", sheet::joined_regions, sheets::joining_for_nobody),
+        ("joining tables count for no clinic", shares::small_regions, sheets::joining_for_nobody),
+        ("joining tables count for each of their clinics", sheet::regions, sheets::joining_for_all),
+        ("joining tables count for each of their clinics", shares::small_regions, sheets::joining_for_all),
+        ("a table counts for its highest member's clinic", sheet::regions, sheets::highest_member),
+        ("a table counts for its highest member's clinic", sheet::joined_regions, sheets::highest_member),
+        ("the cost is that of the last row with these beds", sheet::regions, sheets::cost_of_the_last_row),
+        ("the cost is the least that these beds have", sheet::regions, sheets::least_cost),
+        ("the cost is the plan's total", shares::small_regions, sheets::total_as_cost),
+        ("the cost tells of the other patients", shares::large_regions, sheets::cost_with_patients),
     ]
 }
 

@@ -37,13 +37,53 @@ fn recosted(region: &Region, list: &[Row], clinic: u64, cost: impl Fn(&Row, &Row
     rows
 }
 
-pub fn joining_counted(file: &[u8], clinic: u64, areas: &mut Areas) -> u64 {
+/// The sheet's rows, each with the cost of the tables that count in the list's first row with those beds.
+fn counted(region: &Region, list: &[Row], clinic: u64, counts: impl Fn(&Table) -> bool) -> Vec<Row> {
+    recosted(region, list, clinic, |_, plan| plans::cost_of(region, &plan.beds, &counts))
+}
+
+pub fn joining_for_nobody(file: &[u8], clinic: u64, areas: &mut Areas) -> u64 {
     other_rows(file, clinic, areas, |region, list| {
-        let mut joining = region.clone();
-        joining.tables.retain(|table| joins(region, table, clinic));
-        let joining_cost = |plan: &Row| plans::total(&joining, &plan.beds).expect("the plan is allowed");
-        recosted(region, list, clinic, |row, plan| row.cost + joining_cost(plan))
+        counted(region, list, clinic, |table| {
+            plans::clinic_of(region, table) == clinic && !joins(region, table, clinic)
+        })
     })
+}
+
+pub fn joining_for_all(file: &[u8], clinic: u64, areas: &mut Areas) -> u64 {
+    other_rows(file, clinic, areas, |region, list| {
+        counted(region, list, clinic, |table| {
+            plans::clinic_of(region, table) == clinic || joins(region, table, clinic)
+        })
+    })
+}
+
+pub fn highest_member(file: &[u8], clinic: u64, areas: &mut Areas) -> u64 {
+    other_rows(file, clinic, areas, |region, list| {
+        let highest = |table: &Table| *table.members.iter().max().expect("a table has members") as usize;
+        counted(region, list, clinic, |table| region.patients[highest(table)].clinic == clinic)
+    })
+}
+
+/// The sheet's rows, each with one of the own costs that the list's rows with those beds have.
+fn one_of_its_costs(region: &Region, list: &[Row], clinic: u64, choose: impl Fn(&[u64]) -> u64) -> Vec<Row> {
+    let mut rows = plans::sheet(region, list, clinic);
+    for row in &mut rows {
+        let alike = list.iter().filter(|plan| part(region, plan, clinic) == row.beds);
+        let costs: Vec<u64> = alike.map(|plan| plans::own_cost(region, clinic, &plan.beds)).collect();
+        row.cost = choose(&costs);
+    }
+    rows
+}
+
+pub fn cost_of_the_last_row(file: &[u8], clinic: u64, areas: &mut Areas) -> u64 {
+    let last = |costs: &[u64]| costs[costs.len() - 1];
+    other_rows(file, clinic, areas, |region, list| one_of_its_costs(region, list, clinic, last))
+}
+
+pub fn least_cost(file: &[u8], clinic: u64, areas: &mut Areas) -> u64 {
+    let least = |costs: &[u64]| *costs.iter().min().expect("of the list");
+    other_rows(file, clinic, areas, |region, list| one_of_its_costs(region, list, clinic, least))
 }
 
 pub fn total_as_cost(file: &[u8], clinic: u64, areas: &mut Areas) -> u64 {

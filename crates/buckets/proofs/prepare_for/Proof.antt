@@ -1,14 +1,14 @@
 use borrow.Author.Needs.{needs}
 use Rattle.held_region.specs.Sound.{accepted-sound}
 use Rattle.held_region.specs.Related.{members-known}
-use Rattle.buckets.specs.Among.{allIn, isAmong}
-use Rattle.buckets.proofs.Held.{fixed-fit, members-asked}
+use Rattle.buckets.specs.Counting.{lowestIn, countsFor}
+use Rattle.buckets.proofs.Held.{fixed-fit, some-members, members-asked}
 use Rattle.buckets.proofs.Filling.{Filling, counts-held, filling-none, filling-all, filling-start, filling-known, filling-place, filling-over, filling-more}
-use Rattle.buckets.proofs.prepare_within.Statement.{statement}
-use Rattle.buckets.proofs.prepare_within.Tie as tie
+use Rattle.buckets.proofs.prepare_for.Statement.{statement}
+use Rattle.buckets.proofs.prepare_for.Tie as tie
 
 abbrev Inv-loop : tie.InvT-loop
-Inv-loop store of region patients₀ terms₀ start₀ i₀ patients terms start i = Filling region store (isAmong (of .0)) i start patients terms
+Inv-loop store of region patients₀ terms₀ start₀ i₀ patients terms start i = Filling region store (countsFor (of .0)) i start patients terms
 
 abbrev μ-loop : tie.MeasureT-loop
 μ-loop store of region patients₀ terms₀ start₀ i₀ patients terms start i = i
@@ -36,11 +36,12 @@ sub-start c =
     let turn = c .before .before in
     filling-start _ _ (turn .before .before .before .before .before .pre) _ _ _ _ _ (turn .loop-test .taken) (turn .before .loop .inv)
 
-is-among-requires : tie.Need-is-among-requires Inv-loop μ-loop
-is-among-requires c κs =
+counts-for-requires : tie.Need-counts-for-requires Inv-loop μ-loop
+counts-for-requires c κs =
     let turn = c .before .before in
     let start = turn .before .before .before .before .before in
-    members-known _ (accepted-sound _ _ (start .pre)) _ (filling-place _ _ (start .pre) _ _ _ _ _ (turn .loop-test .taken) (turn .before .loop .inv))
+    let place = filling-place _ _ (start .pre) _ _ _ _ _ (turn .loop-test .taken) (turn .before .loop .inv) in
+    (members-known _ (accepted-sound _ _ (start .pre)) _ place, some-members _ _ (start .pre) _ place)
 
 add-term-requires : tie.Need-add-term-requires Inv-loop μ-loop
 add-term-requires c κs =
@@ -56,7 +57,7 @@ loop-again c =
     let turn = asked .before .before .before in
     let pre = turn .before .before .before .before .before .pre in
     let place = filling-place _ _ pre _ _ _ _ _ (turn .loop-test .taken) (turn .before .loop .inv) in
-    filling-more _ _ pre _ _ _ _ _ (turn .loop-test .taken) (turn .before .loop .inv) (members-asked _ _ pre _ place (allIn _) (asked .is-among .ensures)) (c .before .before .before .if1 .taken) (c .add-term .ensures)
+    filling-more _ _ pre _ _ _ _ _ (turn .loop-test .taken) (turn .before .loop .inv) (members-asked _ _ pre _ place (lowestIn _) (asked .counts-for .ensures)) (c .before .before .before .if1 .taken) (c .add-term .ensures)
 
 loop-less-2 : tie.Need-loop-less-2 Inv-loop μ-loop
 loop-less-2 c = search needs
@@ -66,13 +67,13 @@ loop-again-2 c =
     let turn = c .before .before .before .before in
     let pre = turn .before .before .before .before .before .pre in
     let place = filling-place _ _ pre _ _ _ _ _ (turn .loop-test .taken) (turn .before .loop .inv) in
-    filling-over _ _ pre _ _ _ _ _ (turn .loop-test .taken) (turn .before .loop .inv) (members-asked _ _ pre _ place (allIn _) (c .before .is-among .ensures)) (c .if1 .left)
+    filling-over _ _ pre _ _ _ _ _ (turn .loop-test .taken) (turn .before .loop .inv) (members-asked _ _ pre _ place (lowestIn _) (c .before .counts-for .ensures)) (c .if1 .left)
 
 returns : tie.Need-returns Inv-loop μ-loop
 returns c = filling-all _ _ (c .before .before .before .before .before .pre) _ _ _ _ _ (c .loop-test .left) (c .before .loop .inv)
 
-pub prepare-within-spec : {M : Type 1} → statement M
-prepare-within-spec =
+pub prepare-for-spec : {M : Type 1} → statement M
+prepare-for-spec =
     tie.close
     (tie.spec
     Inv-loop
@@ -84,7 +85,7 @@ prepare-within-spec =
     mul-table
     element-copy-out-table
     sub-start
-    is-among-requires
+    counts-for-requires
     add-term-requires
     loop-less
     loop-again

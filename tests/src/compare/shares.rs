@@ -1,0 +1,93 @@
+//! The clinics' shares by running: for every row of a list, a file in which all patients keep the beds of that row. Its one plan
+//! is the row, so each clinic's sheet has one row with the clinic's share, and these add up to the row's total.
+
+use crate::areas::{Areas, Lengths};
+use crate::boundary;
+use crate::compare::report::{Difference, Tally, MANY};
+use crate::compare::{SheetCall, Tested};
+use crate::generate::pairs::{self, Sharing};
+use crate::generate::{large, small, spelling};
+use crate::plans::{self, Row};
+use crate::random::Random;
+use crate::region::Region;
+
+pub fn run(tested: Tested<SheetCall>, seed: u64, count: usize) -> Result<Vec<Tally>, Difference> {
+    Ok(vec![small_regions(tested, seed, count / 4)?, large_regions(tested, seed, count / 400)?])
+}
+
+/// Small regions, half of them with a table that joins; their lists are the independent program's.
+pub fn small_regions(tested: Tested<SheetCall>, seed: u64, count: usize) -> Result<Tally, Difference> {
+    let mut random = Random::of(seed, "sheet, shares");
+    let regions = (0..count).map(|case| match case % 2 {
+        0 => small::region(small::KINDS[case / 2 % small::KINDS.len()], &mut random),
+        _ => pairs::pair(pairs::SMALL, Sharing::Joined, &mut random).one.0,
+    });
+    every_row(Tally::of(&format!("{}, shares", tested.name)), tested, regions, plans::list)
+}
+
+/// Regions with too many plans to walk; their lists are the proved library's.
+pub fn large_regions(tested: Tested<SheetCall>, seed: u64, count: usize) -> Result<Tally, Difference> {
+    let mut random = Random::of(seed, "sheet, shares of large regions");
+    let regions = (0..count).map(|_| large::region(&mut random));
+    every_row(Tally::of(&format!("{}, shares, large regions", tested.name)), tested, regions, listed)
+}
+
+fn listed(region: &Region) -> Vec<Row> {
+    let mut areas = Areas::patterned(Lengths::asked(region.m, region.patients.len()), 0);
+    boundary::list(&spelling::file_of(region), &mut areas);
+    let beds = areas.beds.contents().chunks(region.patients.len()).map(<[u8]>::to_vec);
+    let rows = beds.zip(numbers(areas.costs.contents())).map(|(beds, cost)| Row { cost, beds });
+    rows.take(numbers(areas.result.contents())[0] as usize).collect()
+}
+
+/// The numbers in an area, eight bytes each.
+fn numbers(bytes: &[u8]) -> Vec<u64> {
+    bytes.chunks_exact(8).map(|bytes| u64::from_le_bytes(bytes.try_into().expect("8 bytes"))).collect()
+}
+
+fn every_row(
+    mut tally: Tally,
+    tested: Tested<SheetCall>,
+    regions: impl Iterator<Item = Region>,
+    list: impl Fn(&Region) -> Vec<Row>,
+) -> Result<Tally, Difference> {
+    let mut divided = 0;
+    for region in regions {
+        for row in list(&region) {
+            let file = spelling::file_of(&staying(&region, &row));
+            let shares: Vec<(u64, u64)> = region.clinics().iter().map(|clinic| share(tested, &file, *clinic, &row)).collect();
+            if shares.iter().any(|(number, _)| *number != 0) || shares.iter().map(|(_, cost)| cost).sum::<u64>() != row.cost {
+                return Err(difference(&tally, tested, file, &row, &shares));
+            }
+            divided += u64::from(shares.iter().filter(|(_, cost)| *cost > 0).count() > 1);
+            tally.count(0);
+        }
+    }
+    tally.remark(format!("({divided} rows that several clinics pay for)"));
+    if divided > 0 || tally.cases() < MANY {
+        return Ok(tally);
+    }
+    let answers = vec![("rows that several clinics pay for".to_string(), "none".to_string())];
+    Err(Difference { kind: tally.kind().to_string(), file: Vec::new(), answers })
+}
+
+/// The region in which everybody keeps the bed of the row.
+fn staying(region: &Region, row: &Row) -> Region {
+    let patients = region.patients.iter().zip(&row.beds);
+    Region { patients: patients.map(|(patient, bed)| patient.clone().staying_in(u64::from(*bed))).collect(), ..region.clone() }
+}
+
+/// The number of the clinic's sheet, and the cost in its first row.
+fn share(tested: Tested<SheetCall>, file: &[u8], clinic: u64, row: &Row) -> (u64, u64) {
+    let mut areas = Areas::patterned(Lengths::asked(64, row.beds.len()), clinic);
+    let number = (tested.call)(file, clinic, &mut areas);
+    (number, numbers(areas.costs.contents())[0])
+}
+
+fn difference(tally: &Tally, tested: Tested<SheetCall>, file: Vec<u8>, row: &Row, shares: &[(u64, u64)]) -> Difference {
+    let answers = vec![
+        ("total of the one plan".to_string(), row.cost.to_string()),
+        (format!("{}, number and cost for each clinic", tested.name), format!("{shares:?}")),
+    ];
+    Difference { kind: tally.kind().to_string(), file, answers }
+}
