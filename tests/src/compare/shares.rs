@@ -9,7 +9,7 @@ use crate::generate::pairs::{self, Sharing};
 use crate::generate::{large, small, spelling};
 use crate::plans::{self, Row};
 use crate::random::Random;
-use crate::region::Region;
+use crate::region::{Patient, Region};
 
 pub fn run(tested: Tested<SheetCall>, seed: u64, count: usize) -> Result<Vec<Tally>, Difference> {
     Ok(vec![small_regions(tested, seed, count / 4)?, large_regions(tested, seed, count / 400)?])
@@ -55,11 +55,13 @@ fn every_row(
     for region in regions {
         for row in list(&region) {
             let file = spelling::file_of(&staying(&region, &row));
-            let shares: Vec<(u64, u64)> = region.clinics().iter().map(|clinic| share(tested, &file, *clinic, &row)).collect();
-            if shares.iter().any(|(number, _)| *number != 0) || shares.iter().map(|(_, cost)| cost).sum::<u64>() != row.cost {
+            let shares: Vec<Share> =
+                region.clinics().iter().map(|clinic| share(tested, &file, *clinic, &row)).collect();
+            let added: u128 = shares.iter().map(|share| u128::from(share.cost)).sum();
+            if added != u128::from(row.cost) || shares.iter().any(|share| share.number != 0) {
                 return Err(difference(&tally, tested, file, &row, &shares));
             }
-            divided += u64::from(shares.iter().filter(|(_, cost)| *cost > 0).count() > 1);
+            divided += u64::from(shares.iter().filter(|share| share.cost > 0).count() > 1);
             tally.count(0);
         }
     }
@@ -73,21 +75,27 @@ fn every_row(
 
 /// The region in which everybody keeps the bed of the row.
 fn staying(region: &Region, row: &Row) -> Region {
-    let patients = region.patients.iter().zip(&row.beds);
-    Region { patients: patients.map(|(patient, bed)| patient.clone().staying_in(u64::from(*bed))).collect(), ..region.clone() }
+    let stay = |(patient, bed): (&Patient, &u8)| patient.clone().staying_in(u64::from(*bed));
+    Region { patients: region.patients.iter().zip(&row.beds).map(stay).collect(), ..region.clone() }
 }
 
-/// The number of the clinic's sheet, and the cost in its first row.
-fn share(tested: Tested<SheetCall>, file: &[u8], clinic: u64, row: &Row) -> (u64, u64) {
+/// The number that a clinic's sheet got, and the cost in its first row.
+#[derive(Debug)]
+struct Share {
+    number: u64,
+    cost: u64,
+}
+
+fn share(tested: Tested<SheetCall>, file: &[u8], clinic: u64, row: &Row) -> Share {
     let mut areas = Areas::patterned(Lengths::asked(64, row.beds.len()), clinic);
     let number = (tested.call)(file, clinic, &mut areas);
-    (number, numbers(areas.costs.contents())[0])
+    Share { number, cost: numbers(areas.costs.contents())[0] }
 }
 
-fn difference(tally: &Tally, tested: Tested<SheetCall>, file: Vec<u8>, row: &Row, shares: &[(u64, u64)]) -> Difference {
+fn difference(tally: &Tally, tested: Tested<SheetCall>, file: Vec<u8>, row: &Row, shares: &[Share]) -> Difference {
     let answers = vec![
         ("total of the one plan".to_string(), row.cost.to_string()),
-        (format!("{}, number and cost for each clinic", tested.name), format!("{shares:?}")),
+        (format!("{}, for each clinic", tested.name), format!("{shares:?}")),
     ];
     Difference { kind: tally.kind().to_string(), file, answers }
 }

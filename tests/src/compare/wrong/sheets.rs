@@ -52,9 +52,7 @@ pub fn joining_for_nobody(file: &[u8], clinic: u64, areas: &mut Areas) -> u64 {
 
 pub fn joining_for_all(file: &[u8], clinic: u64, areas: &mut Areas) -> u64 {
     other_rows(file, clinic, areas, |region, list| {
-        counted(region, list, clinic, |table| {
-            plans::clinic_of(region, table) == clinic || joins(region, table, clinic)
-        })
+        counted(region, list, clinic, |table| plans::clinic_of(region, table) == clinic || joins(region, table, clinic))
     })
 }
 
