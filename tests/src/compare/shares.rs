@@ -1,5 +1,5 @@
 //! The clinics' shares by running: for every row of a list, a file in which all patients keep the beds of that row. Its one plan
-//! is the row, so each clinic's sheet has one row with the clinic's share, and these add up to the row's total.
+//! is the row, so each clinic's sheet has one row with the clinic's share; the shares are the independent program's, and add up.
 
 use crate::areas::{Areas, Lengths};
 use crate::boundary;
@@ -55,13 +55,12 @@ fn every_row(
     for region in regions {
         for row in list(&region) {
             let file = spelling::file_of(&staying(&region, &row));
-            let shares: Vec<Share> =
-                region.clinics().iter().map(|clinic| share(tested, &file, *clinic, &row)).collect();
-            let added: u128 = shares.iter().map(|share| u128::from(share.cost)).sum();
-            if added != u128::from(row.cost) || shares.iter().any(|share| share.number != 0) {
-                return Err(difference(&tally, tested, file, &row, &shares));
+            let given: Vec<Share> = region.clinics().iter().map(|clinic| share(tested, &file, *clinic, &row)).collect();
+            let due = shares_due(&region, &row);
+            if given != due || due.iter().map(|share| share.cost).sum::<u64>() != row.cost {
+                return Err(difference(&tally, tested, file, &row, &[due, given]));
             }
-            divided += u64::from(shares.iter().filter(|share| share.cost > 0).count() > 1);
+            divided += u64::from(due.iter().filter(|share| share.cost > 0).count() > 1);
             tally.count(0);
         }
     }
@@ -79,11 +78,17 @@ fn staying(region: &Region, row: &Row) -> Region {
     Region { patients: region.patients.iter().zip(&row.beds).map(stay).collect(), ..region.clone() }
 }
 
-/// The number that a clinic's sheet got, and the cost in its first row.
-#[derive(Debug)]
+/// What a clinic's sheet gives: its number, and the cost in its first row.
+#[derive(Debug, PartialEq)]
 struct Share {
     number: u64,
     cost: u64,
+}
+
+/// The shares of the clinics that have patients, by the independent program.
+fn shares_due(region: &Region, row: &Row) -> Vec<Share> {
+    let clinics = region.clinics().into_iter();
+    clinics.map(|clinic| Share { number: 0, cost: plans::own_cost(region, clinic, &row.beds) }).collect()
 }
 
 fn share(tested: Tested<SheetCall>, file: &[u8], clinic: u64, row: &Row) -> Share {
@@ -92,10 +97,17 @@ fn share(tested: Tested<SheetCall>, file: &[u8], clinic: u64, row: &Row) -> Shar
     Share { number, cost: numbers(areas.costs.contents())[0] }
 }
 
-fn difference(tally: &Tally, tested: Tested<SheetCall>, file: Vec<u8>, row: &Row, shares: &[Share]) -> Difference {
+fn difference(
+    tally: &Tally,
+    tested: Tested<SheetCall>,
+    file: Vec<u8>,
+    row: &Row,
+    [due, given]: &[Vec<Share>; 2],
+) -> Difference {
     let answers = vec![
         ("total of the one plan".to_string(), row.cost.to_string()),
-        (format!("{}, for each clinic", tested.name), format!("{shares:?}")),
+        ("independent program, for each clinic".to_string(), format!("{due:?}")),
+        (format!("{}, for each clinic", tested.name), format!("{given:?}")),
     ];
     Difference { kind: tally.kind().to_string(), file, answers }
 }

@@ -209,6 +209,7 @@ fn wrong_shares() -> Vec<(&'static str, Comparison<SheetCall>, SheetCall)> {
         ("joining tables count for each of their clinics", shares::small_regions, sheets::joining_for_all),
         ("a table counts for its highest member's clinic", sheet::regions, sheets::highest_member),
         ("a table counts for its highest member's clinic", sheet::joined_regions, sheets::highest_member),
+        ("a table counts for its highest member's clinic", shares::small_regions, sheets::highest_member),
         ("the cost is that of the last row with these beds", sheet::regions, sheets::cost_of_the_last_row),
         ("the cost is the least that these beds have", sheet::regions, sheets::least_cost),
         ("the cost is the plan's total", shares::small_regions, sheets::total_as_cost),
