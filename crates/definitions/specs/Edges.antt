@@ -84,8 +84,14 @@ ownTable = table (0 ∷ 2 ∷ []) (some 4 ∷ none ∷ some 1 ∷ some 0 ∷ som
 abbrev joinedTables : List Table
 joinedTables = ownTable ∷ table (0 ∷ 1 ∷ []) (some 5 ∷ some 0 ∷ some 1 ∷ some 7 ∷ []) ∷ table (0 ∷ []) (some 1 ∷ some 2 ∷ []) ∷ table (1 ∷ []) (some 0 ∷ some 3 ∷ []) ∷ []
 
-abbrev pub joined : ℕ → List ℕ
-joined m = fileOf m (patient 0 2 none ∷ patient 1 2 (some 0) ∷ patient 0 3 (some 1) ∷ []) joinedTables
+abbrev joinedPatients : List Patient
+joinedPatients = patient 0 2 none ∷ patient 1 2 (some 0) ∷ patient 0 3 (some 1) ∷ []
+
+abbrev joined : ℕ → List ℕ
+joined m = fileOf m joinedPatients joinedTables
+
+abbrev pub joinedRegion : ℕ → Region
+joinedRegion m = region m joinedPatients joinedTables 0
 
 -- A table over patients with 2, 3 and 2 beds; its entries are 20, 21 and so on.
 abbrev threeMembers : List ℕ

@@ -11,9 +11,9 @@ use Rattle.definitions.specs.Writer.{writtenFile, WriteOutcome, writeOut
 use Rattle.definitions.specs.Lookup.{bytesAt, LineOutcome, lineOutcome, partOf}
 use Rattle.definitions.specs.Boundary.{bytesOf, lentTableCount, PairCall, WriteCall, writeCall, lineCall}
 use Rattle.definitions.specs.Computing.{everything}
-use Rattle.definitions.specs.Examples.{paperFile, patient, fixed, table, fileOf, row, lent, cleared, list, refusal, overOneAndTwo, allForbidden}
+use Rattle.definitions.specs.Examples.{paperFile, patient, fixed, table, region, fileOf, row, lent, cleared, list, refusal, overOneAndTwo, allForbidden}
 use Rattle.definitions.specs.Cases.{paperRegion, eight}
-use Rattle.definitions.specs.Edges.{joined}
+use Rattle.definitions.specs.Edges.{joinedRegion}
 
 -- ---- #101: the writer
 
@@ -268,33 +268,35 @@ foundLines = record {
 
 -- ---- #104: a clinic's share
 
--- The shares of some clinics in each row of the list; of all clinics, added; and the totals.
-abbrev shares : List ℕ → List ℕ → List (List ℕ)
-shares clinics file = map (λ w. map (λ c. ownCost (regionOf file) c w) clinics) (listOf (regionOf file))
+-- The shares of some clinics in each row of the list; those of all clinics, added; and the totals.
+abbrev shares : List ℕ → Region → List (List ℕ)
+shares clinics r = map (λ w. map (λ c. ownCost r c w) clinics) (listOf r)
 
-abbrev sharesAdded : List ℕ → List ℕ
-sharesAdded file = map sum (shares (below 16) file)
+abbrev sharesAdded : Region → List ℕ
+sharesAdded r = map sum (shares (below 16) r)
 
-abbrev totals : List ℕ → List ℕ
-totals file = map (λ w. w .cost) (listOf (regionOf file))
+abbrev totals : Region → List ℕ
+totals r = map (λ w. w .cost) (listOf r)
 
 -- Patients 0, 1 and 2 at these clinics, each the parent of the next, with 1, 2 and 2 beds, and a table over all of them.
-abbrev threeJoined : ℕ → ℕ → ℕ → List ℕ
-threeJoined a b c = fileOf 4 (patient a 1 none ∷ patient b 2 (some 0) ∷ patient c 2 (some 1) ∷ []) (table (0 ∷ 1 ∷ 2 ∷ []) (some 4 ∷ some 9 ∷ some 6 ∷ none ∷ []) ∷ [])
+abbrev threeJoined : ℕ → ℕ → ℕ → Region
+threeJoined a b c = region 4 (patient a 1 none ∷ patient b 2 (some 0) ∷ patient c 2 (some 1) ∷ []) (table (0 ∷ 1 ∷ 2 ∷ []) (some 4 ∷ some 9 ∷ some 6 ∷ none ∷ []) ∷ []) 0
 
 pub record Shares : Type 0 where
   pub lowestMember : map lowest ((3 ∷ []) ∷ (1 ∷ 2 ∷ []) ∷ (5 ∷ 4 ∷ 8 ∷ []) ∷ []) ≡ 3 ∷ 1 ∷ 4 ∷ []
-  pub joinedTables : map (λ c. map (λ t. t .members) (ownTables (regionOf (joined 1)) c)) (0 ∷ 1 ∷ 2 ∷ []) ≡ ((0 ∷ 2 ∷ []) ∷ (0 ∷ 1 ∷ []) ∷ (0 ∷ []) ∷ []) ∷ ((1 ∷ []) ∷ []) ∷ [] ∷ []
-  pub joinedShares : shares (0 ∷ 1 ∷ []) (joined 5) ≡ (3 ∷ 0 ∷ []) ∷ (2 ∷ 3 ∷ []) ∷ (5 ∷ 0 ∷ []) ∷ (6 ∷ 0 ∷ []) ∷ (7 ∷ 0 ∷ []) ∷ []
-  pub firstCame : sheetOf (regionOf (joined 5)) 0 ≡ row 3 (1 ∷ 0 ∷ []) ∷ row 2 (0 ∷ 2 ∷ []) ∷ row 5 (1 ∷ 2 ∷ []) ∷ row 6 (1 ∷ 1 ∷ []) ∷ []
-  pub lowestOnly : map (sheetOf (regionOf (threeJoined 7 2 2))) (2 ∷ 7 ∷ []) ≡ (row 0 (0 ∷ 0 ∷ []) ∷ row 0 (1 ∷ 0 ∷ []) ∷ row 0 (0 ∷ 1 ∷ []) ∷ []) ∷ (row 4 (0 ∷ []) ∷ []) ∷ []
-  pub joinedAdded : sharesAdded (joined 12) ≡ totals (joined 12)
+  pub joinedTables :
+      map (λ c. map (λ t. t .members) (ownTables (joinedRegion 1) c)) (0 ∷ 1 ∷ 2 ∷ [])
+      ≡ ((0 ∷ 2 ∷ []) ∷ (0 ∷ 1 ∷ []) ∷ (0 ∷ []) ∷ []) ∷ ((1 ∷ []) ∷ []) ∷ [] ∷ []
+  pub joinedShares : shares (0 ∷ 1 ∷ []) (joinedRegion 5) ≡ (3 ∷ 0 ∷ []) ∷ (2 ∷ 3 ∷ []) ∷ (5 ∷ 0 ∷ []) ∷ (6 ∷ 0 ∷ []) ∷ (7 ∷ 0 ∷ []) ∷ []
+  pub firstCame : sheetOf (joinedRegion 5) 0 ≡ row 3 (1 ∷ 0 ∷ []) ∷ row 2 (0 ∷ 2 ∷ []) ∷ row 5 (1 ∷ 2 ∷ []) ∷ row 6 (1 ∷ 1 ∷ []) ∷ []
+  pub lowestOnly : map (sheetOf (threeJoined 7 2 2)) (2 ∷ 7 ∷ []) ≡ (row 0 (0 ∷ 0 ∷ []) ∷ row 0 (1 ∷ 0 ∷ []) ∷ row 0 (0 ∷ 1 ∷ []) ∷ []) ∷ (row 4 (0 ∷ []) ∷ []) ∷ []
+  pub joinedAdded : sharesAdded (joinedRegion 12) ≡ totals (joinedRegion 12)
   pub lastClinic : sharesAdded (threeJoined 15 0 0) ≡ 4 ∷ 6 ∷ 9 ∷ []
-  pub withFixed : sharesAdded (fileOf 3 (patient 1 2 none ∷ fixed 0 2 (some 0) 1 ∷ []) (paperRegion .tables)) ≡ 5 ∷ []
-  pub noTables : sharesAdded (fileOf 2 (patient 3 2 none ∷ []) []) ≡ 0 ∷ 0 ∷ []
+  pub withFixed : sharesAdded (region 3 (patient 1 2 none ∷ fixed 0 2 (some 0) 1 ∷ []) (paperRegion .tables) 0) ≡ 5 ∷ []
+  pub noTables : sharesAdded (region 2 (patient 3 2 none ∷ []) [] 0) ≡ 0 ∷ 0 ∷ []
 
 pub sharesAddUp : Shares
-unfolding everything lent cleared
+unfolding everything
 sharesAddUp = record {
   lowestMember = refl;
   joinedTables = refl;
