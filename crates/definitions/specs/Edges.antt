@@ -300,8 +300,10 @@ pub record Rows : Type 0 where
   pub costsRepeat :
       sheetOf (regionOf (fileOf 3 (patient 0 2 none ∷ patient 1 1 none ∷ []) (table (0 ∷ []) (some 5 ∷ some 5 ∷ []) ∷ []))) 0
       ≡ row 5 (0 ∷ []) ∷ row 5 (1 ∷ []) ∷ []
-  pub byPlaces : tablesAmong (regionOf (joined 5)) 0 ≡ table (0 ∷ 1 ∷ []) (ownTable .entries) ∷ table (0 ∷ []) (some 1 ∷ some 2 ∷ []) ∷ []
-  pub joiningTables : map (joins (regionOf (joined 5)) 0) joinedTables ≡ false ∷ true ∷ false ∷ false ∷ []
+  pub byPlaces :
+      map (tablesAmong (joinedRegion 5)) (0 ∷ 1 ∷ [])
+      ≡ (table (0 ∷ 1 ∷ []) (ownTable .entries) ∷ table (0 ∷ []) (some 1 ∷ some 2 ∷ []) ∷ []) ∷ (table (0 ∷ []) (some 0 ∷ some 3 ∷ []) ∷ []) ∷ []
+  pub joiningTables : map (joins (joinedRegion 5) 0) joinedTables ≡ false ∷ true ∷ false ∷ false ∷ []
   pub asOften :
       map (timesIn (ownTable ∷ table (0 ∷ []) (some 0 ∷ []) ∷ ownTable ∷ [])) (ownTable ∷ table (0 ∷ []) (none ∷ []) ∷ table (1 ∷ []) (some 0 ∷ []) ∷ table (0 ∷ []) (some 0 ∷ []) ∷ table (0 ∷ []) (some 0 ∷ none ∷ []) ∷ [])
       ≡ 2 ∷ 0 ∷ 0 ∷ 1 ∷ 0 ∷ []

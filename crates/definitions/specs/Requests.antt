@@ -278,12 +278,16 @@ sharesAdded r = map sum (shares (below 16) r)
 abbrev totals : Region → List ℕ
 totals r = map (λ w. w .cost) (listOf r)
 
+-- The paper's tables, patient 0 at clinic 1, and patient 1 at clinic 0 in a fixed bed.
+abbrev oneStays : Region
+oneStays = region 3 (patient 1 2 none ∷ fixed 0 2 (some 0) 1 ∷ []) (paperRegion .tables) 0
+
 -- Patients 0, 1 and 2 at these clinics, each the parent of the next, with 1, 2 and 2 beds, and a table over all of them.
 abbrev threeJoined : ℕ → ℕ → ℕ → Region
 threeJoined a b c = region 4 (patient a 1 none ∷ patient b 2 (some 0) ∷ patient c 2 (some 1) ∷ []) (table (0 ∷ 1 ∷ 2 ∷ []) (some 4 ∷ some 9 ∷ some 6 ∷ none ∷ []) ∷ []) 0
 
 pub record Shares : Type 0 where
-  pub lowestMember : map lowest ((3 ∷ []) ∷ (1 ∷ 2 ∷ []) ∷ (5 ∷ 4 ∷ 8 ∷ []) ∷ []) ≡ 3 ∷ 1 ∷ 4 ∷ []
+  pub lowestMember : map lowest ((3 ∷ []) ∷ (1 ∷ 2 ∷ []) ∷ (5 ∷ 4 ∷ 8 ∷ []) ∷ (5 ∷ 8 ∷ 4 ∷ []) ∷ []) ≡ 3 ∷ 1 ∷ 4 ∷ 4 ∷ []
   pub joinedTables :
       map (λ c. map (λ t. t .members) (ownTables (joinedRegion 1) c)) (0 ∷ 1 ∷ 2 ∷ [])
       ≡ ((0 ∷ 2 ∷ []) ∷ (0 ∷ 1 ∷ []) ∷ (0 ∷ []) ∷ []) ∷ ((1 ∷ []) ∷ []) ∷ [] ∷ []
@@ -292,7 +296,8 @@ pub record Shares : Type 0 where
   pub lowestOnly : map (sheetOf (threeJoined 7 2 2)) (2 ∷ 7 ∷ []) ≡ (row 0 (0 ∷ 0 ∷ []) ∷ row 0 (1 ∷ 0 ∷ []) ∷ row 0 (0 ∷ 1 ∷ []) ∷ []) ∷ (row 4 (0 ∷ []) ∷ []) ∷ []
   pub joinedAdded : sharesAdded (joinedRegion 12) ≡ totals (joinedRegion 12)
   pub lastClinic : sharesAdded (threeJoined 15 0 0) ≡ 4 ∷ 6 ∷ 9 ∷ []
-  pub withFixed : sharesAdded (region 3 (patient 1 2 none ∷ fixed 0 2 (some 0) 1 ∷ []) (paperRegion .tables) 0) ≡ 5 ∷ []
+  pub withFixed : sharesAdded oneStays ≡ 5 ∷ []
+  pub fixedBedsForNobody : ownTables oneStays 0 ≡ []
   pub noTables : sharesAdded (region 2 (patient 3 2 none ∷ []) [] 0) ≡ 0 ∷ 0 ∷ []
 
 pub sharesAddUp : Shares
@@ -306,5 +311,6 @@ sharesAddUp = record {
   joinedAdded = refl {a = 3 ∷ 5 ∷ 5 ∷ 6 ∷ 7 ∷ 8 ∷ 10 ∷ 12 ∷ 14 ∷ 15 ∷ []};
   lastClinic = refl;
   withFixed = refl;
+  fixedBedsForNobody = refl;
   noTables = refl;
 }
