@@ -3,7 +3,7 @@ use Prim.Native.String.{String}
 use Rattle.definitions.specs.Basics.{ℕ, _+_, _-_, _^_, _≡_, refl, true, false, Option, none, some, List, [], _∷_, _++_, map, flatten, flatMap, length, replicate, text, below, sum}
 use Rattle.definitions.specs.Syntax.{Patient, Table, Region, fixedBeds, patientsOf}
 use Rattle.definitions.specs.Layout.{layout}
-use Rattle.definitions.specs.Plans.{Row, constraints, listOf}
+use Rattle.definitions.specs.Plans.{constraints, listOf}
 use Rattle.definitions.specs.Questions.{regionOf, checkOf}
 use Rattle.definitions.specs.Sheets.{lowest, ownTables, ownCost, sheetOf}
 use Rattle.definitions.specs.Outcomes.{priceOutcome}

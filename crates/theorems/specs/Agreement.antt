@@ -18,9 +18,8 @@ use Rattle.theorems.specs.Sums.{plus, sumOver, sum-same}
 use Rattle.theorems.specs.Fixed.{fixedCost, total-parts}
 use Rattle.theorems.specs.Sameness.{table-tests}
 use Rattle.theorems.specs.Places.{alone, patientsAlone, same-alone}
-use Rattle.theorems.specs.Isolation.{MembersPatients, clinicAlone, sheet-first}
+use Rattle.theorems.specs.Isolation.{MembersPatients, members-known, clinicAlone, sheet-first}
 use Rattle.theorems.specs.Yields.{yielding, sheet-some}
-use Rattle.theorems.specs.Accepted.{table-right}
 use Rattle.theorems.specs.SheetAreas.{rowAt, Printed, outcome-rows, outcome-printed, call-rows, call-printed}
 
 -- The same patients and the same tables, each as often, allow the same rows at the same costs.
@@ -53,15 +52,12 @@ sheets-agree first second c inFirst inSecond same = first-unique {m = min (lengt
     back = same-allowed 0 _ _ _ _ (sym patients) (λ t. sym (same .tables t))
 
 -- Demand 3, of the sheets of any two files.
-members-known : (file : List ℕ) → YieldsList file → MembersPatients (regionOf file)
-members-known file yields t k = let right = table-right (regionOf file) (yielding file yields) k in (right .some, λ s i. right .known i)
-
 pub same-beginning : (f g : List ℕ) (c : ℕ) → YieldsList f → YieldsList g → SameClinic c (regionOf f) (regionOf g)
     → SameBeginning (sheetOf (regionOf f) c) (sheetOf (regionOf g) c)
 same-beginning f g c inF inG same = record {
   firstRow = sheet-some f inF c;
   secondRow = sheet-some g inG c;
-  sameRows = sheets-agree (regionOf f) (regionOf g) c (members-known f inF) (members-known g inG) same;
+  sameRows = sheets-agree (regionOf f) (regionOf g) c (members-known (regionOf f) (yielding f inF)) (members-known (regionOf g) (yielding g inG)) same;
 }
 
 -- ---- demand 3 of what is printed

@@ -5,7 +5,7 @@ use mathlib.Core.List.{map-map}
 use native.Mathlib.Omega.{arith}
 use Prim.Native.Nat.{_≤_}
 use lib.ListN.{length-map}
-use Rattle.definitions.specs.Basics.{ℕ, suc, _+_, _<_, _≡_, refl, Bool, true, false, not, Option, some, Option·getD}
+use Rattle.definitions.specs.Basics.{ℕ, suc, _+_, _<_, _≡_, refl, Bool, false, not, Option, some, Option·getD}
 use Rattle.definitions.specs.Basics.{List, [], _∷_, map, length, take, eqb, any, keep, contains, below}
 use Rattle.definitions.specs.Syntax.{Patient, Table, Region, patientNumbers, patientAt, bedCounts, patientsOf}
 use Rattle.definitions.specs.Plans.{Plan, bedOf, entryFor, costOver, total, Row, listOf}
@@ -22,6 +22,7 @@ use Rattle.theorems.specs.Interleaving.{Interleaved, unweave, rising-mar
 use Rattle.theorems.specs.Interleaving.{interleave, interleaved, interleave-is, interleaved-keep}
 use Rattle.theorems.specs.Sums.{plus, plus-pairs, Halves, halves, sumOver, sum-split}
 use Rattle.theorems.specs.Fixed.{fixedCost, total-parts, tables-alone}
+use Rattle.theorems.specs.Accepted.{Accepted, table-right}
 use Rattle.theorems.specs.Lowest.{lowest-in}
 use Rattle.theorems.specs.Clinics.{clinic-patient}
 use Rattle.theorems.specs.Sameness.{beds-tests}
@@ -38,6 +39,9 @@ fits-length (d ∷ ds) (b ∷ plan) f = ap suc (fits-length ds plan (f .1))
 -- Every table has a member, and its members are patients.
 abbrev pub MembersPatients : Region → Type 0
 MembersPatients region = (t : Table) → t ∈ region .tables → (0 < length (t .members)) × ((s : ℕ) → s ∈ t .members → s < length (region .patients))
+
+pub members-known : (region : Region) → Accepted region → MembersPatients region
+members-known region a t k = let right = table-right region a k in (right .some, λ s i. right .known i)
 
 -- The clinic alone, for m plans: its patients' beds and the tables among them, by places, and nothing else.
 abbrev pub clinicAlone : ℕ → Region → ℕ → Region
@@ -85,7 +89,7 @@ module _ (region : Region) (c m : ℕ) (members : MembersPatients region) (apart
   unfolding ownTables
   own-apart = keep-same _ (isAmong region c) (region .tables) (λ t k. sym (among-as-one t k (lowest (t .members)) (lowest-in (t .members) (members t k .0))))
 
-  -- The members of the one are patients of the clinic, and those of the others are other patients.
+  -- The members of these are patients of the clinic, and those of the other tables are other patients.
   own-members : (t : Table) → t ∈ theirTables → (s : ℕ) → s ∈ t .members → s ∈ patients
   unfolding isAmong
   own-members t k s i = contains-out patients s (every-in (contains patients) (t .members) (keep-out (isAmong region c) (region .tables) k .1) i)

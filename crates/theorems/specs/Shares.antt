@@ -1,21 +1,23 @@
--- Request #104: of every allowed plan the clinics' shares add up to the total; and of every row of a list.
+-- Request #104: the clinics' shares of an allowed plan add up to its total, and where no table joins the figures are what they were.
 use mathlib.Core.Path.{sym, ap, _∙_}
 use mathlib.Core.Bool.{true≢false}
 use native.Mathlib.Omega.{arith}
-use Rattle.definitions.specs.Basics.{ℕ, _+_, _≡_, refl, Bool, true, false, not, cond, some, Option·getD, List, [], _∷_, map, eqb, isEmpty, below, sum, keep, contains}
+use Rattle.definitions.specs.Basics.{ℕ, _+_, _≡_, refl, Bool, true, false, not, cond, some, Option·getD, List, [], _∷_, map, isEmpty, below, sum, any, keep, contains}
 use Rattle.definitions.specs.Limits.{clinic, limits}
-use Rattle.definitions.specs.Syntax.{Table, Region, patientAt, patientsOf}
+use Rattle.definitions.specs.Syntax.{Region, patientAt, patientsOf}
 use Rattle.definitions.specs.Plans.{entryFor, costOver, total, Row, listOf}
 use Rattle.definitions.specs.Sheets.{lowest, ownTables, ownCost}
 use Rattle.definitions.specs.Questions.{patientsWithin, clinicPresent, regionOf, checkOf}
+use Rattle.definitions.specs.Isolation.{isAmong, joins}
 use Rattle.definitions.specs.Output.{clinicsPresent}
-use Rattle.lists.specs.Members.{_∈_, here, there}
+use Rattle.lists.specs.Members.{_∈_}
 use Rattle.lists.specs.Keep.{keep-none}
 use Rattle.theorems.specs.List.{right-list}
 use Rattle.theorems.specs.Sums.{sum-by-key}
 use Rattle.theorems.specs.Fixed.{total-tables}
 use Rattle.theorems.specs.Accepted.{Accepted, accepted, table-right}
 use Rattle.theorems.specs.Lowest.{lowest-in}
+use Rattle.theorems.specs.Isolation.{members-known, own-apart}
 use Rattle.theorems.specs.Clinics.{clinic-patient, clinic-few, present-asked}
 
 -- The total is that of the entries. A table counts for one clinic, and fixed beds cost nothing.
@@ -28,6 +30,14 @@ shares-add-up region w fits e =
 
 pub list-shares : (file : List ℕ) → checkOf file ≡ 0 → (w : Row) → w ∈ listOf (regionOf file) → sum (map (λ c. ownCost (regionOf file) c w) (below 16)) ≡ w .cost
 list-shares file e w k = shares-add-up (regionOf file) w (accepted file e .region .patientsFit) (right-list (regionOf file) .onlyAllowed w k .priced)
+
+-- Where no table joins the clinic, its own cost is what it was before: the sum over the tables whose members are all its patients.
+pub figures-stay : (file : List ℕ) → checkOf file ≡ 0 → (c : ℕ) → any (joins (regionOf file) c) (regionOf file .tables) ≡ false → (w : Row)
+    → ownCost (regionOf file) c w ≡ Option·getD (costOver (keep (isAmong (regionOf file) c) (regionOf file .tables)) (regionOf file) (w .beds)) 0
+unfolding ownCost
+figures-stay file e c apart w =
+    let region = regionOf file in
+    ap (λ tables. Option·getD (costOver tables region (w .beds)) 0) (own-apart region c 0 (members-known region (accepted file e .region)) apart)
 
 -- ---- the clinics that have patients
 
