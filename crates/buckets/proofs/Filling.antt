@@ -1,7 +1,8 @@
 -- The buckets of the tables from a place on, as they are filled from the last table down.
-use mathlib.Core.Path.{_≡_, refl, sym, ap, ap₂, _∙_, subst}
+use mathlib.Core.Path.{_≡_, refl, sym, ap, ap₂, _∙_, subst, subst⁻¹}
+use mathlib.Core.Bool.{true≢false}
 use Prim.Native.Nat.{_≤_}
-use native.Mathlib.Decide.{ℕ-discrete}
+use native.Mathlib.Decide.{ℕ-discrete, decLt}
 use native.Mathlib.Nat.{le-refl, add-comm}
 use native.Mathlib.Omega.{arith}
 use borrow.Author.Tests.{eq-eqb, ne-eqb}
@@ -20,13 +21,15 @@ use Rattle.held_region.specs.Asked.{patients-said, patient-said, starts-said, s
 use Rattle.held_region.specs.Sound.{accepted-sound}
 use Rattle.held_region.specs.Entries.{CountsSmall, counts-match, counts-small}
 use Rattle.bucket_words.specs.Words.{bedsAt, firstBedAt, bedEndAt, leastAt, firstAt}
+use Rattle.bucket_words.specs.Kept.{Bounded}
 use Rattle.buckets.specs.Permitted.{firstPermitted, permittedEnd}
 use Rattle.buckets.specs.Terms.{Term, Chain, Prepared, highest, bucketOf, leastIn}
 use Rattle.buckets.specs.Least.{leastNumber}
 use Rattle.buckets.specs.Places.{strideOf, stride-same}
 use Rattle.buckets.specs.Highest.{in-bucket}
-use Rattle.buckets.specs.Chains.{term-right, chain-kept, chain-lower}
+use Rattle.buckets.specs.Chains.{term-right, term-kept, chain-kept, chain-lower}
 use Rattle.buckets.specs.WithTables.{withTables, accepted-with, term-with}
+use Rattle.buckets.specs.Counting.{PreparedFor}
 use Rattle.buckets.specs.Written.{PatientsWritten, lastOf, TermKnown, TermAdded}
 use Rattle.buckets.proofs.Writing.{zeros}
 use Rattle.buckets.proofs.Held.{held-lines, least-fits, held-place, held-right, members-same, entries-same, count-same}
@@ -44,6 +47,7 @@ pub record Filled (test : Said.Table → Bool) (r : Said.Region) (store : List �
   pub bedEnd : (s : ℕ) → s < length (r .patients) → bedEndAt patients s ≡ permittedEnd (patientAt r s)
   pub least : (s : ℕ) → s < length (r .patients) → leastAt patients s ≡ sum (map leastEntry (bucketFrom test r i s))
   pub bucket : (s : ℕ) → s < length (r .patients) → Chain (withTables r test) store terms i (firstAt patients s) (bucketFrom test r i s)
+  pub term : (k : ℕ) → i ≤ k → k < length (r .tables) → test (tableAt r k) ≡ true → Term r store terms k (tableAt r k)
 
 module _ (h : Region) (store : List ℕ) (test : Said.Table → Bool) (a : Accepted (said h store)) where
   abbrev r : Said.Region
@@ -61,6 +65,7 @@ module _ (h : Region) (store : List ℕ) (test : Said.Table → Bool) (a : Accep
         bedEnd = λ s l. w .bedEnd s (known s l) ∙ ap permittedEnd (sym (patient-said h store s (known s l)));
         least = λ s l. w .least s ∙ sym (ap (λ ts. sum (map leastEntry (keep (highest s) (keep test ts)))) none-left);
         bucket = λ s l. subst (λ ts. Chain (withTables r test) store terms (h .t) (firstAt words s) (keep (highest s) (keep test ts))) (sym none-left) (w .first s (known s l));
+        term = λ k l m. absurd (omega (arith, held-lines h store a));
       }
     where
       known : (s : ℕ) → s < length (r .patients) → s < h .v
@@ -145,20 +150,54 @@ module _ (h : Region) (store : List ℕ) (test : Said.Table → Bool) (a : Accep
           bucket = λ s m.
               subst (λ ts. Chain (withTables r test) store terms i (firstAt patients s) ts) (sym (over s))
               (chain-lower (withTables r test) store terms (suc i) i (firstAt patients s) (bucketFrom test r (suc i) s) (omega arith) (f .bucket s m));
+          term = λ k n m own. later k n m own (ℕ-discrete k i);
         }
       where
+        later : (k : ℕ) → i ≤ k → k < length (r .tables) → test (tableAt r k) ≡ true → Dec (k ≡ i) → Term r store terms k (tableAt r k)
+        later k n m own (yes e) = absurd (true≢false (sym own ∙ ap (λ j. test (tableAt r j)) e ∙ out))
+        later k n m own (no e) = f .term k (omega (arith, e)) m own
+
         over : (s : ℕ) → bucketFrom test r i s ≡ bucketFrom test r (suc i) s
         over s = next-table s ∙ ap (λ b. keep (highest s) (cond b (t ∷ keep test (drop (suc i) (r .tables))) (keep test (drop (suc i) (r .tables))))) out
 
     module _ (own : test t ≡ true) (blank : (p : ℕ) → p < suc i * 10 → getD terms p 0 ≡ 0) {counted after : List ℕ} (w : TermAdded store table i from patients counted terms after) where
-      term-there : Term (withTables r test) store after i t
-      term-there =
-          (term-with r test store after i t
-          (term-right r a i (held-place h store a i l) after (w .starts ∙ from-is)
+      term-own : Term r store after i t
+      term-own =
+          term-right r a i (held-place h store a i l) after (w .starts ∙ from-is)
           (λ j m. w .members .members (λ q n. blank _ (omega arith)) j m ∙ ap (λ ms. getD ms j 0) (members-same h store a i l))
           (λ j m.
           w .members .strides (λ q n. blank _ (omega arith)) j m ∙ ap (λ ms. strideOf (bedsAt patients) ms j) (members-same h store a i l)
-          ∙ stride-same (bedsAt patients) (λ s. patientAt r s .bedCount) (t .members) (λ q n. f .beds _ (member-at (held-right h store a i l) q n)) j) store (stands h store)))
+          ∙ stride-same (bedsAt patients) (λ s. patientAt r s .bedCount) (t .members) (λ q n. f .beds _ (member-at (held-right h store a i l) q n)) j) store (stands h store)
+
+      term-there : Term (withTables r test) store after i t
+      term-there = term-with r test store after i t term-own
+
+      -- Its own words keep to the bounds, and those of the other terms are as they were.
+      pub bounded-more : {n : ℕ} → i < n → Bounded terms n → Bounded after n
+      bounded-more {n} inside bounded =
+          record {
+            few = bounded .few;
+            known = λ k j m q. elim (ℕ-discrete k i) [
+              | yes e ↦ rw e (term-own .known j q)
+              | no e ↦ omega (arith, bounded .known k j m q, others k e (k * 10 + 2 + j) (omega arith) (omega arith))
+            ];
+            near = λ k j m q. elim (ℕ-discrete k i) [
+              | yes e ↦ rw e (term-own .near j q)
+              | no e ↦ omega (arith, bounded .near k j m q, others k e (k * 10 + 6 + j) (omega arith) (omega arith))
+            ];
+            blank = λ k j o m q. others k (λ e. omega arith) (k * 10 + 6 + j) (omega arith) (omega arith) ∙ bounded .blank k j o m q;
+          }
+        where
+          others : (k : ℕ) → (k ≡ i → ⊥) → (p : ℕ) → k * 10 ≤ p → p < k * 10 + 10 → getD after p 0 ≡ getD terms p 0
+          others k e p low high = elim (decLt k i) [
+            | yes m ↦ w .members .others .lower p (omega arith)
+            | no m ↦ w .members .others .higher p (omega (arith, e))
+          ]
+
+      term-of : (k : ℕ) → i ≤ k → k < length (r .tables) → test (tableAt r k) ≡ true → Dec (k ≡ i) → Term r store after k (tableAt r k)
+      term-of k n m own (yes e) = rw e term-own
+      term-of k n m own (no e) =
+          term-kept r store terms after k (tableAt r k) (λ p o. w .members .others .higher p (omega (arith, e))) (f .term k (omega (arith, e)) m own)
 
       kept : (s : ℕ) → s < length (r .patients) → Chain (withTables r test) store after (suc i) (firstAt patients s) (bucketFrom test r (suc i) s)
       kept s m = chain-kept (withTables r test) store terms after (suc i) (firstAt patients s) (bucketFrom test r (suc i) s) (λ q n. w .members .others .higher q (omega arith)) (f .bucket s m)
@@ -212,6 +251,7 @@ module _ (h : Region) (store : List ℕ) (test : Said.Table → Bool) (a : Accep
             bedEnd = λ s m. w .bedEnd s ∙ f .bedEnd s m;
             least = λ s m. least-of s m (ℕ-discrete s (lastOf table));
             bucket = λ s m. bucket-of s m (ℕ-discrete s (lastOf table));
+            term = λ k n m q. term-of k n m q (ℕ-discrete k i);
           }
 
 -- ---- the loop
@@ -223,6 +263,7 @@ pub record Filling (h : Region) (store : List ℕ) (test : Said.Table → Bool) 
   pub left : i ≤ h .t
   pub few : i ≤ 64
   pub blank : (p : ℕ) → p < i * 10 → getD terms p 0 ≡ 0
+  pub bounded : Bounded terms (h .t)
   pub filled : Filled test (said h store) store i start patients terms
 
 module _ (h : Region) (store : List ℕ) (a : Accepted (said h store)) where
@@ -240,13 +281,24 @@ module _ (h : Region) (store : List ℕ) (a : Accepted (said h store)) where
           left = omega arith;
           few = few;
           blank = λ p l. zeros 640 p;
+          bounded = record {
+            few = few;
+            known = λ k j l m. omega (arith, zeros 640 (k * 10 + 2 + j));
+            near = λ k j l m. omega (arith, zeros 640 (k * 10 + 6 + j));
+            blank = λ k j o l m. zeros 640 (k * 10 + 6 + j);
+          };
           filled = filled-none h store test a start words (replicate 640 0) w total;
         }
 
-    pub filling-all : (start i : ℕ) (patients terms : List ℕ) → i ≤ 0 → Filling h store test i start patients terms → Prepared (withTables (said h store) test) store patients terms
+    pub filling-all : (start i : ℕ) (patients terms : List ℕ) → i ≤ 0 → Filling h store test i start patients terms
+        → PreparedFor test (said h store) store patients terms
     filling-all start i patients terms done f =
         let none-left : i ≡ 0 = omega arith in
-        filled-all h store test a start patients terms (rw none-left at (f .filled))
+        let filled = rw none-left at (f .filled) in
+        record {
+          prepared = filled-all h store test a start patients terms filled;
+          numbered = record { bounded = subst⁻¹ (Bounded terms) (held-lines h store a) (f .bounded); term = λ k l own. filled .term k (omega arith) l own };
+        }
 
     module _ (i start : ℕ) (patients terms : List ℕ) (more : 0 < i) (f : Filling h store test i start patients terms) where
       abbrev k : ℕ
@@ -275,6 +327,7 @@ module _ (h : Region) (store : List ℕ) (a : Accepted (said h store)) where
             left = omega (arith, f .left);
             few = omega (arith, f .few);
             blank = λ p l. f .blank p (omega arith);
+            bounded = f .bounded;
             filled = filled-over h store test a k filling-place start patients terms filled-next (sym e ∙ out);
           }
 
@@ -288,5 +341,6 @@ module _ (h : Region) (store : List ℕ) (a : Accepted (said h store)) where
             left = omega (arith, f .left);
             few = omega (arith, f .few);
             blank = λ p l. w .members .others .lower p l ∙ f .blank p (omega arith);
+            bounded = bounded-more h store test a k filling-place start patients terms filled-next (sym e ∙ own) (λ p l. f .blank p (omega arith)) w filling-place (f .bounded);
             filled = filled-more h store test a k filling-place start patients terms filled-next (sym e ∙ own) (λ p l. f .blank p (omega arith)) w;
           }

@@ -2,38 +2,35 @@
 use mathlib.Core.Path.{sym, ap, ap₂, _∙_, subst}
 use Prim.Native.Nat.{_≤_}
 use native.Mathlib.Decide.{decLt}
-use native.Mathlib.Nat.{one-mul, le-trans, mul-le-mul-right}
+use native.Mathlib.Nat.{le-trans}
 use native.Mathlib.Omega.{arith}
 use borrow.Author.Tests.{eqb-true}
 use lib.ListN.{set, List·getD-eq-default}
-use Rattle.definitions.specs.Basics.{ℕ, zero, suc, _+_, _-_, _*_, _<_, _≡_, refl, true, List, [], _∷_, map, length, getD, numbersFrom, sum, product}
+use Rattle.definitions.specs.Basics.{ℕ, zero, suc, _+_, _-_, _*_, _<_, _≡_, refl, true, cond, List, [], _∷_, map, length, getD, eqb, numbersFrom, sum, product}
 use Rattle.definitions.specs.Syntax.{Table, Region, patientAt}
 use Rattle.definitions.specs.Plans.{Plan, bedOf, entryFor}
 use Rattle.lists.specs.Members.{_∈_, getD-in}
 use Rattle.theorems.specs.Accepted.{Accepted, TableRight, member-at, table-right, patients-few, entries-few, beds-some, entry-small}
+use Rattle.theorems.specs.EntryPlaces.{place-moved, stride-highest}
 use Rattle.held_region.specs.Stores.{tableAt, startOf, start-next, start-most, HasEntries}
 use Rattle.bucket_words.specs.Words.{startAt, nextAt, memberAt, strideAt}
+use Rattle.bucket_words.specs.Kept.{keptAt}
 use Rattle.buckets.specs.Terms.{Fitting, highest, placeAt, Term, Chain}
-use Rattle.buckets.specs.Places.{strideOf, stride-past, placeOf, place-strides, place-bound, place-last}
-use Rattle.buckets.specs.Highest.{below-last, in-bucket}
+use Rattle.buckets.specs.Places.{strideOf, lowOf, product-more, placeOf, place-strides, place-bound, place-low}
+use Rattle.buckets.specs.Highest.{in-bucket, highest-in, none-higher}
 
 sum-same : (f g : ℕ → ℕ) (a n : ℕ) → ((j : ℕ) → j < a + n → f j ≡ g j) → sum (map f (numbersFrom a n)) ≡ sum (map g (numbersFrom a n))
 sum-same f g a zero same = refl
 sum-same f g a (suc n) same = ap₂ (λ x y. x + y) (same a (omega arith)) (sum-same f g (suc a) n (λ j h. same j (omega arith)))
 
 -- A stride is at most the product of all counts, where none is 0.
-whole-most : (count : ℕ → ℕ) (s : ℕ) (members : List ℕ) → 1 ≤ count s → product (map count members) ≤ count s * product (map count members)
-whole-most count s members h =
-    let rest : 1 * product (map count members) ≤ count s * product (map count members) = mul-le-mul-right (product (map count members)) h in
-    omega (arith, one-mul (product (map count members)))
-
 stride-most : (count : ℕ → ℕ) (members : List ℕ) → ((j : ℕ) → j < length members → 1 ≤ count (getD members j 0)) → (j : ℕ)
     → strideOf count members j ≤ product (map count members)
 unfolding strideOf
 stride-most count [] each j = omega arith
-stride-most count (s ∷ members) each zero = whole-most count s members (each 0 (omega arith))
+stride-most count (s ∷ members) each zero = product-more count s members (each 0 (omega arith))
 stride-most count (s ∷ members) each (suc j) =
-    le-trans (stride-most count members (λ i l. each (suc i) (omega arith)) j) (whole-most count s members (each 0 (omega arith)))
+    le-trans (stride-most count members (λ i l. each (suc i) (omega arith)) j) (product-more count s members (each 0 (omega arith)))
 
 -- The term of a table, from its words.
 module _ (r : Region) (a : Accepted r) (i : ℕ) (h : i < length (r .tables)) (terms : List ℕ) where
@@ -66,6 +63,15 @@ module _ (r : Region) (a : Accepted r) (i : ℕ) (h : i < length (r .tables)) (t
     bounded : (plan : Plan) → Fitting r plan → placeOf count (bedOf plan) (t .members) < length (t .entries)
     bounded plan fits = omega (arith, right .counted, place-bound count (bedOf plan) (t .members) (λ j l. fits _ (member-at right j l)))
 
+    -- The kept place is what all members but the last make.
+    kept : (plan : Plan) → placeOf count (bedOf plan) (t .members) ≡ keptAt terms i plan + bedOf plan (getD (t .members) (length (t .members) - 1) 0)
+    unfolding keptAt
+    kept plan =
+        place-low count (bedOf plan) (t .members) (right .some) (λ j l. beds-some r a _ (member-at right j l)) 3 (right .few)
+        ∙ ap (λ n. n + bedOf plan (getD (t .members) (length (t .members) - 1) 0))
+        (sym (sum-same _ (λ j. bedOf plan (getD (t .members) j 0) * lowOf count (t .members) j) 0 3
+        (λ j l. ap₂ (λ s n. bedOf plan s * n) (members j (omega arith)) (ap₂ (λ n m. cond (eqb n 0) 0 m) (strides (suc j) (omega arith)) (strides j (omega arith))))))
+
     pub term-right : (store : List ℕ) → HasEntries store (r .tables) → Term r store terms i t
     unfolding entryFor
     term-right store stands =
@@ -76,17 +82,16 @@ module _ (r : Region) (a : Accepted r) (i : ℕ) (h : i < length (r .tables)) (t
           inside = λ plan fits. omega (arith, places plan, bounded plan fits, ends);
           finds = λ plan fits. ap (λ n. getD store n 0) (places plan) ∙ stands i _ h (bounded plan fits);
           small = entry-small r a there;
-          beside = λ s bed plan top inside. omega (arith, places (set plan s bed), places plan, place-last count plan (t .members) bed (right .some) (right .rising) (top-last s top) inside);
-          last = λ s top j q is l m. strides q m ∙ stride-past count (t .members) q (behind s top j q is l m (decLt (suc j) (length (t .members))));
+          place = λ plan. omega (arith, places plan, starts);
+          beside = λ s bed plan top inside.
+              let same = ap (bedOf plan) (top-last s top) in
+              let one = stride-highest r (t .members) s (right .rising) (highest-in s t top) (none-higher s t top) in
+              let moved = rw one at (place-moved r plan t s bed (right .rising) inside) in
+              omega (arith, places (set plan s bed), starts, kept plan, same, moved);
         }
       where
         top-last : (s : ℕ) → highest s t ≡ true → s ≡ getD (t .members) (length (t .members) - 1) 0
         top-last s top = eqb-true _ _ (sym (in-bucket s t (right .some) (right .rising)) ∙ top)
-
-        -- A place behind that of the highest member is past all members.
-        behind : (s : ℕ) → highest s t ≡ true → (j q : ℕ) → memberAt terms i j ≡ s → j < q → q < 4 → Dec (suc j < length (t .members)) → length (t .members) ≤ q
-        behind s top j q is l m (yes lower) = absurd (omega (arith, below-last (t .members) j (right .rising) lower, top-last s top, members j (omega arith), is))
-        behind s top j q is l m (no n) = omega arith
 
         member-small : (j : ℕ) → Dec (j < length (t .members)) → getD (t .members) j 0 < 32
         member-small j (yes l) = omega (arith, member-at right j l, patients-few r a)
@@ -94,8 +99,8 @@ module _ (r : Region) (a : Accepted r) (i : ℕ) (h : i < length (r .tables)) (t
 
 -- Words that are the same from a place on leave the terms there as they are.
 module _ (r : Region) (store before after : List ℕ) where
-  term-kept : (k : ℕ) (t : Table) → ((p : ℕ) → k * 10 ≤ p → getD after p 0 ≡ getD before p 0) → Term r store before k t → Term r store after k t
-  unfolding placeAt
+  pub term-kept : (k : ℕ) (t : Table) → ((p : ℕ) → k * 10 ≤ p → getD after p 0 ≡ getD before p 0) → Term r store before k t → Term r store after k t
+  unfolding placeAt keptAt
   term-kept k t same term =
       record {
         known = λ j l. omega (arith, term .known j l, same (k * 10 + 2 + j) (omega arith));
@@ -104,14 +109,18 @@ module _ (r : Region) (store before after : List ℕ) where
         inside = λ plan fits. omega (arith, term .inside plan fits, places plan);
         finds = λ plan fits. ap (λ n. getD store n 0) (places plan) ∙ term .finds plan fits;
         small = term .small;
-        beside = λ s bed plan top inside. omega (arith, term .beside s bed plan top inside, places (set plan s bed), places plan);
-        last = λ s top j i is l m. same (k * 10 + 6 + i) (omega arith) ∙ term .last s top j i (sym (same (k * 10 + 2 + j) (omega arith)) ∙ is) l m;
+        place = λ plan. omega (arith, term .place plan, places plan, same (k * 10) (omega arith));
+        beside = λ s bed plan top inside. omega (arith, term .beside s bed plan top inside, places (set plan s bed), same (k * 10) (omega arith), kepts plan);
       }
     where
       places : (plan : Plan) → placeAt after k plan ≡ placeAt before k plan
       places plan =
           ap₂ (λ n m. n + m) (same (k * 10) (omega arith))
           (sum-same _ _ 0 4 (λ j l. ap₂ (λ s n. bedOf plan s * n) (same (k * 10 + 2 + j) (omega arith)) (same (k * 10 + 6 + j) (omega arith))))
+
+      kepts : (plan : Plan) → keptAt after k plan ≡ keptAt before k plan
+      kepts plan = sum-same _ _ 0 3 (λ j l.
+          ap₂ (λ s n. bedOf plan s * n) (same (k * 10 + 2 + j) (omega arith)) (ap₂ (λ n m. cond (eqb n 0) 0 m) (same (k * 10 + 6 + suc j) (omega arith)) (same (k * 10 + 6 + j) (omega arith))))
 
   pub chain-kept : (low p : ℕ) (tables : List Table) → ((q : ℕ) → low * 10 ≤ q → getD after q 0 ≡ getD before q 0)
       → Chain r store before low p tables → Chain r store after low p tables

@@ -1,28 +1,18 @@
 -- A table is in the bucket of its last member.
-use mathlib.Core.Path.{sym, ap, _∙_, subst}
-use mathlib.Core.Bool.{and-false}
+use mathlib.Core.Path.{sym, ap, _∙_}
+use mathlib.Core.Bool.{and-false, true≢false}
 use native.Mathlib.Omega.{arith}
-use borrow.Author.Tests.{ltb-true, lt-ltb, le-ltb, eqb-true}
-use Rattle.definitions.specs.Basics.{ℕ, zero, suc, _-_, _<_, _≡_, refl, Bool, true, false, not, _&&_, _||_, List, [], _∷_, length, getD, eqb, ltb, every, everyTwo, any}
+use borrow.Author.Tests.{ltb-true, lt-ltb, le-ltb, eqb-true, not-true}
+use Rattle.definitions.specs.Basics.{ℕ, suc, _-_, _<_, _≡_, refl, Bool, true, false, not, _&&_, _||_, List, [], _∷_, length, getD, eqb, ltb, every, everyTwo, any}
 use Rattle.definitions.specs.Syntax.{Table}
 use Rattle.lists.specs.Tests.{both}
-use Rattle.lists.specs.Every.{every-at}
+use Rattle.lists.specs.Members.{_∈_}
+use Rattle.lists.specs.Every.{any-in, any-out}
 use Rattle.partial_rows.specs.Sets.{only}
+use Rattle.partial_rows.specs.Rows.{holds}
 use Rattle.buckets.specs.Terms.{highest}
 
--- Members rise, so the last is higher than all before it.
-pub below-last : (l : List ℕ) (j : ℕ) → everyTwo ltb l ≡ true → suc j < length l → getD l j 0 < getD l (length l - 1) 0
-below-last [] j up h = absurd (omega arith)
-below-last (x ∷ []) j up h = absurd (omega arith)
-below-last (x ∷ y ∷ l) zero up h =
-    let last : suc (length l) ≡ suc (suc (length l)) - 1 = omega arith in
-    let above = every-at (ltb x) (y ∷ l) (length l) 0 (omega arith) (both (every (ltb x) (y ∷ l)) up .0) in
-    subst (λ n. x < getD (x ∷ y ∷ l) n 0) last (ltb-true x (getD (y ∷ l) (length l) 0) above)
-below-last (x ∷ y ∷ l) (suc j) up h =
-    let last : suc (suc (length l) - 1) ≡ suc (suc (length l)) - 1 = omega arith in
-    subst (λ n. getD (y ∷ l) j 0 < getD (x ∷ y ∷ l) n 0) last (below-last (y ∷ l) j (both (every (ltb x) (y ∷ l)) up .1) (omega arith))
-
--- So it is the highest.
+-- Members rise, so the last is the highest.
 module _ (s : ℕ) where
   last-member : (x : ℕ) (l : List ℕ) → everyTwo ltb (x ∷ l) ≡ true
       → (any (only s) (x ∷ l) && not (any (ltb s) (x ∷ l))) ≡ eqb s (getD (x ∷ l) (length l) 0)
@@ -54,3 +44,13 @@ module _ (s : ℕ) where
       go (x ∷ l) h up =
           let last : length l ≡ suc (length l) - 1 = omega arith in
           last-member x l up ∙ ap (λ n. eqb s (getD (x ∷ l) n 0)) last
+
+-- The highest member is one of the members, and none is higher.
+module _ (s : ℕ) (t : Table) (top : highest s t ≡ true) where
+  pub highest-in : s ∈ t .members
+  highest-in =
+      let (a, among, is) = any-out (only s) (t .members) (both (holds (only s) t) top .0) in
+      rw (eqb-true s a is) among
+
+  pub none-higher : (q : ℕ) → q ∈ t .members → s < q → ⊥
+  none-higher q among h = true≢false (sym (any-in (ltb s) (t .members) among (lt-ltb s q h)) ∙ not-true _ (both (holds (only s) t) top .1))

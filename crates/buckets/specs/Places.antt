@@ -1,22 +1,21 @@
 -- The place of beds among all of their members', as a sum of strides.
 use mathlib.Core.Path.{sym, ap, ap₂, _∙_}
 use Prim.Native.Nat.{_≤_}
-use native.Mathlib.Decide.{decLt}
-use native.Mathlib.Nat.{mul-le-mul-right}
+use native.Mathlib.Nat.{one-mul, mul-zero, mul-le-mul-right}
 use native.Mathlib.Omega.{arith}
-use borrow.Author.Tests.{ltb-true}
-use lib.ListN.{set}
-use lib.Seq.{getD-set-same, getD-set-other}
-use Rattle.definitions.specs.Basics.{ℕ, zero, suc, _+_, _-_, _*_, _<_, _≡_, refl, true, List, [], _∷_, map, length, getD, ltb, numbersFrom, below, sum, product, every, everyTwo}
-use Rattle.definitions.specs.Plans.{Plan, bedOf, place}
-use Rattle.lists.specs.Tests.{both}
-use Rattle.lists.specs.Every.{every-at}
+use borrow.Author.Tests.{ne-eqb}
+use Rattle.definitions.specs.Basics.{ℕ, zero, suc, _+_, _-_, _*_, _<_, _≡_, refl, cond, List, [], _∷_, map, length, getD, eqb, numbersFrom, below, sum, product}
+use Rattle.definitions.specs.Plans.{place}
 
 -- The stride of the member at a place: how far the table's place moves with its bed. Past the last member it is 0.
 unfoldable pub strideOf : (ℕ → ℕ) → List ℕ → ℕ → ℕ
 strideOf count [] j = 0
 strideOf count (s ∷ members) zero = product (map count members)
 strideOf count (s ∷ members) (suc j) = strideOf count members j
+
+-- The stride of a member behind which another one comes, else 0.
+abbrev pub lowOf : (ℕ → ℕ) → List ℕ → ℕ → ℕ
+lowOf count members j = cond (eqb (strideOf count members (suc j)) 0) 0 (strideOf count members j)
 
 -- The place of some members' beds.
 abbrev pub placeOf : (ℕ → ℕ) → (ℕ → ℕ) → List ℕ → ℕ
@@ -51,15 +50,15 @@ stride-past count [] j h = refl
 stride-past count (s ∷ members) zero h = absurd (omega arith)
 stride-past count (s ∷ members) (suc j) h = stride-past count members j (omega arith)
 
--- The last member moves fastest.
-stride-last : (count : ℕ → ℕ) (members : List ℕ) → 0 < length members → strideOf count members (length members - 1) ≡ 1
-unfolding strideOf
-stride-last count [] h = absurd (omega arith)
-stride-last count (s ∷ []) h = refl
-stride-last count (s ∷ q ∷ members) h =
-    let last : suc (suc (length members)) - 1 ≡ suc (length members) = omega arith in
-    let next : suc (length members) - 1 ≡ length members = omega arith in
-    ap (strideOf count (s ∷ q ∷ members)) last ∙ ap (strideOf count (q ∷ members)) (sym next) ∙ stride-last count (q ∷ members) (omega arith)
+-- Where no count is 0, a product of counts is at most that with one more, and not 0.
+pub product-more : (count : ℕ → ℕ) (s : ℕ) (members : List ℕ) → 1 ≤ count s → product (map count members) ≤ count s * product (map count members)
+product-more count s members h =
+    let rest : 1 * product (map count members) ≤ count s * product (map count members) = mul-le-mul-right (product (map count members)) h in
+    omega (arith, one-mul (product (map count members)))
+
+product-some : (count : ℕ → ℕ) (members : List ℕ) → ((j : ℕ) → j < length members → 1 ≤ count (getD members j 0)) → 1 ≤ product (map count members)
+product-some count [] each = omega arith
+product-some count (s ∷ members) each = omega (arith, product-more count s members (each 0 (omega arith)), product-some count members (λ j h. each (suc j) (omega arith)))
 
 -- A sum over places, the first apart.
 sum-shift : (f : ℕ → ℕ) (a n : ℕ) → sum (map f (numbersFrom (suc a) n)) ≡ sum (map (λ j. f (suc j)) (numbersFrom a n))
@@ -81,6 +80,23 @@ place-strides count bed (s ∷ members) (suc n) h =
     ∙ ap (λ m. bed s * product (map count members) + m)
     (place-strides count bed members n (omega arith) ∙ sym (sum-shift (λ j. bed (getD (s ∷ members) j 0) * strideOf count (s ∷ members) j) 0 n))
 
+-- It is what all members but the last make, and the last one's bed.
+pub place-low : (count bed : ℕ → ℕ) (members : List ℕ) → 0 < length members → ((j : ℕ) → j < length members → 1 ≤ count (getD members j 0)) → (n : ℕ) → length members ≤ suc n
+    → placeOf count bed members ≡ sum (map (λ j. bed (getD members j 0) * lowOf count members j) (below n)) + bed (getD members (length members - 1) 0)
+unfolding place strideOf
+place-low count bed [] some each n h = absurd (omega arith)
+place-low count bed (s ∷ []) some each n h =
+    let nothing = sum-zeros (λ j. bed (getD (s ∷ []) j 0) * 0) (λ j. mul-zero (bed (getD (s ∷ []) j 0))) 0 n in
+    omega (arith, place-cons count bed s [], nothing)
+place-low count bed (s ∷ q ∷ members) some each zero h = absurd (omega arith)
+place-low count bed (s ∷ q ∷ members) some each (suc n) h =
+    let behind = ne-eqb (product (map count members)) 0 (λ e. omega (arith, product-some count members (λ j l. each (suc (suc j)) (omega arith)))) in
+    let first = ap (λ b. bed s * cond b 0 (product (map count (q ∷ members)))) behind in
+    let shift = sum-shift (λ j. bed (getD (s ∷ q ∷ members) j 0) * lowOf count (s ∷ q ∷ members) j) 0 n in
+    let last : suc (suc (length members)) - 1 ≡ suc (suc (length members) - 1) = omega arith in
+    let end = ap (λ j. bed (getD (s ∷ q ∷ members) j 0)) last in
+    omega (arith, place-cons count bed s (q ∷ members), place-low count bed (q ∷ members) (omega arith) (λ j l. each (suc j) (omega arith)) n (omega arith), first, shift, end)
+
 -- Where each bed is below its count, the place is below the product of the counts.
 pub place-bound : (count bed : ℕ → ℕ) (members : List ℕ) → ((j : ℕ) → j < length members → bed (getD members j 0) < count (getD members j 0))
     → placeOf count bed members < product (map count members)
@@ -90,63 +106,3 @@ place-bound count bed (s ∷ members) fits =
     let rest : placeOf count bed members < product (map count members) = place-bound count bed members (λ j h. fits (suc j) (omega arith)) in
     let more : suc (bed s) * product (map count members) ≤ count s * product (map count members) = mul-le-mul-right (product (map count members)) (fits 0 (omega arith)) in
     rw (place-cons count bed s members) (omega arith)
-
--- The place depends only on the members' beds.
-pub place-same : (count bed other : ℕ → ℕ) (members : List ℕ) → ((j : ℕ) → j < length members → bed (getD members j 0) ≡ other (getD members j 0))
-    → placeOf count bed members ≡ placeOf count other members
-place-same count bed other [] same = refl
-place-same count bed other (s ∷ members) same =
-    place-cons count bed s members
-    ∙ ap₂ (λ b m. b * product (map count members) + m) (same 0 (omega arith)) (place-same count bed other members (λ j h. same (suc j) (omega arith)))
-    ∙ sym (place-cons count other s members)
-
--- Another bed for one member: the place moves by that member's stride for each bed.
-pub place-changed : (count bed other : ℕ → ℕ) (members : List ℕ) (j : ℕ) → j < length members
-    → ((i : ℕ) → i < length members → (i ≡ j → ⊥) → bed (getD members i 0) ≡ other (getD members i 0))
-    → placeOf count other members + bed (getD members j 0) * strideOf count members j ≡ placeOf count bed members + other (getD members j 0) * strideOf count members j
-unfolding strideOf
-place-changed count bed other [] j h same = absurd (omega arith)
-place-changed count bed other (s ∷ members) zero h same =
-    rw (place-cons count bed s members, place-cons count other s members) (omega (arith, rest))
-  where
-    rest : placeOf count bed members ≡ placeOf count other members
-    rest = place-same count bed other members (λ i l. same (suc i) (omega arith) (λ e. omega arith))
-place-changed count bed other (s ∷ members) (suc j) h same =
-    rw (place-cons count bed s members, place-cons count other s members, same 0 (omega arith) (λ e. omega arith))
-    (omega (arith, place-changed count bed other members j (omega arith) (λ i l n. same (suc i) (omega arith) (λ e. n (omega arith)))))
-
--- So where one patient's bed in a plan is set: a rising list has the patient once.
-rising-at : (l : List ℕ) → everyTwo ltb l ≡ true → (i j : ℕ) → i < j → j < length l → getD l i 0 < getD l j 0
-rising-at [] up i j below h = absurd (omega arith)
-rising-at (x ∷ l) up i zero below h = absurd (omega arith)
-rising-at (x ∷ l) up zero (suc j) below h = ltb-true x _ (every-at (ltb x) l j 0 (omega arith) (both (every (ltb x) l) up .0))
-rising-at (x ∷ l) up (suc i) (suc j) below h = rising-at l (both (every (ltb x) l) up .1) i j (omega arith) (omega arith)
-
-rising-once : (l : List ℕ) → everyTwo ltb l ≡ true → (i j : ℕ) → i < length l → j < length l → (i ≡ j → ⊥) → getD l i 0 ≡ getD l j 0 → ⊥
-rising-once l up i j h k apart same = go (decLt i j)
-  where
-    go : Dec (i < j) → ⊥
-    go (yes b) = omega (arith, rising-at l up i j b k)
-    go (no b) = apart-other (decLt j i)
-      where
-        apart-other : Dec (j < i) → ⊥
-        apart-other (yes c) = omega (arith, rising-at l up j i c h)
-        apart-other (no c) = apart (omega arith)
-
-pub place-set : (count : ℕ → ℕ) (plan : Plan) (members : List ℕ) (j bed : ℕ) → j < length members → everyTwo ltb members ≡ true → getD members j 0 < length plan
-    → placeOf count (bedOf (set plan (getD members j 0) bed)) members + bedOf plan (getD members j 0) * strideOf count members j
-    ≡ placeOf count (bedOf plan) members + bed * strideOf count members j
-place-set count plan members j bed h up known =
-    place-changed count (bedOf plan) (bedOf (set plan (getD members j 0) bed)) members j h
-    (λ i l apart. sym (getD-set-other plan (getD members j 0) (getD members i 0) bed 0 (rising-once members up i j l h apart)))
-    ∙ ap (λ b. placeOf count (bedOf plan) members + b * strideOf count members j) (getD-set-same plan (getD members j 0) bed 0 known)
-
--- With the last member's bed it moves by one.
-pub place-last : (count : ℕ → ℕ) (plan : Plan) (members : List ℕ) (bed : ℕ) {s : ℕ} → 0 < length members → everyTwo ltb members ≡ true
-    → s ≡ getD members (length members - 1) 0 → s < length plan
-    → placeOf count (bedOf (set plan s bed)) members + bedOf plan s ≡ placeOf count (bedOf plan) members + bed
-place-last count plan members bed {s} some up last known =
-    let one = stride-last count members some in
-    let known : getD members (length members - 1) 0 < length plan = omega (arith, known, last) in
-    let moved = rw (one, ← last) at (place-set count plan members (length members - 1) bed (omega arith) up known) in
-    omega (arith, moved)

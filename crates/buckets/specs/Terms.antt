@@ -4,14 +4,16 @@ use native.Mathlib.Omega.{arith}
 use lib.ListN.{set}
 use Rattle.definitions.specs.Basics.{ℕ, suc, _+_, _*_, _<_, _≡_, Bool, true, not, _&&_, some, List, [], _∷_, map, length, getD, ltb, sum, keep, below}
 use Rattle.definitions.specs.Syntax.{Table, Region, patientAt}
-use Rattle.definitions.specs.Plans.{Plan, bedOf, entryFor}
+use Rattle.definitions.specs.Plans.{Plan, bedOf, placeIn, entryFor}
 use Rattle.theorems.specs.Accepted.{Accepted, beds-few}
 use Rattle.partial_rows.specs.Sets.{only}
 use Rattle.partial_rows.specs.Rows.{holds}
 use Rattle.partial_rows.specs.Bounds.{leastEntry}
 use Rattle.held_region.specs.Meaning.{codeOf}
+use Rattle.held_region.specs.Stores.{tableAt}
 use Rattle.buckets.specs.Permitted.{firstPermitted, permittedEnd}
 use Rattle.bucket_words.specs.Words.{bedsAt, firstBedAt, bedEndAt, leastAt, firstAt, startAt, nextAt, memberAt, strideAt}
+use Rattle.bucket_words.specs.Kept.{keptAt, Bounded}
 
 -- A plan with each bed below its patient's count.
 abbrev pub Fitting : Region → Plan → Type 0
@@ -37,7 +39,7 @@ unfoldable pub placeAt : List ℕ → ℕ → Plan → ℕ
 placeAt terms k plan = startAt terms k + sum (map (λ j. bedOf plan (memberAt terms k j) * strideAt terms k j) (below 4))
 
 -- A term finds a table's entries: for every plan, what the store has at its place is the table's entry for the plan.
--- The entries for the beds of the highest member lie side by side, and behind it there is no member.
+-- The entries for the beds of the highest member lie side by side, from the kept place on.
 pub record Term (r : Region) (store terms : List ℕ) (k : ℕ) (t : Table) : Type 0 where
   pub known : (j : ℕ) → j < 4 → memberAt terms k j < 32
   pub near : (j : ℕ) → j < 4 → strideAt terms k j ≤ 4096
@@ -45,8 +47,8 @@ pub record Term (r : Region) (store terms : List ℕ) (k : ℕ) (t : Table) : Ty
   pub inside : (plan : Plan) → Fitting r plan → placeAt terms k plan < 4096
   pub finds : (plan : Plan) → Fitting r plan → getD store (placeAt terms k plan) 0 ≡ codeOf (entryFor r plan t)
   pub small : (plan : Plan) (e : ℕ) → entryFor r plan t ≡ some e → e ≤ 1_000_000
-  pub beside : (s bed : ℕ) (plan : Plan) → highest s t ≡ true → s < length plan → placeAt terms k (set plan s bed) + bedOf plan s ≡ placeAt terms k plan + bed
-  pub last : (s : ℕ) → highest s t ≡ true → (j i : ℕ) → memberAt terms k j ≡ s → j < i → i < 4 → strideAt terms k i ≡ 0
+  pub place : (plan : Plan) → placeAt terms k plan ≡ startAt terms k + placeIn r plan t
+  pub beside : (s bed : ℕ) (plan : Plan) → highest s t ≡ true → s < length plan → placeAt terms k (set plan s bed) ≡ startAt terms k + keptAt terms k plan + bed
 
 -- The terms of some tables in their order: a chain that begins at p, each further on than the one before, with 64 at its end.
 unfoldable pub Chain : Region → List ℕ → List ℕ → ℕ → ℕ → List Table → Type 0
@@ -61,3 +63,8 @@ pub record Prepared (r : Region) (store patients terms : List ℕ) : Type 0 wher
   pub bedEnd : (s : ℕ) → s < length (r .patients) → bedEndAt patients s ≡ permittedEnd (patientAt r s)
   pub least : (s : ℕ) → s < length (r .patients) → leastAt patients s ≡ leastIn r s
   pub bucket : (s : ℕ) → s < length (r .patients) → Chain r store terms 0 (firstAt patients s) (bucketOf r s)
+
+-- The tables that count have the terms of their numbers, and behind the last table's no term says anything.
+pub record Numbered (r : Region) (counts : Table → Bool) (store terms : List ℕ) : Type 0 where
+  pub bounded : Bounded terms (length (r .tables))
+  pub term : (k : ℕ) → k < length (r .tables) → counts (tableAt r k) ≡ true → Term r store terms k (tableAt r k)

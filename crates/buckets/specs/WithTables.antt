@@ -88,7 +88,7 @@ module _ (r : Region) (test : Table → Bool) where
 pub term-with : (r : Region) (test : Table → Bool) (store terms : List ℕ) (k : ℕ) (t : Table) → Term r store terms k t → Term (withTables r test) store terms k t
 unfolding entryFor patientAt
 term-with r test store terms k t term =
-    record { known = term .known; near = term .near; starts = term .starts; inside = term .inside; finds = term .finds; small = term .small; beside = term .beside; last = term .last }
+    record { known = term .known; near = term .near; starts = term .starts; inside = term .inside; finds = term .finds; small = term .small; place = term .place; beside = term .beside }
 
 -- Where all tables pass, it is the region itself.
 pub with-all : (r : Region) (test : Table → Bool) → Accepted r → every test (r .tables) ≡ true → withTables r test ≡ r

@@ -14,9 +14,7 @@ ghost use Rattle.held_region.specs.Meaning.{optional, membersOf, said};
 ghost use Rattle.held_region.specs.Asked.{noneOrBelow};
 ghost use Rattle.held_region.specs.Related.{MembersKnown};
 ghost use Rattle.buckets.specs.Permitted.{firstOf, endOf};
-ghost use Rattle.buckets.specs.WithTables.{withTables};
-ghost use Rattle.buckets.specs.Counting.{lowestIn, countsFor};
-ghost use Rattle.buckets.specs.Terms.{Prepared};
+ghost use Rattle.buckets.specs.Counting.{lowestIn, countsFor, PreparedFor, PreparedAll};
 ghost use Rattle.buckets.specs.Least.{leastNumber};
 ghost use Rattle.buckets.specs.Written.{FixedFit, PatientsWritten, MembersWritable, MembersWritten, LastKnown, lastOf, TermKnown, TermAdded};
 
@@ -146,7 +144,7 @@ fn counts_for(table: Table, of: PatientSet) -> bool
 // From the last table on, so that each bucket has the order of the file.
 pub fn prepare_for(region: Region, store: &[u32; 4096], of: PatientSet) -> Buckets
     requires { ⌜ Accepted (said region (now store)) ⌝ }
-    ensures { λ b. ⌜ Prepared (withTables (said region (now (store .entry))) (countsFor (of .0))) (now (store .entry)) (b .patients) (b .terms) ⌝ }
+    ensures { λ b. ⌜ PreparedFor (countsFor (of .0)) (said region (now (store .entry))) (now (store .entry)) (b .patients) (b .terms) ⌝ }
 {
     let held = region.patients;
     let mut patients = patient_words(held, region.v);
@@ -170,7 +168,7 @@ pub fn prepare_for(region: Region, store: &[u32; 4096], of: PatientSet) -> Bucke
 // Every table as a term.
 pub fn prepare(region: Region, store: &[u32; 4096]) -> Buckets
     requires { ⌜ Accepted (said region (now store)) ⌝ }
-    ensures { λ b. ⌜ Prepared (said region (now (store .entry))) (now (store .entry)) (b .patients) (b .terms) ⌝ }
+    ensures { λ b. ⌜ PreparedAll (said region (now (store .entry))) (now (store .entry)) (b .patients) (b .terms) ⌝ }
 {
     prepare_for(region, store, PatientSet::FULL)
 }

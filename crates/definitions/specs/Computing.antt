@@ -4,7 +4,7 @@ use Rattle.definitions.specs.Limits.{limits, within}
 use Rattle.definitions.specs.Syntax.{patientAt, patientsOf}
 use Rattle.definitions.specs.Layout.{number, hyphenOrNumber, items, regionLine, patientLine, tableLine, endLine, regionLines, layout}
 use Rattle.definitions.specs.Spelling.{digitsWithin, spellPatient, spellTable, spellBody, spell, wellFormed}
-use Rattle.definitions.specs.Plans.{plansFor, place, entryFor, costOver, fixing, constraints, total, listOf}
+use Rattle.definitions.specs.Plans.{plansFor, place, stride, entryFor, costOver, fixing, constraints, total, listOf}
 use Rattle.definitions.specs.Questions.{shortEnough, laidOut, countsTrue, sumTrue, countsWithin, patientsWithin, parentsSmaller, membersRight}
 use Rattle.definitions.specs.Questions.{entryCountsRight, entriesWithin, following, ancestors, membersRelated, clinicPresent, roomForRows}
 use Rattle.definitions.specs.Questions.{areasLongEnough, planAllowed, planFits, regionOf, askedByCheck, checkOf, askedByList, askedBySheet, askedByPrice}
@@ -23,7 +23,7 @@ unfolding bind orElse flatten flatMap filterMap limits within patientAt patients
 readers = tt
 
 unfoldable pub questions : Unit {0}
-unfolding plansFor place entryFor costOver fixing constraints total listOf shortEnough laidOut countsTrue sumTrue countsWithin patientsWithin parentsSmaller membersRight entryCountsRight entriesWithin following ancestors membersRelated clinicPresent roomForRows areasLongEnough planAllowed planFits regionOf askedByCheck checkOf askedByList askedBySheet askedByPrice
+unfolding plansFor place stride entryFor costOver fixing constraints total listOf shortEnough laidOut countsTrue sumTrue countsWithin patientsWithin parentsSmaller membersRight entryCountsRight entriesWithin following ancestors membersRelated clinicPresent roomForRows areasLongEnough planAllowed planFits regionOf askedByCheck checkOf askedByList askedBySheet askedByPrice
 questions = tt
 
 unfoldable pub answers : Unit {0}

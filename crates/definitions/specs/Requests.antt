@@ -1,9 +1,9 @@
 -- For each landed request of document 02, in one statement: each of its numbers, each bound, and what a builder gets wrong.
 use Prim.Native.String.{String}
-use Rattle.definitions.specs.Basics.{ℕ, _+_, _-_, _^_, _≡_, refl, true, false, Option, none, some, List, [], _∷_, _++_, map, flatten, flatMap, length, replicate, text, below, sum}
+use Rattle.definitions.specs.Basics.{ℕ, _+_, _-_, _^_, _≡_, refl, true, false, Option, none, some, List, [], _∷_, _++_, map, flatten, flatMap, length, replicate, text, below, numbersFrom, sum}
 use Rattle.definitions.specs.Syntax.{Patient, Table, Region, fixedBeds, patientsOf}
 use Rattle.definitions.specs.Layout.{layout}
-use Rattle.definitions.specs.Plans.{constraints, listOf}
+use Rattle.definitions.specs.Plans.{placeIn, stride, entryFor, constraints, listOf}
 use Rattle.definitions.specs.Questions.{regionOf, checkOf}
 use Rattle.definitions.specs.Sheets.{lowest, ownTables, ownCost, sheetOf}
 use Rattle.definitions.specs.Outcomes.{priceOutcome}
@@ -313,4 +313,35 @@ sharesAddUp = record {
   withFixed = refl;
   fixedBedsForNobody = refl;
   noTables = refl;
+}
+
+-- ---- #105: the place of an entry
+
+-- Patients with 2, 3, 4 and 2 beds, and a table over (0 1 3) whose entries are 20, 21 and so on.
+abbrev overThree : Table
+overThree = table (0 ∷ 1 ∷ 3 ∷ []) (map some (numbersFrom 20 12))
+
+abbrev fourPatients : Region
+fourPatients = region 1 (patient 0 2 none ∷ patient 0 3 (some 0) ∷ patient 0 4 (some 1) ∷ patient 0 2 (some 1) ∷ []) (overThree ∷ []) 0
+
+pub record KeptPlaces : Type 0 where
+  pub strides : map (stride fourPatients (overThree .members)) (below 5) ≡ 6 ∷ 2 ∷ 0 ∷ 1 ∷ 0 ∷ []
+  pub strideOfAll : map (stride fourPatients (below 4)) (below 5) ≡ 24 ∷ 8 ∷ 2 ∷ 1 ∷ 0 ∷ []
+  pub strideOfOne : map (stride fourPatients (2 ∷ [])) (below 4) ≡ 0 ∷ 0 ∷ 1 ∷ 0 ∷ []
+  pub noBedsYet : placeIn fourPatients [] overThree ≡ 0
+  pub walked :
+      map (λ plan. placeIn fourPatients plan overThree) (
+      (1 ∷ []) ∷ (1 ∷ 1 ∷ []) ∷ (1 ∷ 2 ∷ []) ∷ (1 ∷ 2 ∷ 3 ∷ []) ∷ (1 ∷ 2 ∷ 3 ∷ 1 ∷ []) ∷ (1 ∷ 0 ∷ 3 ∷ 1 ∷ []) ∷ (0 ∷ 0 ∷ 3 ∷ 1 ∷ []) ∷ [])
+      ≡ 6 ∷ 8 ∷ 10 ∷ 10 ∷ 11 ∷ 7 ∷ 1 ∷ []
+  pub entries : map (λ plan. entryFor fourPatients plan overThree) ([] ∷ (1 ∷ 2 ∷ 3 ∷ 1 ∷ []) ∷ (2 ∷ []) ∷ []) ≡ some 20 ∷ some 31 ∷ none ∷ []
+
+pub keptPlaces : KeptPlaces
+unfolding everything
+keptPlaces = record {
+  strides = refl;
+  strideOfAll = refl;
+  strideOfOne = refl;
+  noBedsYet = refl;
+  walked = refl;
+  entries = refl;
 }

@@ -1,21 +1,20 @@
 -- A loop that follows the terms of a bucket and adds up their entries for a plan.
 use mathlib.Core.Path.{_≡_, refl, sym, ap, _∙_, subst}
-use mathlib.Core.Logic.{_⊎_, inl, inr}
 use mathlib.Core.Option.{Option·none-ne-some}
 use Prim.Native.Nat.{_≤_}
 use lib.ListN.{set}
-use native.Mathlib.Nat.{eq-or-lt-of-le, zero-mul, mul-zero}
 use native.Mathlib.Omega.{arith}
 use Rattle.definitions.specs.Basics.{ℕ, suc, _+_, _*_, _<_, true, Option, some, List, [], _∷_, length, getD}
 use Rattle.definitions.specs.Syntax.{Table, Region}
-use Rattle.definitions.specs.Plans.{Plan, bedOf, entryFor, costOver}
+use Rattle.definitions.specs.Plans.{Plan, entryFor, costOver}
 use Rattle.theorems.specs.Accepted.{mostTotal}
 use Rattle.lists.specs.Members.{_∈_, here, there}
 use Rattle.lists.specs.Keep.{keep-out}
 use Rattle.theorems.specs.Sums.{plus, plus-assoc, zero-plus, plus-zero}
 use Rattle.partial_rows.specs.Costs.{cost-cons}
 use Rattle.held_region.specs.Meaning.{mark, saidBy}
-use Rattle.bucket_words.specs.Words.{firstAt, nextAt, memberAt, strideAt}
+use Rattle.bucket_words.specs.Words.{firstAt, startAt, nextAt}
+use Rattle.bucket_words.specs.Kept.{keptAt}
 use Rattle.buckets.specs.Terms.{Fitting, highest, bucketOf, placeAt, Term, Chain, Prepared}
 use Rattle.pricing.specs.Pricing.{Reads, Asks, Gives}
 use Rattle.pricing.specs.Costs.{entry-number, entry-known}
@@ -91,37 +90,8 @@ module _ {r : Region} {store terms : List ℕ} {s : ℕ} {beds : Plan} {sum : Op
       }
 
   module _ (h : Left r store terms s beds sum k) (more : k < 64) where
-    -- Its place is found with every member, and where the patient has no bed yet, without it.
-    pub left-reads : (plan : Plan) → Reads terms k 32 plan
-    left-reads plan =
-        let t = term-here h more .term in
-        record {
-          few = more;
-          known = t .known;
-          near = t .near;
-          starts = t .starts;
-          ended = λ j is i l m. absurd (omega (arith, t .known j (omega arith), is));
-        }
-
-    pub left-reads-unplaced : (plan : Plan) → bedOf plan s ≡ 0 → Reads terms k s plan
-    left-reads-unplaced plan unplaced =
-        let g = term-here h more in
-        let t = g .term in
-        record {
-          few = more;
-          known = t .known;
-          near = t .near;
-          starts = t .starts;
-          ended = λ j is i l m. go j i is m (eq-or-lt-of-le l);
-        }
-      where
-        go : (j i : ℕ) → memberAt terms k j ≡ s → i < 4 → (j ≡ i) ⊎ (j < i) → bedOf plan (memberAt terms k i) * strideAt terms k i ≡ 0
-        go j i is m (inl e) =
-            let here : memberAt terms k i ≡ s = ap (memberAt terms k) (sym e) ∙ is in
-            ap (λ b. b * strideAt terms k i) (ap (bedOf plan) here ∙ unplaced) ∙ zero-mul (strideAt terms k i)
-        go j i is m (inr l) =
-            let g = term-here h more in
-            ap (λ n. bedOf plan (memberAt terms k i) * n) (g .term .last s (g .own) j i is l m) ∙ mul-zero (bedOf plan (memberAt terms k i))
+    pub left-reads : Reads terms k
+    left-reads = let t = term-here h more .term in record { few = more; known = t .known; near = t .near; starts = t .starts }
 
     -- The next term is further on.
     pub left-later : k < nextAt terms k
@@ -130,8 +100,8 @@ module _ {r : Region} {store terms : List ℕ} {s : ℕ} {beds : Plan} {sum : Op
     pub left-next-most : nextAt terms k ≤ 64
     left-next-most = let g = term-here h more in chain-most r store terms (suc k) (nextAt terms k) (g .others) (g .rest)
 
-    -- The places for the patient's beds lie side by side.
-    pub left-beside : (plan : Plan) (bed : ℕ) → s < length plan → placeAt terms k (set plan s bed) + bedOf plan s ≡ placeAt terms k plan + bed
+    -- The entries for the patient's beds lie side by side, from the kept place on.
+    pub left-beside : (plan : Plan) (bed : ℕ) → s < length plan → placeAt terms k (set plan s bed) ≡ startAt terms k + keptAt terms k plan + bed
     left-beside plan bed inside = let g = term-here h more in g .term .beside s bed plan (g .own) inside
 
     module _ (fits : Fitting r beds) where
@@ -175,8 +145,8 @@ module _ {store patients terms : List ℕ} {s : ℕ} {beds : Plan} (asks : Asks 
         record { most = λ n e. let same : n ≡ sum = cc in omega arith; cost = λ r prepared fits known. left-done (goes .left r prepared fits known) end }
 
     module _ (more : k < 64) where
-      pub goes-reads : Reads terms k 32 beds
-      goes-reads = left-reads own more beds
+      pub goes-reads : Reads terms k
+      goes-reads = left-reads own more
 
       pub goes-inside : placeAt terms k beds < 4096
       goes-inside = left-inside own more (asks .fits)

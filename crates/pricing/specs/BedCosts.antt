@@ -3,10 +3,11 @@ use Prim.Native.Nat.{_≤_}
 use lib.ListN.{set}
 use Rattle.definitions.specs.Basics.{ℕ, _+_, _<_, _≡_, some, List, length, getD, replicate}
 use Rattle.definitions.specs.Syntax.{Region}
-use Rattle.definitions.specs.Plans.{bedOf, costOver}
+use Rattle.definitions.specs.Plans.{Plan, costOver}
 use Rattle.theorems.specs.Accepted.{mostTotal}
 use Rattle.theorems.specs.Sums.{plus}
 use Rattle.bucket_words.specs.Words.{firstBedAt, bedEndAt}
+use Rattle.bucket_words.specs.Kept.{Kept}
 use Rattle.buckets.specs.Terms.{Fitting, bucketOf, Prepared}
 use Rattle.held_region.specs.Meaning.{saidBy}
 use Rattle.pricing.specs.Pricing.{sumIn}
@@ -27,20 +28,21 @@ pub record GivesEntries (store : List ℕ) (from first end : ℕ) (sums after : 
   pub long : length after ≡ 16
   pub each : (bed : ℕ) → first ≤ bed → bed < end → sumIn (getD after bed 0) ≡ plus (sumIn (getD sums bed 0)) (saidBy (getD store (from + bed) 0))
 
--- The costs of all permitted beds of a patient that has none yet.
-pub record Asks (store patients terms : List ℕ) (s first end : ℕ) (beds sums : List ℕ) : Type 0 where
+-- The costs of all permitted beds of a patient, with the places that are kept for a plan.
+pub record Asks (store patients terms places : List ℕ) (s first end : ℕ) (sums : List ℕ) : Type 0 where
   pub region : Region
+  pub beds : Plan
   pub prepared : Prepared region store patients terms
   pub fits : Fitting region beds
+  pub kept : Kept terms beds places
   pub known : s < length (region .patients)
   pub few : s < 32
   pub firsts : first ≡ firstBedAt patients s
   pub ends : end ≡ bedEndAt patients s
-  pub long : length beds ≡ 32
-  pub unplaced : bedOf beds s ≡ 0
+  pub long : s < length beds
   pub zeros : sums ≡ replicate 16 0
 
-pub record Gives (store patients terms : List ℕ) (s first end : ℕ) (beds sums : List ℕ) : Type 0 where
+pub record Gives (store patients terms places : List ℕ) (s first end : ℕ) (sums : List ℕ) : Type 0 where
   pub small : (bed : ℕ) → first ≤ bed → bed < end → Small (getD sums bed 0)
-  pub cost : (r : Region) → Prepared r store patients terms → Fitting r beds → s < length (r .patients)
+  pub cost : (r : Region) (beds : Plan) → Prepared r store patients terms → Fitting r beds → Kept terms beds places → s < length (r .patients) → s < length beds
       → (bed : ℕ) → first ≤ bed → bed < end → sumIn (getD sums bed 0) ≡ costOver (bucketOf r s) r (set beds s bed)

@@ -1,6 +1,6 @@
 -- What pricing asks for and gives.
 use Prim.Native.Nat.{_≤_}
-use Rattle.definitions.specs.Basics.{ℕ, _*_, _<_, _≡_, Bool, _&&_, cond, Option, none, some, List, length, take, eqb, leb, ltb}
+use Rattle.definitions.specs.Basics.{ℕ, _<_, _≡_, Bool, _&&_, cond, Option, none, some, List, length, take, eqb, leb, ltb}
 use Rattle.definitions.specs.Syntax.{Region, patientAt}
 use Rattle.definitions.specs.Questions.{planFits}
 use Rattle.definitions.specs.Plans.{bedOf, costOver, total}
@@ -21,13 +21,12 @@ noSum = 18_446_744_073_709_551_615
 abbrev pub sumIn : ℕ → Option ℕ
 sumIn word = cond (eqb word noSum) none (some word)
 
--- The words of a term can be used to find a place for a plan: from the member who is unplaced on, if there is one, nothing is added.
-pub record Reads (terms : List ℕ) (k unplaced : ℕ) (beds : List ℕ) : Type 0 where
+-- The words of a term can be used to find a place for a plan.
+pub record Reads (terms : List ℕ) (k : ℕ) : Type 0 where
   pub few : k < 64
   pub known : (j : ℕ) → j < 4 → memberAt terms k j < 32
   pub near : (j : ℕ) → j < 4 → strideAt terms k j ≤ 4096
   pub starts : startAt terms k ≤ 4096
-  pub ended : (j : ℕ) → memberAt terms k j ≡ unplaced → (i : ℕ) → j ≤ i → i < 4 → bedOf beds (memberAt terms k i) * strideAt terms k i ≡ 0
 
 -- The cost of one bucket.
 pub record Asks (store patients terms : List ℕ) (s : ℕ) (beds : List ℕ) : Type 0 where

@@ -7,7 +7,7 @@ ghost use Rattle.held_region.specs.Meaning.{saidBy};
 ghost use Rattle.pricing.specs.Pricing.{costIn, sumIn};
 ghost use Rattle.pricing.specs.BedCosts.{Small, AsksEntries, GivesEntries, Asks, Gives};
 use crate::Cost;
-use crate::entry_place;
+use bucket_words::entry_start;
 use bucket_words::first_term;
 use bucket_words::next_term;
 use held_region::FORBIDDEN;
@@ -42,23 +42,23 @@ fn add_entries(sums: &mut [u64; 16], entries: &[u32; 4096], from: usize, first: 
 }
 
 // What the tables of a patient's bucket cost together, for each of its permitted beds, in sums that were zero.
-// The patient has no bed yet, which is bed 0, so the plan's place is that of its bed 0.
+// The entries for its beds lie side by side, from each table's kept place on.
 pub fn bed_costs(
     sums: &mut [u64; 16],
     patients: &[u32; 160],
     terms: &[u32; 640],
     entries: &[u32; 4096],
+    places: &[u32; 64],
     s: usize,
     first: usize,
     end: usize,
-    beds: &[u8; 32],
 )
-    requires { ⌜ Asks (now entries) (now patients) (now terms) s first end (now beds) (now sums) ⌝ }
-    ensures { λ _. ⌜ Gives (now (entries .entry)) (now (patients .entry)) (now (terms .entry)) s first end (now (beds .entry)) (now (sums .exit)) ⌝ }
+    requires { ⌜ Asks (now entries) (now patients) (now terms) (now places) s first end (now sums) ⌝ }
+    ensures { λ _. ⌜ Gives (now (entries .entry)) (now (patients .entry)) (now (terms .entry)) (now (places .entry)) s first end (now (sums .exit)) ⌝ }
 {
     let mut k = first_term(patients, s);
     while k < 64 {
-        let from = entry_place(terms, k, s, beds);
+        let from = entry_start(terms, k) + places[k] as usize;
         add_entries(sums, entries, from, first, end);
         k = next_term(terms, k);
     }

@@ -57,21 +57,15 @@ fn wide(bed: u8) -> usize
     bed as usize
 }
 
-// Who is no patient: every member of a term counts.
-const NOBODY: usize = 32;
-
-// The place in the store of a term's entry for a plan. Who is unplaced counts as bed 0 and is the last member: nothing is added from there on.
-fn entry_place(terms: &[u32; 640], k: usize, unplaced: usize, beds: &[u8; 32]) -> usize
-    requires { ⌜ Reads (now terms) k unplaced (now beds) ⌝ }
+// The place in the store of a term's entry for a plan.
+fn entry_place(terms: &[u32; 640], k: usize, beds: &[u8; 32]) -> usize
+    requires { ⌜ Reads (now terms) k ⌝ }
     ensures { λ at. ⌜ at ≡ placeAt (now (terms .entry)) k (now (beds .entry)) ⌝ }
 {
     let mut place = entry_start(terms, k);
     let mut j = 0;
     while j < 4 {
         let s = member(terms, k, j);
-        if s == unplaced {
-            return place;
-        }
         place += wide(beds[s]) * stride(terms, k, j);
         j += 1;
     }
@@ -92,7 +86,7 @@ fn bucket_cost(
     let mut sum: u64 = 0;
     let mut k = first_term(patients, s);
     while k < 64 {
-        let at = entry_place(terms, k, NOBODY, beds);
+        let at = entry_place(terms, k, beds);
         let entry = entries[at];
         if entry == FORBIDDEN {
             return Cost::Forbidden;

@@ -67,7 +67,7 @@ pub record Listed (store patients terms roots : List ℕ) (v m size : ℕ) (now 
   pub padded : AllPadded v n (workPart 0 now)
   pub first : (r : Region) → PreparedForest r store patients terms roots v m → First rowOrder m (RowOf r (treesBelow r v k) (noBeds r)) (listAt v n 0 now)
 
-module _ {store patients terms roots : List ℕ} {v m : ℕ} {work : List ℕ} (asks : AsksForest store patients terms roots v m work) where
+module _ {store patients terms moves roots : List ℕ} {v m : ℕ} {work : List ℕ} (asks : AsksForest store patients terms moves roots v m work) where
   accepted : Accepted (asks .region)
   accepted = asks .forest .prepared .accepted
 
@@ -144,10 +144,12 @@ module _ {store patients terms roots : List ℕ} {v m : ℕ} {work : List ℕ} (
               | no h ↦ absurd (true≢false (sym e ∙ tree-beyond (forest .rootNumbers) a (forest .counted) w k is s (omega arith)))
             ]
 
-      pub asks-tree : AsksTree store patients terms v m n now w
+      pub asks-tree : AsksTree store patients terms moves v m n now w
       asks-tree =
           record {
             region = asks .region;
+            numbered = asks .numbered;
+            linked = asks .linked;
             D = treesBelow (asks .region) v (suc k);
             E = treesBelow (asks .region) v k;
             nextTree = nextTree (asks .region) (asks .forest);

@@ -29,6 +29,7 @@ use Rattle.partial_rows.specs.Contexts.{row-context}
 use Rattle.partial_rows.specs.Parts.{parts-injective, parts-combined}
 use Rattle.partial_rows.specs.Walk.{position-start, walk-finds}
 use Rattle.bucket_words.specs.Words.{leastAt}
+use Rattle.bucket_words.specs.Kept.{Kept}
 use Rattle.buckets.specs.Terms.{Fitting, leastIn}
 use Rattle.packed_rows.specs.declared.Row as Code
 use Rattle.packed_rows.specs.Packed.{rowOf, Fit}
@@ -41,6 +42,7 @@ use Rattle.row_sums.specs.Areas.{replaced, replaced-long, part-long, part-new, 
 use Rattle.search.specs.Lowest.{Upward}
 use Rattle.search.specs.Walks.{Branching, leftIn, headRow, SumsFit, Heads, BranchOf, AllPadded, Asks, Gives}
 use Rattle.search.specs.Trees.{LeastSummed, AsksStart, GivesStart, NextTree, AsksTree, GivesTree}
+use Rattle.search.proofs.Keeping.{kept-start, kept-places}
 use Rattle.search.proofs.Padded.{unpadded-keeps, row-padded, row-unpadded, sum-padded, injective-back, first-unpadded}
 
 pub take-zeros : (v n : ℕ) → v ≤ n → take {A = ℕ} v (replicate n 0) ≡ replicate v 0
@@ -88,6 +90,7 @@ pub sums-fit-start : {set : ℕ} {patients : List ℕ} {head : Branching} → Fr
 sums-fit-start {set} {head} fresh =
     record {
       beds = ap length (fresh .beds);
+      low = λ q. rw (fresh .beds) (omega (arith, zero-bed 32 q));
       placed = omega (arith, fresh .len, size-most (head .left .0));
       cost = omega (arith, fresh .cost);
       bound = fresh .bound .most;
@@ -131,7 +134,7 @@ module _ {r : Region} {D E : Patients} {store patients terms : List ℕ} {v m n 
         }
 
     -- The walk from there finds the first rows of the set.
-    pub tree-first : {area now : List ℕ} {found : ℕ} → Gives store patients terms v 0 m area head now found → First rowOrder m (RowOf r (contains (members set)) (noBeds r)) (rowsIn v found now)
+    pub tree-first : {area now places : List ℕ} {found : ℕ} → Gives store patients terms v 0 m area head now places found → First rowOrder m (RowOf r (contains (members set)) (noBeds r)) (rowsIn v found now)
     tree-first {area} {now} {found} gives =
         let empty : Ready rowOrder m (rowsIn v 0 area) (BranchOf r v head) = subst⁻¹ (λ l. Ready rowOrder m l (BranchOf r v head)) (ap (map (unpadded v)) (rows-none area)) ready-nil in
         let grown : Grown rowOrder m [] (BranchOf r v head) (rowsIn v found now) =
@@ -172,13 +175,18 @@ sum-fits r accepted {D} {E} {F} split placed v x y p q one two = record {
 
 -- ---- one more tree
 
-module _ {store patients terms : List ℕ} {v m n : ℕ} {work : List ℕ} {set : ℕ} (asks : AsksTree store patients terms v m n work set) {head : Branching} (fresh : Fresh set patients head) where
-  pub asks-walk : Asks store patients terms v 0 m (workPart 1 work) head
+module _ {store patients terms moves : List ℕ} {v m n : ℕ} {work : List ℕ} {set : ℕ} (asks : AsksTree store patients terms moves v m n work set) {head : Branching} (fresh : Fresh set patients head) where
+  pub asks-walk : Asks store patients terms moves v 0 m (workPart 1 work) (replicate 64 0) head
   asks-walk =
       record {
         region = asks .region;
-        heads = heads-start (asks .nextTree) (asks .few) fresh;
+        heads = heads;
+        numbered = asks .numbered;
         sumsFit = sums-fit-start fresh;
+        linked = asks .linked;
+        kept = kept;
+        placesKept =
+            kept-places (heads .prepared .accepted) (asks .numbered) kept (omega (arith, heads .counted, heads .few, ap length (fresh .beds))) (heads .upward) (heads .position .unplaced);
         room = record {
           held = omega arith;
           wanted = asks .wanted;
@@ -187,8 +195,14 @@ module _ {store patients terms : List ℕ} {v m n : ℕ} {work : List ℕ} {set 
         };
         padded = λ z k. absurd (none-in-nil (subst (λ (l : List Row). z ∈ l) (rows-none (workPart 1 work)) k));
       }
+    where
+      heads : Heads (asks .region) store patients terms v head
+      heads = heads-start (asks .nextTree) (asks .few) fresh
 
-  module _ {new : List ℕ} {found : ℕ} (gives : Gives store patients terms v 0 m (workPart 1 work) head new found) where
+      kept : Kept terms (head .plan .beds) (replicate 64 0)
+      kept = subst⁻¹ (λ beds. Kept terms beds (replicate 64 0)) (fresh .beds) (kept-start terms)
+
+  module _ {new places : List ℕ} {found : ℕ} (gives : Gives store patients terms v 0 m (workPart 1 work) head new places found) where
     fits : 1 * 384 + 384 ≤ length work
     fits = omega (arith, asks .long)
 

@@ -5,7 +5,7 @@ use native.Mathlib.Omega.{arith}
 use lib.ListN.{set, length-set}
 use lib.Seq.{take-set-lt, getD-set-same}
 use borrow.Author.Tests.{eq-eqb}
-use Rattle.definitions.specs.Basics.{ℕ, _+_, _<_, true, not, _&&_, _||_, Option, none, List, _∷_, map, length, getD, take, sum, eqb, isEmpty, contains, ltb, everyTwo, replicate}
+use Rattle.definitions.specs.Basics.{ℕ, zero, suc, _+_, _<_, true, not, _&&_, _||_, Option, none, List, [], _∷_, map, length, getD, take, sum, eqb, isEmpty, contains, ltb, everyTwo, replicate}
 use Rattle.definitions.specs.Syntax.{Region, patientAt}
 use Rattle.definitions.specs.Plans.{bedOf, costOver}
 use Rattle.theorems.specs.Accepted.{mostTotal}
@@ -15,6 +15,7 @@ use Rattle.partial_rows.specs.Sets.{only, Splits}
 use Rattle.partial_rows.specs.Rows.{Position, decidedTables, withBed, LowerBound}
 use Rattle.partial_rows.specs.Branches.{position-bed}
 use Rattle.bucket_words.specs.Words.{leastAt, firstBedAt, bedEndAt}
+use Rattle.bucket_words.specs.Kept.{Kept}
 use Rattle.buckets.specs.Terms.{Fitting, leastIn, fitting-low}
 use Rattle.pricing.specs.BedCosts as Price
 use Rattle.pricing.specs.Pricing.{sumIn}
@@ -74,10 +75,38 @@ module _ {r : Region} {store patients terms : List ℕ} {v : ℕ} {head : Branch
   pub few : s < 32
   few = omega (arith, known, heads .counted, heads .few)
 
+  -- It has no bed yet.
+  pub without-bed : bedOf (head .plan .beds) s ≡ 0
+  without-bed = heads .position .unplaced s here
+
+  pub inside-beds : SumsFit head → s < length (head .plan .beds)
+  inside-beds sumsFit = omega (arith, few, sumsFit .beds)
+
   -- What the costs of the patient's beds ask for.
-  pub asks-beds : SumsFit head → {first end : ℕ} → first ≡ firstBedAt patients s → end ≡ bedEndAt patients s → Price.Asks store patients terms s first end (head .plan .beds) (replicate 16 0)
-  asks-beds sumsFit firsts ends =
-      record { region = r; prepared = heads .prepared; fits = heads .fits; known = known; few = few; firsts = firsts; ends = ends; long = sumsFit .beds; unplaced = heads .position .unplaced s here; zeros = refl }
+  pub asks-beds : SumsFit head → {places : List ℕ} → Kept terms (head .plan .beds) places → {first end : ℕ} → first ≡ firstBedAt patients s → end ≡ bedEndAt patients s
+      → Price.Asks store patients terms places s first end (replicate 16 0)
+  asks-beds sumsFit kept firsts ends =
+      record {
+        region = r;
+        beds = head .plan .beds;
+        prepared = heads .prepared;
+        fits = heads .fits;
+        kept = kept;
+        known = known;
+        few = few;
+        firsts = firsts;
+        ends = ends;
+        long = inside-beds sumsFit;
+        zeros = refl;
+      }
+
+-- With one more bed below 16 all are still.
+pub low-set : (beds : List ℕ) (s bed : ℕ) → bed < 16 → ((q : ℕ) → bedOf beds q < 16) → (q : ℕ) → bedOf (set beds s bed) q < 16
+low-set [] s bed small low q = low q
+low-set (x ∷ beds) zero bed small low zero = small
+low-set (x ∷ beds) zero bed small low (suc q) = low (suc q)
+low-set (x ∷ beds) (suc s) bed small low zero = low zero
+low-set (x ∷ beds) (suc s) bed small low (suc q) = low-set beds s bed small (λ p. low (suc p)) q
 
 -- Four bits hold each bed that fits.
 pub low-beds : {r : Region} {store patients terms : List ℕ} {v : ℕ} {head : Branching} → Heads r store patients terms v head → (beds : List ℕ) → Fitting r beds → (q : ℕ) → q < v → bedOf beds q < 16
@@ -92,13 +121,13 @@ module _ {store patients terms : List ℕ} {head : Branching} {s bed : ℕ} (ask
   asks-room = omega (arith, asks .sumsFit .placed, ap length (asks .lowest))
 
   -- What a permitted bed decides costs as much as the sum for it says.
-  pub decides : {first end : ℕ} {sums : List ℕ} → first ≡ firstBedAt patients s → end ≡ bedEndAt patients s → first ≤ bed → bed < end
-      → Price.Gives store patients terms s first end (head .plan .beds) sums → {o : Option ℕ} → sumIn (getD sums bed 0) ≡ o → Decides store patients terms head s bed o
-  decides firsts ends low high gives e r v heads h =
+  pub decides : {first end : ℕ} {places sums : List ℕ} → Kept terms (head .plan .beds) places → first ≡ firstBedAt patients s → end ≡ bedEndAt patients s → first ≤ bed → bed < end
+      → Price.Gives store patients terms places s first end sums → {o : Option ℕ} → sumIn (getD sums bed 0) ≡ o → Decides store patients terms head s bed o
+  decides kept firsts ends low high gives e r v heads h =
       let here = known heads (asks .lowest) in
       let bed-is = next-bed heads (asks .lowest) (asks .sumsFit) bed in
       permitted-cost r s (set (head .plan .beds) s bed) here (omega (arith, bed-is)) (omega (arith, bed-is, firsts, heads .prepared .firstBed s here)) (omega (arith, bed-is, ends, heads .prepared .bedEnd s here))
-      ∙ sym (gives .cost r (heads .prepared) (heads .fits) here bed low high) ∙ e
+      ∙ sym (gives .cost r (head .plan .beds) (heads .prepared) (heads .fits) kept here (inside-beds heads (asks .lowest) (asks .sumsFit)) bed low high) ∙ e
 
 -- Those who are left without the lowest.
 pub rest-left : (w s one rest : ℕ) (others : List ℕ) → members w ≡ s ∷ others → ((q : ℕ) → inSet one q ≡ eqb q s) → ((q : ℕ) → inSet rest q ≡ (inSet w q && not (inSet one q)))
@@ -107,10 +136,11 @@ rest-left w s one rest others e is minus = lowest-and-rest w s one rest (ap isEm
 
 -- The head below a bed.
 module _ {patients : List ℕ} {head below : Branching} {s bed c : ℕ} (is : Below patients head s bed c below) where
-  pub sums-fit-below : SumsFit head → SumsFit below
-  sums-fit-below sumsFit =
+  pub sums-fit-below : bed < 16 → SumsFit head → SumsFit below
+  sums-fit-below small sumsFit =
       record {
         beds = ap length (is .beds) ∙ length-set (head .plan .beds) s bed ∙ sumsFit .beds;
+        low = λ q. rw (is .beds) (low-set (head .plan .beds) s bed small (sumsFit .low) q);
         placed = omega (arith, is .len, sumsFit .placed, ap length (is .left));
         cost = omega (arith, is .len, is .cost, is .most, sumsFit .cost);
         bound = omega (arith, is .bound, sumsFit .bound);

@@ -13,7 +13,8 @@ use Rattle.partial_rows.specs.Parts.{Apart}
 use Rattle.held_region.specs.declared.Region as Code
 use Rattle.held_region.specs.Meaning.{said}
 use Rattle.bucket_words.specs.Words.{leastAt}
-use Rattle.buckets.specs.Terms.{Prepared}
+use Rattle.kept_places.specs.Moves.{Linked}
+use Rattle.buckets.specs.Terms.{Prepared, Numbered}
 use Rattle.forest.specs.Trees.{RootNumbers}
 use Rattle.row_sums.specs.Sums.{workPart, listAt}
 use Rattle.search.specs.Lowest.{Upward}
@@ -47,8 +48,10 @@ pub record NextTree (r : Region) (D E : Patients) (store patients terms : List �
   pub apart : Apart r E (contains (members set))
   pub first : First rowOrder m (RowOf r E (noBeds r)) (listAt v n 0 work)
 
-pub record AsksTree (store patients terms : List ℕ) (v m n : ℕ) (work : List ℕ) (set : ℕ) : Type 0 where
+pub record AsksTree (store patients terms moves : List ℕ) (v m n : ℕ) (work : List ℕ) (set : ℕ) : Type 0 where
   pub region : Region
+  pub numbered : Numbered region (λ t. true) store terms
+  pub linked : Linked terms 32 moves
   pub D : Patients
   pub E : Patients
   pub nextTree : NextTree region D E store patients terms v m n work set
@@ -74,8 +77,10 @@ pub record PreparedForest (r : Region) (store patients terms roots : List ℕ) (
   pub counted : v ≡ length (r .patients)
   pub wanted : m ≡ r .plansWanted
 
-pub record AsksForest (store patients terms roots : List ℕ) (v m : ℕ) (work : List ℕ) : Type 0 where
+pub record AsksForest (store patients terms moves roots : List ℕ) (v m : ℕ) (work : List ℕ) : Type 0 where
   pub region : Region
+  pub numbered : Numbered region (λ t. true) store terms
+  pub linked : Linked terms 32 moves
   pub forest : PreparedForest region store patients terms roots v m
   pub long : 1_152 ≤ length work
 

@@ -1,18 +1,22 @@
 -- What the walk asks for and gives.
 use lib.ListN.{set}
 use Prim.Native.Nat.{_≤_}
-use Rattle.definitions.specs.Basics.{ℕ, _+_, _-_, _*_, _<_, _≡_, Bool, not, _&&_, Option, List, _∷_, map, length, take, sum, eqb, contains}
+use Rattle.definitions.specs.Basics.{ℕ, _+_, _-_, _*_, _<_, _≡_, Bool, true, not, _&&_, Option, List, _∷_, map, length, getD, take, sum, eqb, contains}
 use Rattle.definitions.specs.Syntax.{Region, patientAt}
-use Rattle.definitions.specs.Plans.{Row, bedOf, costOver, compareRows}
+use Rattle.definitions.specs.Plans.{Plan, placeIn, Row, bedOf, costOver, compareRows}
 use Rattle.theorems.specs.Accepted.{mostTotal}
 use Rattle.lists.specs.Members.{_∈_}
 use Rattle.ranking.specs.Growing.{Grown, Ready}
 use Rattle.theorems.specs.List.{rowOrder}
 use Rattle.patient_set.specs.declared.PatientSet.{PatientSet}
 use Rattle.patient_set.specs.Sets.{members}
-use Rattle.partial_rows.specs.Rows.{Branch, Position}
+use Rattle.partial_rows.specs.Sets.{Patients}
+use Rattle.partial_rows.specs.Rows.{holds, Branch, Position}
+use Rattle.held_region.specs.Stores.{tableAt}
 use Rattle.bucket_words.specs.Words.{leastAt}
-use Rattle.buckets.specs.Terms.{Fitting, leastIn, Prepared}
+use Rattle.bucket_words.specs.Kept.{Kept}
+use Rattle.kept_places.specs.Moves.{Linked}
+use Rattle.buckets.specs.Terms.{Fitting, highest, leastIn, Prepared, Numbered}
 use Rattle.pricing.specs.declared.Plan as Code
 use Rattle.partial_rows.specs.Padding.{unpadded, Padded}
 use Rattle.packed_rows.specs.Packed.{isBefore}
@@ -42,9 +46,10 @@ leftIn head = contains (remaining head)
 abbrev pub headRow : ℕ → Branching → Row
 headRow v head = record { cost = head .cost; beds = take v (head .plan .beds) }
 
--- A head whose sums fit: the cost grows with the patients placed.
+-- A head whose beds and sums fit: the cost grows with the patients placed.
 pub record SumsFit (head : Branching) : Type 0 where
   pub beds : length (head .plan .beds) ≡ 32
+  pub low : (q : ℕ) → bedOf (head .plan .beds) q < 16
   pub placed : head .plan .len + length (remaining head) ≤ 32
   pub cost : head .cost ≤ head .plan .len * mostTotal
   pub bound : head .bound ≤ 137_438_953_472
@@ -118,16 +123,27 @@ pub record AsksCut (v n m : ℕ) (area : List ℕ) (plan : Code.Plan) (s bed : �
 
 -- ---- the walk
 
-pub record Asks (store patients terms : List ℕ) (v n m : ℕ) (area : List ℕ) (head : Branching) : Type 0 where
+-- The kept places: of each table with a member who is left, the place worked out from all of its members, with bed 0 for one who has none yet.
+-- Of every table it lacks the bed of the highest member alone, whose entries lie side by side.
+pub record PlacesKept (r : Region) (left : Patients) (beds : Plan) (places : List ℕ) : Type 0 where
+  pub place : (k : ℕ) → k < length (r .tables) → holds left (tableAt r k) ≡ true → getD places k 0 ≡ placeIn r beds (tableAt r k)
+  pub every : (k s : ℕ) → k < length (r .tables) → highest s (tableAt r k) ≡ true → getD places k 0 + bedOf beds s ≡ placeIn r beds (tableAt r k)
+
+pub record Asks (store patients terms moves : List ℕ) (v n m : ℕ) (area places : List ℕ) (head : Branching) : Type 0 where
   pub region : Region
   pub heads : Heads region store patients terms v head
+  pub numbered : Numbered region (λ t. true) store terms
   pub sumsFit : SumsFit head
   pub room : Room n m area
   pub padded : AllPadded v n area
+  pub linked : Linked terms 32 moves
+  pub kept : Kept terms (head .plan .beds) places
+  pub placesKept : PlacesKept region (leftIn head) (head .plan .beds) places
 
--- The list grows by the rows of the branch.
-pub record Gives (store patients terms : List ℕ) (v n m : ℕ) (area : List ℕ) (head : Branching) (after : List ℕ) (found : ℕ) : Type 0 where
+-- The list grows by the rows of the branch, and the places are kept for the beds of its head again.
+pub record Gives (store patients terms : List ℕ) (v n m : ℕ) (area : List ℕ) (head : Branching) (after afterPlaces : List ℕ) (found : ℕ) : Type 0 where
   pub count : found ≤ m
+  pub kept : Kept terms (head .plan .beds) afterPlaces
   pub long : length after ≡ length area
   pub padded : AllPadded v found after
   pub grown : (r : Region) → Heads r store patients terms v head → Ready rowOrder m (rowsIn v n area) (BranchOf r v head)

@@ -6,6 +6,7 @@ use buckets::prepare;
 use forest::root_numbers;
 use forest::tree;
 use held_region::Region;
+use kept_places::moves_of;
 use packed_rows::pack;
 use patient_set::PatientSet;
 use pricing::Plan;
@@ -47,13 +48,14 @@ fn add_tree(
     work: &mut [u32],
     patients: &[u32; 160],
     terms: &[u32; 640],
+    moves: &[u32; 608],
     entries: &[u32; 4096],
     v: usize,
     m: usize,
     n: usize,
     set: PatientSet,
 ) -> usize
-    requires { ⌜ AsksTree (now entries) (now patients) (now terms) v m n (now work) (set .0) ⌝ }
+    requires { ⌜ AsksTree (now entries) (now patients) (now terms) (now moves) v m n (now work) (set .0) ⌝ }
     ensures { λ k. ⌜ GivesTree (now (entries .entry)) (now (patients .entry)) (now (terms .entry)) v m n (now (work .entry)) (set .0) (now (work .exit)) k ⌝ }
 {
     let plan = Plan::new();
@@ -63,10 +65,13 @@ fn add_tree(
         cost: 0,
         bound: least_sum(patients, set),
     };
+    let mut places = [0u32; 64];
     let found = walk(
         &mut work[SECOND..THIRD],
+        &mut places,
         patients,
         terms,
+        moves,
         entries,
         &plan.beds,
         v,
@@ -82,12 +87,13 @@ fn list_trees(
     work: &mut [u32],
     patients: &[u32; 160],
     terms: &[u32; 640],
+    moves: &[u32; 608],
     entries: &[u32; 4096],
     roots: &[u32; 32],
     v: usize,
     m: usize,
 ) -> usize
-    requires { ⌜ AsksForest (now entries) (now patients) (now terms) (now roots) v m (now work) ⌝ }
+    requires { ⌜ AsksForest (now entries) (now patients) (now terms) (now moves) (now roots) v m (now work) ⌝ }
     ensures { λ n. ⌜ GivesForest (now (entries .entry)) (now (patients .entry)) (now (terms .entry)) (now (roots .entry)) v m (now (work .entry)) (now (work .exit)) n ⌝ }
 {
     start_list(work, v);
@@ -96,7 +102,7 @@ fn list_trees(
     while k < v {
         let set = tree(roots, v, k);
         if 0 < set.size() {
-            n = add_tree(work, patients, terms, entries, v, m, n, set);
+            n = add_tree(work, patients, terms, moves, entries, v, m, n, set);
         }
         k += 1;
     }
@@ -112,5 +118,15 @@ pub fn list_region(work: &mut [u32], region: Region, store: &[u32; 4096]) -> usi
     let roots = root_numbers(region);
     let patients = buckets.patients;
     let terms = buckets.terms;
-    list_trees(work, &patients, &terms, store, &roots, region.v, region.m)
+    let moves = moves_of(&terms, region.t);
+    list_trees(
+        work,
+        &patients,
+        &terms,
+        &moves,
+        store,
+        &roots,
+        region.v,
+        region.m,
+    )
 }

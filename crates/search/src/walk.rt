@@ -2,6 +2,7 @@
 use bucket_words::bed_end;
 use bucket_words::first_bed;
 use bucket_words::least_cost;
+use kept_places::move_places;
 use packed_rows::pack;
 use patient_set::PatientSet;
 use pricing::Cost;
@@ -71,10 +72,13 @@ fn is_cut(
 }
 
 // Adds the rows of the branch to the list: the m cheapest are kept. Each permitted bed that is not cut gives a longer plan, whose beds are lent to the branch below.
+// The place of each table's entry goes along: a bed that is gone into moves it, and who is left again has bed 0.
 pub fn walk(
     list: &mut [u32],
+    places: &mut [u32; 64],
     patients: &[u32; 160],
     terms: &[u32; 640],
+    moves: &[u32; 608],
     entries: &[u32; 4096],
     beds: &[u8; 32],
     v: usize,
@@ -82,8 +86,8 @@ pub fn walk(
     m: usize,
     head: Head,
 ) -> usize
-    requires { ⌜ Asks (now entries) (now patients) (now terms) v n m (now list) (branchAt head (now beds)) ⌝ }
-    ensures { λ found. ⌜ Gives (now (entries .entry)) (now (patients .entry)) (now (terms .entry)) v n m (now (list .entry)) (branchAt head (now (beds .entry))) (now (list .exit)) found ⌝ }
+    requires { ⌜ Asks (now entries) (now patients) (now terms) (now moves) v n m (now list) (now places) (branchAt head (now beds)) ⌝ }
+    ensures { λ found. ⌜ Gives (now (entries .entry)) (now (patients .entry)) (now (terms .entry)) v n m (now (list .entry)) (branchAt head (now (beds .entry))) (now (list .exit)) (now (places .exit)) found ⌝ }
 {
     let left = head.left;
     if left.is_empty() {
@@ -97,12 +101,13 @@ pub fn walk(
     let others = rest.left;
     let bound = rest.bound;
     let mut sums = [0u64; 16];
-    bed_costs(&mut sums, patients, terms, entries, s, first, end, beds);
+    bed_costs(&mut sums, patients, terms, entries, places, s, first, end);
     let plan = Plan {
         beds: *beds,
         len: head.placed,
     };
     let mut found = n;
+    let mut counted = 0;
     let mut bed = first;
     while bed < end {
         let cost = bed_cost(&sums, bed);
@@ -117,10 +122,14 @@ pub fn walk(
                     cost: sum,
                     bound: bound,
                 };
+                move_places(places, moves, s, counted, bed);
+                counted = bed;
                 found = walk(
                     list,
+                    places,
                     patients,
                     terms,
+                    moves,
                     entries,
                     &longer.beds,
                     v,
@@ -132,5 +141,6 @@ pub fn walk(
         }
         bed += 1;
     }
+    move_places(places, moves, s, counted, 0);
     found
 }

@@ -33,3 +33,4 @@ pub mod Lengths
 pub mod Writer
 pub mod Lending
 pub mod Lookup
+pub mod EntryPlaces

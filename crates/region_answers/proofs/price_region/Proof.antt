@@ -20,20 +20,20 @@ returns : tie.Need-returns
 returns c =
     let asked = c .before in
     let made = asked .before .before .before .before in
-    misfit-priced _ _ (now (made .before .before .args .plan)) (made .before .before .pre) (made .prepare .ensures) (asked .plan-fits .ensures) (not-true _ (c .if1 .taken))
+    misfit-priced _ _ (now (made .before .before .args .plan)) (made .before .before .pre) (made .prepare .ensures .prepared) (asked .plan-fits .ensures) (not-true _ (c .if1 .taken))
 
 plan-of-requires : tie.Need-plan-of-requires
 plan-of-requires c κs =
     let asked = c .before in
     let made = asked .before .before .before .before in
-    plan-short _ _ (now (made .before .before .args .plan)) (made .before .before .pre) (made .prepare .ensures) (asked .plan-fits .ensures) (not-false _ (c .if1 .left))
+    plan-short _ _ (now (made .before .before .args .plan)) (made .before .before .pre) (made .prepare .ensures .prepared) (asked .plan-fits .ensures) (not-false _ (c .if1 .left))
 
 total-requires : tie.Need-total-requires
 total-requires c κs =
     let placed = c .before .before in
     let asked = placed .before .before in
     let made = asked .before .before .before .before in
-    asks-all _ _ (now (made .before .before .args .plan)) (made .before .before .pre) (made .prepare .ensures) (asked .plan-fits .ensures) (not-false _ (placed .before .if1 .left))
+    asks-all _ _ (now (made .before .before .args .plan)) (made .before .before .pre) (made .prepare .ensures .prepared) (asked .plan-fits .ensures) (not-false _ (placed .before .if1 .left))
     (placed .plan-of .result .beds) (placed .plan-of .ensures)
 
 enum-told : tie.Need-enum-told
@@ -48,7 +48,7 @@ returns-2 c =
     let placed = all .before .before .before in
     let asked = placed .before .before in
     let made = asked .before .before .before .before in
-    fit-priced _ _ (now (made .before .before .args .plan)) (made .before .before .pre) (made .prepare .ensures) (asked .plan-fits .ensures) (not-false _ (placed .before .if1 .left))
+    fit-priced _ _ (now (made .before .before .args .plan)) (made .before .before .pre) (made .prepare .ensures .prepared) (asked .plan-fits .ensures) (not-false _ (placed .before .if1 .left))
     (placed .plan-of .result .beds) (placed .plan-of .ensures) (all .total .result) (all .total .ensures) Forbidden (ap (λ cost. priced 0 (costIn cost)) (c .enum-told .given .1))
 
 returns-3 : tie.Need-returns-3
@@ -57,7 +57,7 @@ returns-3 c =
     let placed = all .before .before .before in
     let asked = placed .before .before in
     let made = asked .before .before .before .before in
-    fit-priced _ _ (now (made .before .before .args .plan)) (made .before .before .pre) (made .prepare .ensures) (asked .plan-fits .ensures) (not-false _ (placed .before .if1 .left))
+    fit-priced _ _ (now (made .before .before .args .plan)) (made .before .before .pre) (made .prepare .ensures .prepared) (asked .plan-fits .ensures) (not-false _ (placed .before .if1 .left))
     (placed .plan-of .result .beds) (placed .plan-of .ensures) (all .total .result) (all .total .ensures) (Allowed (c .before .cost .given .0 .0)) (ap (λ cost. priced 0 (costIn cost)) (c .before .cost .given .1))
 
 pub price-region-spec : {M : Type 1} → statement M

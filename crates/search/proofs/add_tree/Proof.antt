@@ -22,18 +22,24 @@ part-walk-end c = search needs
 
 walk-requires : tie.Need-walk-requires
 unfolding workPart
-walk-requires c κs = asks-walk (c .before .before .before .before .before .before .pre) (record { left = refl; beds = c .before .before .before .before .new .ensures .0; len = c .before .before .before .before .new .ensures .1; cost = refl; bound = c .before .before .before .least-sum .ensures })
+walk-requires c κs =
+    let summed = c .before .before .before .before in
+    asks-walk (summed .before .before .before .pre) (record { left = refl; beds = summed .before .new .ensures .0; len = summed .before .new .ensures .1; cost = refl; bound = summed .least-sum .ensures })
 
 combine-requires : tie.Need-combine-requires
 unfolding workPart
-combine-requires c κs = asks-combine (c .before .before .before .before .before .before .before .before .before .before .pre) (record { left = refl; beds = c .before .before .before .before .before .before .before .before .new .ensures .0; len = c .before .before .before .before .before .before .before .before .new .ensures .1; cost = refl; bound = c .before .before .before .before .before .before .before .least-sum .ensures }) (c .before .before .before .walk .ensures)
+combine-requires c κs =
+    let summed = c .before .before .before .before .before .before .before .before in
+    asks-combine (summed .before .before .before .pre) (record { left = refl; beds = summed .before .new .ensures .0; len = summed .before .new .ensures .1; cost = refl; bound = summed .least-sum .ensures }) (c .before .before .before .walk .ensures)
 
 same-length : tie.Need-same-length
 same-length c = search needs
 
 returns : tie.Need-returns
 unfolding workPart
-returns c = tree-added (c .before .before .before .before .before .before .before .before .before .before .before .before .before .pre) (record { left = refl; beds = c .before .before .before .before .before .before .before .before .before .before .before .new .ensures .0; len = c .before .before .before .before .before .before .before .before .before .before .before .new .ensures .1; cost = refl; bound = c .before .before .before .before .before .before .before .before .before .before .least-sum .ensures }) (c .before .before .before .before .before .before .walk .ensures) (c .before .before .combine .ensures)
+returns c =
+    let summed = c .before .before .before .before .before .before .before .before .before .before .before in
+    tree-added (summed .before .before .before .pre) (record { left = refl; beds = summed .before .new .ensures .0; len = summed .before .new .ensures .1; cost = refl; bound = summed .least-sum .ensures }) (c .before .before .before .before .before .before .walk .ensures) (c .before .before .combine .ensures)
 
 pub add-tree-spec : {M : Type 1} → statement M
 add-tree-spec =

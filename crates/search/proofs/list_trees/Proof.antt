@@ -8,10 +8,10 @@ use Rattle.search.proofs.list_trees.Statement.{statement}
 use Rattle.search.proofs.list_trees.Tie as tie
 
 abbrev Inv-loop : tie.InvT-loop
-Inv-loop work₀ patients terms entries roots v m n₀ k₀ work n k = Listed entries patients terms roots v m (length work₀) work n k
+Inv-loop work₀ patients terms moves entries roots v m n₀ k₀ work n k = Listed entries patients terms roots v m (length work₀) work n k
 
 abbrev μ-loop : tie.MeasureT-loop
-μ-loop work₀ patients terms entries roots v m n₀ k₀ work n k = v - k
+μ-loop work₀ patients terms moves entries roots v m n₀ k₀ work n k = v - k
 
 start-list-requires : tie.Need-start-list-requires Inv-loop μ-loop
 start-list-requires c κs = asks-start (c .before .before .pre)

@@ -10,7 +10,7 @@ prepare-for-requires c κs =
 keep-rows-requires : tie.Need-keep-rows-requires
 keep-rows-requires c κs =
     let made = c .before .before .before .before .before in
-    list-asked _ _ _ _ _ _ _ (made .before .before .pre .accepted) (made .prepare-for .ensures) (made .before .before .pre)
+    list-asked _ _ _ _ _ _ _ (made .before .before .pre .accepted) (made .prepare-for .ensures .prepared) (made .before .before .pre)
 
 same-length : tie.Need-same-length
 same-length c = search needs
@@ -19,7 +19,7 @@ returns : tie.Need-returns
 returns c =
     let walked = c .before .before in
     let made = walked .before .before .before .before .before .before in
-    sheet-given _ _ _ _ _ _ _ (made .before .before .pre .accepted) (made .prepare-for .ensures) _ _ (walked .keep-rows .ensures)
+    sheet-given _ _ _ _ _ _ _ (made .before .before .pre .accepted) (made .prepare-for .ensures .prepared) _ _ (walked .keep-rows .ensures)
 
 pub sheet-rows-spec : {M : Type 1} → statement M
 sheet-rows-spec =

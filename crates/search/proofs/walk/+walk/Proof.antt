@@ -9,7 +9,7 @@ use Rattle.pricing.specs.Pricing.{costIn}
 use Rattle.patient_set.specs.Sets.{members}
 use Rattle.search.specs.Walks.{branchAt}
 use Rattle.search.proofs.Steps.{few, least-most, asks-few, asks-room, asks-beds, decides, below-head, below-bed}
-use Rattle.search.proofs.Walking.{Sofar, walk-end, sofar-start, sofar-done, bed-small, asks-next, asks-cut, sofar-skip, asks-below, sofar-walk, sofar-cut, lowest-first}
+use Rattle.search.proofs.Walking.{Sofar, walk-end, sofar-start, asks-move, sofar-done, bed-small, asks-next, asks-cut, sofar-skip, asks-below, sofar-walk, sofar-cut, lowest-first}
 use borrow.Fn.Kinds.{In}
 use borrow.Fn.PlainCycle.{Measures, is, falls, and}
 use Rattle.search.proofs.walk.walk.Reads as walk
@@ -22,6 +22,7 @@ use Rattle.bucket_words.proofs.bed_end.Reads as bed-end-reads
 use Rattle.pricing.proofs.beds.bed_cost.Reads as bed-cost-reads
 use Rattle.pricing.proofs.beds.bed_costs.Reads as bed-costs-reads
 use Rattle.pricing.proofs.Plan.place.Reads as place-reads
+use Rattle.kept_places.proofs.move_places.Reads as move-places-reads
 use Rattle.packed_rows.proofs.pack.Reads as pack-reads
 use Rattle.row_list.proofs.insert.Reads as insert-reads
 use Rattle.search.proofs.walk.is_cut.Reads as is-cut-reads
@@ -29,14 +30,14 @@ use Rattle.search.proofs.walk.rest_of.Reads as rest-of-reads
 use Rattle.search.proofs.walk.+walk.{statement}
 use Rattle.search.proofs.walk.+walk.Tie.{close}
 
-abbrev μ-walk : Measures 5 walk-kinds.ps ℕ
-μ-walk κs a = length (members (a .1 .1 .1 .1 .1 .1 .1 .1 .0 .left .0))
+abbrev μ-walk : Measures 7 walk-kinds.ps ℕ
+μ-walk κs a = length (members (a .1 .1 .1 .1 .1 .1 .1 .1 .1 .1 .0 .left .0))
 
-abbrev walk-at : ℕ → In 5 walk-kinds.ps
-walk-at t = and 5 walk-kinds.ps (is 5 walk-kinds.ps μ-walk t) walk.Pre
+abbrev walk-at : ℕ → In 7 walk-kinds.ps
+walk-at t = and 7 walk-kinds.ps (is 7 walk-kinds.ps μ-walk t) walk.Pre
 
-abbrev walk-below : ℕ → In 5 walk-kinds.ps
-walk-below t = and 5 walk-kinds.ps (falls 5 walk-kinds.ps _<_ μ-walk t) walk.Pre
+abbrev walk-below : ℕ → In 7 walk-kinds.ps
+walk-below t = and 7 walk-kinds.ps (falls 7 walk-kinds.ps _<_ μ-walk t) walk.Pre
 
 -- What each call asks and gives.
 abbrev calls : ℕ → walk-lts.Claims
@@ -63,16 +64,18 @@ calls t = (
   is-cut-reads.Learnt,
   place-reads.Asked,
   place-reads.Learnt,
+  move-places-reads.Asked,
+  move-places-reads.Learnt,
   walk-below t,
   walk.Post,
 )
 
 abbrev walk-Inv-loop : walk-lts.InvT-loop
-walk-Inv-loop list₀ patients terms entries beds v n m head s first end others bound sums plan found₀ bed₀ list found bed =
-    Sofar entries patients terms v n m list₀ (branchAt head beds) s first end list found bed
+walk-Inv-loop list₀ places₀ patients terms moves entries beds v n m head s first end others bound sums plan found₀ counted₀ bed₀ list places found counted bed =
+    Sofar entries patients terms v n m list₀ (branchAt head beds) s first end list places found counted bed
 
 abbrev walk-μ-loop : walk-lts.MeasureT-loop
-walk-μ-loop list₀ patients terms entries beds v n m head s first end others bound sums plan found₀ bed₀ list found bed =
+walk-μ-loop list₀ places₀ patients terms moves entries beds v n m head s first end others bound sums plan found₀ counted₀ bed₀ list places found counted bed =
     end - bed
 
 walk-is-empty-requires : (t : ℕ) → walk-lts.Need-is-empty-requires (calls t) (walk-at t) walk.Post walk-Inv-loop walk-μ-loop
@@ -105,16 +108,21 @@ walk-bed-end-requires t c κs = few (c .before .before .before .before .before .
 walk-rest-of-requires : (t : ℕ) → walk-lts.Need-rest-of-requires (calls t) (walk-at t) walk.Post walk-Inv-loop walk-μ-loop
 walk-rest-of-requires t c κs =
     let lowest = lowest-first _ _ (sym (c .before .before .before .before .is-empty .ensures) ∙ c .before .before .before .if1 .left) (c .before .before .lowest .ensures) in
-    record { few = few (c .before .before .before .before .before .before .before .pre .1 .heads) lowest; least = least-most (c .before .before .before .before .before .before .before .pre .1 .heads) lowest }
+    let heads = c .before .before .before .before .before .before .before .pre .1 .heads in
+    record { few = few heads lowest; least = least-most heads lowest }
 
 walk-bed-costs-requires : (t : ℕ) → walk-lts.Need-bed-costs-requires (calls t) (walk-at t) walk.Post walk-Inv-loop walk-μ-loop
-walk-bed-costs-requires t c κs = asks-beds (c .before .before .before .before .before .before .before .before .before .before .pre .1 .heads) (lowest-first _ _ (sym (c .before .before .before .before .before .before .before .is-empty .ensures) ∙ c .before .before .before .before .before .before .if1 .left) (c .before .before .before .before .before .lowest .ensures)) (c .before .before .before .before .before .before .before .before .before .before .pre .1 .sumsFit) (c .before .before .before .before .first-bed .ensures) (c .before .before .before .bed-end .ensures)
+walk-bed-costs-requires t c κs =
+    let start = c .before .before .before .before .before .before .before .before .before .before .before .pre .1 in
+    asks-beds (start .heads) (lowest-first _ _ (sym (c .before .before .before .before .before .before .before .before .is-empty .ensures) ∙ c .before .before .before .before .before .before .before .if1 .left) (c .before .before .before .before .before .before .lowest .ensures)) (start .sumsFit) (start .kept) (c .before .before .before .before .before .first-bed .ensures) (c .before .before .before .before .bed-end .ensures)
 
 walk-loop-holds : (t : ℕ) → walk-lts.Need-loop-holds (calls t) (walk-at t) walk.Post walk-Inv-loop walk-μ-loop
-walk-loop-holds t c = sofar-start (c .before .before .before .before .before .before .before .before .before .before .before .before .pre .1) (drop 1 (members (c .before .before .before .before .before .before .before .before .before .before .before .before .args .head .left .0))) (lowest-first _ _ (sym (c .before .before .before .before .before .before .before .before .before .is-empty .ensures) ∙ c .before .before .before .before .before .before .before .before .if1 .left) (c .before .before .before .before .before .before .before .lowest .ensures)) (c .before .before .before .before .before .before .first-bed .ensures) (c .before .before .before .before .before .bed-end .ensures)
+walk-loop-holds t c =
+    let start = c .before .before .before .before .before .before .before .before .before .before .before .before .before in
+    sofar-start (start .pre .1) (drop 1 (members (start .args .head .left .0))) (lowest-first _ _ (sym (c .before .before .before .before .before .before .before .before .before .before .is-empty .ensures) ∙ c .before .before .before .before .before .before .before .before .before .if1 .left) (c .before .before .before .before .before .before .before .before .lowest .ensures)) (c .before .before .before .before .before .before .before .first-bed .ensures) (c .before .before .before .before .before .before .bed-end .ensures)
 
 walk-bed-cost-requires : (t : ℕ) → walk-lts.Need-bed-cost-requires (calls t) (walk-at t) walk.Post walk-Inv-loop walk-μ-loop
-walk-bed-cost-requires t c κs = bed-small (c .before .before .before .before .before .before .before .before .before .before .before .before .before .before .before .pre .1) (c .before .before .loop .inv) (c .before .loop-test .taken)
+walk-bed-cost-requires t c κs = bed-small (c .before .before .before .before .before .before .before .before .before .before .before .before .before .before .before .before .pre .1) (c .before .before .loop .inv) (c .before .loop-test .taken)
 
 walk-enum-known-cost : (t : ℕ) → walk-lts.Need-enum-known-cost (calls t) (walk-at t) walk.Post walk-Inv-loop walk-μ-loop
 walk-enum-known-cost t c = search needs
@@ -122,39 +130,43 @@ walk-enum-known-cost t c = search needs
 walk-add-sum : (t : ℕ) → walk-lts.Need-add-sum (calls t) (walk-at t) walk.Post walk-Inv-loop walk-μ-loop
 walk-add-sum t c =
     let most = c .before .before .before .before .before .before .before .before .before .bed-costs .ensures .small _ (c .before .before .before .before .before .before .before .loop .inv .begun) (c .before .before .before .before .before .before .loop-test .taken) _ (sym (c .before .before .before .before .bed-cost .ensures) ∙ ap costIn (c .before .before .cost .given .1)) in
-    let sumsFit = c .before .before .before .before .before .before .before .before .before .before .before .before .before .before .before .before .before .before .before .before .pre .1 .sumsFit in
+    let sumsFit = c .before .before .before .before .before .before .before .before .before .before .before .before .before .before .before .before .before .before .before .before .before .pre .1 .sumsFit in
     omega (arith, most, sumsFit .cost, sumsFit .placed)
 
 walk-add-least : (t : ℕ) → walk-lts.Need-add-least (calls t) (walk-at t) walk.Post walk-Inv-loop walk-μ-loop
 walk-add-least t c =
     let most = c .before .before .before .before .before .before .before .before .before .bed-costs .ensures .small _ (c .before .before .before .before .before .before .before .loop .inv .begun) (c .before .before .before .before .before .before .loop-test .taken) _ (sym (c .before .before .before .before .bed-cost .ensures) ∙ ap costIn (c .before .before .cost .given .1)) in
-    let sumsFit = c .before .before .before .before .before .before .before .before .before .before .before .before .before .before .before .before .before .before .before .before .pre .1 .sumsFit in
-    omega (arith, most, sumsFit .cost, sumsFit .placed, sumsFit .bound, c .before .before .before .before .before .before .before .before .before .before .before .before .rest-of .ensures .bound)
+    let sumsFit = c .before .before .before .before .before .before .before .before .before .before .before .before .before .before .before .before .before .before .before .before .before .pre .1 .sumsFit in
+    omega (arith, most, sumsFit .cost, sumsFit .placed, sumsFit .bound, c .before .before .before .before .before .before .before .before .before .before .before .before .before .rest-of .ensures .bound)
 
 walk-cast-is-cut : (t : ℕ) → walk-lts.Need-cast-is-cut (calls t) (walk-at t) walk.Post walk-Inv-loop walk-μ-loop
-walk-cast-is-cut t c = omega (arith, bed-small (c .before .before .before .before .before .before .before .before .before .before .before .before .before .before .before .before .before .before .before .before .before .pre .1) (c .before .before .before .before .before .before .before .before .loop .inv) (c .before .before .before .before .before .before .before .loop-test .taken))
+walk-cast-is-cut t c = omega (arith, bed-small (c .before .before .before .before .before .before .before .before .before .before .before .before .before .before .before .before .before .before .before .before .before .before .pre .1) (c .before .before .before .before .before .before .before .before .loop .inv) (c .before .before .before .before .before .before .before .loop-test .taken))
 
 walk-is-cut-requires : (t : ℕ) → walk-lts.Need-is-cut-requires (calls t) (walk-at t) walk.Post walk-Inv-loop walk-μ-loop
-walk-is-cut-requires t c κs = asks-cut (c .before .before .before .before .before .before .before .before .before .before .before .before .before .before .before .before .before .before .before .before .before .pre .1) (c .before .before .before .before .before .before .before .before .loop .inv) (c .before .before .before .before .before .before .before .loop-test .taken)
+walk-is-cut-requires t c κs = asks-cut (c .before .before .before .before .before .before .before .before .before .before .before .before .before .before .before .before .before .before .before .before .before .before .pre .1) (c .before .before .before .before .before .before .before .before .loop .inv) (c .before .before .before .before .before .before .before .loop-test .taken)
 
 walk-cast-place : (t : ℕ) → walk-lts.Need-cast-place (calls t) (walk-at t) walk.Post walk-Inv-loop walk-μ-loop
-walk-cast-place t c = omega (arith, bed-small (c .before .before .before .before .before .before .before .before .before .before .before .before .before .before .before .before .before .before .before .before .before .before .before .pre .1) (c .before .before .before .before .before .before .before .before .before .before .loop .inv) (c .before .before .before .before .before .before .before .before .before .loop-test .taken))
+walk-cast-place t c = omega (arith, bed-small (c .before .before .before .before .before .before .before .before .before .before .before .before .before .before .before .before .before .before .before .before .before .before .before .before .pre .1) (c .before .before .before .before .before .before .before .before .before .before .loop .inv) (c .before .before .before .before .before .before .before .before .before .loop-test .taken))
 
 walk-place-requires : (t : ℕ) → walk-lts.Need-place-requires (calls t) (walk-at t) walk.Post walk-Inv-loop walk-μ-loop
 walk-place-requires t c κs =
-    let next = asks-next (c .before .before .before .before .before .before .before .before .before .before .before .before .before .before .before .before .before .before .before .before .before .before .before .pre .1) (c .before .before .before .before .before .before .before .before .before .before .loop .inv) (c .before .before .before .before .before .before .before .before .before .loop-test .taken) in
+    let next = asks-next (c .before .before .before .before .before .before .before .before .before .before .before .before .before .before .before .before .before .before .before .before .before .before .before .before .pre .1) (c .before .before .before .before .before .before .before .before .before .before .loop .inv) (c .before .before .before .before .before .before .before .before .before .loop-test .taken) in
     (asks-few next, asks-room next)
+
+walk-move-places-requires : (t : ℕ) → walk-lts.Need-move-places-requires (calls t) (walk-at t) walk.Post walk-Inv-loop walk-μ-loop
+walk-move-places-requires t c κs = asks-move (c .before .before .before .before .before .before .before .before .before .before .before .before .before .before .before .before .before .before .before .before .before .before .before .before .before .before .pre .1) (c .before .before .before .before .before .before .before .before .before .before .before .before .loop .inv) (bed-small (c .before .before .before .before .before .before .before .before .before .before .before .before .before .before .before .before .before .before .before .before .before .before .before .before .before .before .pre .1) (c .before .before .before .before .before .before .before .before .before .before .before .before .loop .inv) (c .before .before .before .before .before .before .before .before .before .before .before .loop-test .taken))
 
 walk-walk-requires : (t : ℕ) → walk-lts.Need-walk-requires (calls t) (walk-at t) walk.Post walk-Inv-loop walk-μ-loop
 walk-walk-requires t c κs =
-    let pre = c .before .before .before .before .before .before .before .before .before .before .before .before .before .before .before .before .before .before .before .before .before .before .before .before .before .before .before .pre in
-    let inv = c .before .before .before .before .before .before .before .before .before .before .before .before .before .before .loop .inv in
-    let more = c .before .before .before .before .before .before .before .before .before .before .before .before .before .loop-test .taken in
-    let costs = c .before .before .before .before .before .before .before .before .before .before .before .before .before .before .before .before .bed-costs .ensures in
-    let priced = sym (c .before .before .before .before .before .before .before .before .before .before .before .bed-cost .ensures) ∙ ap costIn (c .before .before .before .before .before .before .before .before .before .cost .given .1) in
-    let place = c .before .before .before .place in
-    let is = below-head {head = branchAt (c .before .before .before .before .before .before .before .before .before .before .before .before .before .before .before .before .before .before .before .before .before .before .before .before .before .before .before .args .head) (now (c .before .before .before .before .before .before .before .before .before .before .before .before .before .before .before .before .before .before .before .before .before .before .before .before .before .before .before .args .beds))} {bed = c .before .before .before .before .before .before .before .before .before .before .before .before .before .before .loop .bed} (place .result) (inv .others) (inv .lowest) (c .before .before .before .before .before .before .before .before .before .before .before .before .before .before .before .before .before .before .before .rest-of .ensures) (place .ensures .0) (place .ensures .1) (costs .small _ (inv .begun) more _ priced) in
-    (omega (arith, pre .0, ap length (is .left)), asks-below (pre .1) inv more is (decides (asks-next (pre .1) inv more) (inv .firsts) (inv .ends) (inv .begun) more costs priced))
+    let start = c .before .before .before .before .before .before .before .before .before .before .before .before .before .before .before .before .before .before .before .before .before .before .before .before .before .before .before .before .before .before .before in
+    let pre = start .pre in
+    let inv = c .before .before .before .before .before .before .before .before .before .before .before .before .before .before .before .before .before .loop .inv in
+    let more = c .before .before .before .before .before .before .before .before .before .before .before .before .before .before .before .before .loop-test .taken in
+    let costs = c .before .before .before .before .before .before .before .before .before .before .before .before .before .before .before .before .before .before .before .bed-costs .ensures in
+    let priced = sym (c .before .before .before .before .before .before .before .before .before .before .before .before .before .before .bed-cost .ensures) ∙ ap costIn (c .before .before .before .before .before .before .before .before .before .before .before .before .cost .given .1) in
+    let place = c .before .before .before .before .before .before .place in
+    let is = below-head {head = branchAt (start .args .head) (now (start .args .beds))} {bed = c .before .before .before .before .before .before .before .before .before .before .before .before .before .before .before .before .before .loop .bed} (place .result) (inv .others) (inv .lowest) (c .before .before .before .before .before .before .before .before .before .before .before .before .before .before .before .before .before .before .before .before .before .before .before .rest-of .ensures) (place .ensures .0) (place .ensures .1) (costs .small _ (inv .begun) more _ priced) in
+    (omega (arith, pre .0, ap length (is .left)), asks-below (pre .1) inv more is (decides (asks-next (pre .1) inv more) (pre .1 .kept) (inv .firsts) (inv .ends) (inv .begun) more costs priced) (c .before .before .before .before .move-places .ensures))
 
 walk-enum-told : (t : ℕ) → walk-lts.Need-enum-told (calls t) (walk-at t) walk.Post walk-Inv-loop walk-μ-loop
 walk-enum-told t c = search needs
@@ -167,28 +179,31 @@ walk-loop-less t c = search needs
 
 walk-loop-again : (t : ℕ) → walk-lts.Need-loop-again (calls t) (walk-at t) walk.Post walk-Inv-loop walk-μ-loop
 walk-loop-again t c =
-    let pre = c .before .before .before .before .before .before .before .before .before .before .before .before .before .before .before .before .before .pre .1 in
+    let pre = c .before .before .before .before .before .before .before .before .before .before .before .before .before .before .before .before .before .before .pre .1 in
     let inv = c .before .before .before .before .loop .inv in
     let more = c .before .before .before .loop-test .taken in
     let costs = c .before .before .before .before .before .before .bed-costs .ensures in
     let price = c .before .bed-cost .ensures in
-    let rest = c .before .before .before .before .before .before .before .before .before .rest-of .ensures in
+    let rest = c .before .before .before .before .before .before .before .before .before .before .rest-of .ensures in
     ⊎-elim
     (λ w.
     let priced = sym price ∙ ap costIn (w .1 .given .1) in
-    rw (w .14, w .15) (sofar-walk pre inv more (below-head (w .7 .result) (inv .others) (inv .lowest) rest (w .7 .ensures .0) (w .7 .ensures .1) (costs .small _ (inv .begun) more _ priced)) (decides (asks-next pre inv more) (inv .firsts) (inv .ends) (inv .begun) more costs priced) (w .11 .ensures)))
+    rw (w .17, w .18, w .19, w .20) (sofar-walk pre inv more (below-head (w .7 .result) (inv .others) (inv .lowest) rest (w .7 .ensures .0) (w .7 .ensures .1) (costs .small _ (inv .begun) more _ priced)) (decides (asks-next pre inv more) (pre .kept) (inv .firsts) (inv .ends) (inv .begun) more costs priced) (w .14 .ensures)))
     (⊎-elim
     (λ w.
     let priced = sym price ∙ ap costIn (w .1 .given .1) in
-    rw (w .7, w .8) (sofar-cut pre inv more (below-bed (inv .others) (inv .lowest) rest (costs .small _ (inv .begun) more _ priced)) (decides (asks-next pre inv more) (inv .firsts) (inv .ends) (inv .begun) more costs priced) (w .5 .ensures) (w .6 .left)))
-    (λ w. rw (w .2, w .3) (sofar-skip pre inv more (decides (asks-next pre inv more) (inv .firsts) (inv .ends) (inv .begun) more costs (sym price ∙ ap costIn (w .1 .given .1))))))
+    rw (w .7, w .8, w .9, w .10) (sofar-cut pre inv more (below-bed (inv .others) (inv .lowest) rest (costs .small _ (inv .begun) more _ priced)) (decides (asks-next pre inv more) (pre .kept) (inv .firsts) (inv .ends) (inv .begun) more costs priced) (w .5 .ensures) (w .6 .left)))
+    (λ w. rw (w .2, w .3, w .4, w .5) (sofar-skip pre inv more (decides (asks-next pre inv more) (pre .kept) (inv .firsts) (inv .ends) (inv .begun) more costs (sym price ∙ ap costIn (w .1 .given .1))))))
     (c .match .came)
+
+walk-move-places-requires-2 : (t : ℕ) → walk-lts.Need-move-places-requires-2 (calls t) (walk-at t) walk.Post walk-Inv-loop walk-μ-loop
+walk-move-places-requires-2 t c κs = asks-move (c .before .before .before .before .before .before .before .before .before .before .before .before .before .before .before .before .pre .1) (c .before .before .loop .inv) (omega arith)
 
 walk-same-length-2 : (t : ℕ) → walk-lts.Need-same-length-2 (calls t) (walk-at t) walk.Post walk-Inv-loop walk-μ-loop
 walk-same-length-2 t c = search needs
 
 walk-returns-2 : (t : ℕ) → walk-lts.Need-returns-2 (calls t) (walk-at t) walk.Post walk-Inv-loop walk-μ-loop
-walk-returns-2 t c = sofar-done (c .before .before .before .before .before .before .before .before .before .before .before .before .before .before .pre .1) (c .before .loop .inv) (c .loop-test .left)
+walk-returns-2 t c = sofar-done (c .before .before .before .before .before .before .before .before .before .before .before .before .before .before .before .before .before .pre .1) (c .before .before .before .loop .inv) (c .before .before .loop-test .left) (c .move-places2 .ensures)
 
 pub +walk-spec : {M : Type 1} → statement M
 +walk-spec = close μ-walk λ t. walk-lts.spec (calls t)
@@ -216,10 +231,12 @@ pub +walk-spec : {M : Type 1} → statement M
     (walk-is-cut-requires t)
     (walk-cast-place t)
     (walk-place-requires t)
+    (walk-move-places-requires t)
     (walk-walk-requires t)
     (walk-enum-told t)
     (walk-add-bed t)
     (walk-loop-less t)
     (walk-loop-again t)
+    (walk-move-places-requires-2 t)
     (walk-same-length-2 t)
     (walk-returns-2 t)
