@@ -1,33 +1,34 @@
 -- The loop that adds to the sum of each bed the entry for it.
-use mathlib.Core.Path.{_≡_, refl, sym, ap, ap₂, _∙_}
+use mathlib.Core.Path.{_≡_, refl, sym, ap, _∙_}
 use Prim.Native.Nat.{_≤_}
+use native.Mathlib.Decide.{decLt}
 use native.Mathlib.Omega.{arith}
 use lib.ListN.{set, length-set}
 use lib.Seq.{getD-set-same, getD-set-other}
 use borrow.Author.Tests.{eqb-true, eqb-false}
-use Rattle.definitions.specs.Basics.{ℕ, _+_, _<_, Bool, true, false, Option, none, some, List, length, getD, eqb}
-use Rattle.theorems.specs.Accepted.{mostTotal}
+use Rattle.definitions.specs.Basics.{ℕ, _+_, _<_, Bool, true, false, List, length, getD, eqb}
 use Rattle.theorems.specs.Sums.{plus, plus-none}
 use Rattle.held_region.specs.Meaning.{mark, saidBy}
 use Rattle.pricing.specs.Pricing.{noSum, sumIn}
-use Rattle.pricing.specs.Costs.{entry-number, sum-number}
-use Rattle.pricing.specs.BedCosts.{Small, AsksEntries, GivesEntries}
+use Rattle.pricing.specs.Costs.{entry-number, sum-number, sum-none}
+use Rattle.pricing.specs.BedCosts.{Small, mostWord, OneMore, AsksEntries, GivesEntries}
 
 -- ---- one more entry
 
-pub add-to-none : (sum entry : ℕ) → sum ≡ noSum → sumIn noSum ≡ plus (sumIn sum) (saidBy entry)
-add-to-none sum entry e = ap (λ w. plus (sumIn w) (saidBy entry)) (sym e)
+pub add-mark : (sum entry : ℕ) → entry ≡ mark → OneMore sum entry (sum + entry + noSum)
+add-mark sum entry e = record {
+  is = sum-none (sum + entry + noSum) (omega arith) ∙ sym (plus-none (sumIn sum)) ∙ ap (λ w. plus (sumIn sum) (saidBy w)) (sym e);
+  most = omega arith;
+}
 
-pub add-mark : (sum entry : ℕ) → entry ≡ mark → sumIn noSum ≡ plus (sumIn sum) (saidBy entry)
-add-mark sum entry e = sym (plus-none (sumIn sum)) ∙ ap (λ w. plus (sumIn sum) (saidBy w)) (sym e)
-
-pub small-number : (sum : ℕ) → Small sum → (sum ≡ noSum → ⊥) → sum ≤ mostTotal
-small-number sum small other = small sum (sum-number sum other)
-
-pub add-number : (sum entry : ℕ) → Small sum → (sum ≡ noSum → ⊥) → (entry ≡ mark → ⊥) → entry < 4_294_967_296 → sumIn (sum + entry) ≡ plus (sumIn sum) (saidBy entry)
-add-number sum entry small number other fits =
-    let most = small-number sum small number in
-    sum-number (sum + entry) (λ e. omega (arith, most)) ∙ sym (rw (sum-number sum number, entry-number entry other) refl)
+pub add-number : (sum entry : ℕ) → Small sum → (entry ≡ mark → ⊥) → entry < 4_294_967_296 → OneMore sum entry (sum + entry)
+add-number sum entry small other fits = record { is = by-sum (decLt sum noSum); most = omega arith }
+  where
+    by-sum : Dec (sum < noSum) → sumIn (sum + entry) ≡ plus (sumIn sum) (saidBy entry)
+    by-sum (yes h) =
+        let number = sum-number sum h in
+        sum-number (sum + entry) (omega (arith, small sum number)) ∙ sym (rw (number, entry-number entry other) refl)
+    by-sum (no h) = sum-none (sum + entry) (omega arith) ∙ sym (ap (λ o. plus o (saidBy entry)) (sum-none sum (omega arith)))
 
 -- ---- one more entry for each bed
 
@@ -36,7 +37,7 @@ pub record Added (store : List ℕ) (from first end : ℕ) (sums now : List ℕ)
   pub begun : first ≤ bed
   pub few : bed ≤ end
   pub long : length now ≡ 16
-  pub done : (b : ℕ) → first ≤ b → b < bed → sumIn (getD now b 0) ≡ plus (sumIn (getD sums b 0)) (saidBy (getD store (from + b) 0))
+  pub done : (b : ℕ) → first ≤ b → b < bed → OneMore (getD sums b 0) (getD store (from + b) 0) (getD now b 0)
   pub waiting : (b : ℕ) → bed ≤ b → getD now b 0 ≡ getD sums b 0
 
 module _ {store : List ℕ} {from first end : ℕ} {sums : List ℕ} (asks : AsksEntries store from first end sums) where
@@ -47,10 +48,13 @@ module _ {store : List ℕ} {from first end : ℕ} {sums : List ℕ} (asks : Ask
     added-bed : bed < 16
     added-bed = omega (arith, asks .few)
 
-    pub added-small : (word : ℕ) → word ≡ getD now bed 0 → Small word
-    added-small word is n e = asks .small bed (added .begun) more n (ap sumIn (sym (added .waiting bed (omega arith)) ∙ sym is) ∙ e)
+    pub added-small : (word : ℕ) → word ≡ getD now bed 0 → Small word × (word ≤ mostWord)
+    added-small word is = (
+      λ n e. asks .small bed (added .begun) more n (ap sumIn (sym (added .waiting bed (omega arith)) ∙ sym is) ∙ e),
+      omega (arith, is, added .waiting bed (omega arith), asks .room bed (added .begun) more),
+    )
 
-    pub added-next : (sum entry word : ℕ) → sum ≡ getD now bed 0 → entry ≡ getD store (from + bed) 0 → sumIn word ≡ plus (sumIn sum) (saidBy entry)
+    pub added-next : (sum entry word : ℕ) → sum ≡ getD now bed 0 → entry ≡ getD store (from + bed) 0 → OneMore sum entry word
         → Added store from first end sums (set now bed word) (bed + 1)
     added-next sum entry word isSum isEntry is = record {
       begun = omega (arith, added .begun);
@@ -60,15 +64,15 @@ module _ {store : List ℕ} {from first end : ℕ} {sums : List ℕ} (asks : Ask
       waiting = λ b h. getD-set-other now bed b word 0 (λ e. omega arith) ∙ added .waiting b (omega arith);
     }
       where
-        each : (b : ℕ) → first ≤ b → b < bed + 1 → (same : Bool) → eqb b bed ≡ same → sumIn (getD (set now bed word) b 0) ≡ plus (sumIn (getD sums b 0)) (saidBy (getD store (from + b) 0))
+        each : (b : ℕ) → first ≤ b → b < bed + 1 → (same : Bool) → eqb b bed ≡ same → OneMore (getD sums b 0) (getD store (from + b) 0) (getD (set now bed word) b 0)
         each b l h true e =
             let here : b ≡ bed = eqb-true b bed e in
             let old : sum ≡ getD sums b 0 = rw here (isSum ∙ added .waiting bed (omega arith)) in
-            ap sumIn (ap (λ i. getD (set now bed word) i 0) here ∙ getD-set-same now bed word 0 (omega (arith, added-bed, added .long)))
-            ∙ is ∙ ap₂ (λ x y. plus (sumIn x) (saidBy y)) old (isEntry ∙ ap (λ i. getD store (from + i) 0) (sym here))
+            let new : word ≡ getD (set now bed word) b 0 = sym (ap (λ i. getD (set now bed word) i 0) here ∙ getD-set-same now bed word 0 (omega (arith, added-bed, added .long))) in
+            rw (← old, ← new, here, ← isEntry) is
         each b l h false e =
             let other = eqb-false b bed e in
-            ap sumIn (getD-set-other now bed b word 0 other) ∙ added .done b l (omega (arith, other))
+            rw (getD-set-other now bed b word 0 other) (added .done b l (omega (arith, other)))
 
   pub added-done : {now : List ℕ} {bed : ℕ} → end ≤ bed → Added store from first end sums now bed → GivesEntries store from first end sums now
   added-done past added = record { long = added .long; each = λ b l h. added .done b l (omega arith) }

@@ -15,13 +15,14 @@ use Rattle.buckets.specs.Terms.{Fitting, placeAt, Prepared}
 use Rattle.held_region.specs.Meaning.{saidBy}
 use Rattle.pricing.specs.Pricing.{sumIn}
 use Rattle.pricing.specs.Costs.{fitting-set}
-use Rattle.pricing.specs.BedCosts.{Small, AsksEntries, GivesEntries, Asks, Gives}
+use Rattle.pricing.specs.BedCosts.{Small, mostAdded, AsksEntries, GivesEntries, Asks, Gives}
 use Rattle.pricing.proofs.Chains.{Left, left-start, left-most, left-later, left-next-most, left-beside, left-inside, left-small, left-next, left-done}
 
 -- Where the loop stands: for each bed, the sum so far and the tables that are left, whose terms begin at k.
 pub record Sums (store patients terms places : List ℕ) (s first end : ℕ) (sums : List ℕ) (k : ℕ) : Type 0 where
   pub long : length sums ≡ 16
   pub few : (bed n : ℕ) → first ≤ bed → bed < end → sumIn (getD sums bed 0) ≡ some n → n ≤ k * 1_000_000
+  pub most : (bed : ℕ) → first ≤ bed → bed < end → getD sums bed 0 ≤ k * mostAdded
   pub left : (r : Region) (beds : Plan) → Prepared r store patients terms → Fitting r beds → Kept terms beds places → s < length (r .patients) → s < length beds
       → (bed : ℕ) → first ≤ bed → bed < end → Left r store terms s (set beds s bed) (sumIn (getD sums bed 0)) k
 
@@ -49,6 +50,7 @@ module _ {store patients terms places : List ℕ} {s first end : ℕ} {zeros : L
   sums-start = record {
     long = ap length (asks .zeros);
     few = λ bed n l h e. (let zero : some 0 ≡ some n = sym (ap sumIn (nothing bed h)) ∙ e in let none : n ≡ 0 = cc in omega arith);
+    most = λ bed l h. omega (arith, nothing bed h);
     left = λ r beds prepared fits kept known long bed l h.
         subst (λ w. Left r store terms s (set beds s bed) (sumIn w) (firstAt patients s)) (sym (nothing bed h)) (left-start r store terms s (set beds s bed) (prepared .bucket s known));
   }
@@ -97,6 +99,7 @@ module _ {store patients terms places : List ℕ} {s first end : ℕ} {zeros : L
           inside = λ bed l h. omega (arith, is, sums-inside bed l h);
           long = so .long;
           small = sums-small;
+          room = λ bed l h. omega (arith, so .most bed l h, sums-most);
         }
 
         module _ {after : List ℕ} (gives : GivesEntries store from first end sums after) where
@@ -104,7 +107,7 @@ module _ {store patients terms places : List ℕ} {s first end : ℕ} {zeros : L
           grown : (beds : Plan) → Kept terms beds places → s < length beds → (bed : ℕ) → first ≤ bed → bed < end
               → sumIn (getD after bed 0) ≡ plus (sumIn (getD sums bed 0)) (saidBy (getD store (placeAt terms k (set beds s bed)) 0))
           grown beds kept long bed l h =
-              gives .each bed l h ∙ ap (λ at. plus (sumIn (getD sums bed 0)) (saidBy (getD store at 0))) (ap (λ n. n + bed) is ∙ place beds kept long bed)
+              gives .each bed l h .is ∙ ap (λ at. plus (sumIn (getD sums bed 0)) (saidBy (getD store at 0))) (ap (λ n. n + bed) is ∙ place beds kept long bed)
 
           pub sums-next : Sums store patients terms places s first end after (nextAt terms k)
           sums-next = record {
@@ -112,6 +115,7 @@ module _ {store patients terms places : List ℕ} {s first end : ℕ} {zeros : L
             few = λ bed n l h e.
                 let parts = halves (sumIn (getD sums bed 0)) (saidBy (getD store (placeAt terms k (set (asks .beds) s bed)) 0)) n (sym (grown (asks .beds) (asks .kept) (asks .long) bed l h) ∙ e) in
                 omega (arith, so .few bed (parts .x) l h (parts .left), left-small (own bed l h) more (own-fits bed h) (parts .y) (parts .right), parts .whole, sums-later .0);
+            most = λ bed l h. omega (arith, gives .each bed l h .most, so .most bed l h, sums-later .0);
             left = λ r beds prepared fits kept known long bed l h.
                 subst (λ o. Left r store terms s (set beds s bed) o (nextAt terms k)) (sym (grown beds kept long bed l h))
                 (left-next (so .left r beds prepared fits kept known long bed l h) more (fitting-set r beds s bed long fits (inside r prepared known bed h)));

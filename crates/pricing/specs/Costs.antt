@@ -4,7 +4,7 @@ use Prim.Native.Nat.{_≤_}
 use native.Mathlib.Omega.{arith}
 use lib.ListN.{set}
 use lib.Seq.{getD-set-same, getD-set-other}
-use borrow.Author.Tests.{ne-eqb, eqb-true, eqb-false}
+use borrow.Author.Tests.{ne-eqb, eqb-true, eqb-false, lt-ltb, le-ltb}
 use Rattle.definitions.specs.Basics.{ℕ, _<_, Bool, true, false, cond, Option, none, some, length, eqb}
 use Rattle.definitions.specs.Syntax.{Region, patientAt}
 use Rattle.definitions.specs.Plans.{Plan, bedOf}
@@ -12,12 +12,15 @@ use Rattle.held_region.specs.Meaning.{mark, codeOf, saidBy}
 use Rattle.buckets.specs.Terms.{Fitting}
 use Rattle.pricing.specs.Pricing.{noSum, sumIn}
 
--- A code that is not the mark is a number; a word that is not the largest is a sum.
+-- A code that is not the mark is a number; a word is a sum or no number.
 pub entry-number : (e : ℕ) → (e ≡ mark → ⊥) → saidBy e ≡ some e
 entry-number e other = ap (λ b. cond b none (some e)) (ne-eqb e mark other)
 
-pub sum-number : (w : ℕ) → (w ≡ noSum → ⊥) → sumIn w ≡ some w
-sum-number w other = ap (λ b. cond b none (some w)) (ne-eqb w noSum other)
+pub sum-number : (w : ℕ) → w < noSum → sumIn w ≡ some w
+sum-number w h = ap (λ b. cond b (some w) none) (lt-ltb w noSum h)
+
+pub sum-none : (w : ℕ) → noSum ≤ w → sumIn w ≡ none
+sum-none w h = ap (λ b. cond b (some w) none) (le-ltb w noSum h)
 
 -- The code of an entry that a table may have.
 pub entry-known : (o : Option ℕ) → ((n : ℕ) → o ≡ some n → n ≤ 1_000_000) → saidBy (codeOf o) ≡ o

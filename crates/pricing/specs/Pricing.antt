@@ -1,6 +1,6 @@
 -- What pricing asks for and gives.
 use Prim.Native.Nat.{_≤_}
-use Rattle.definitions.specs.Basics.{ℕ, _<_, _≡_, Bool, _&&_, cond, Option, none, some, List, length, take, eqb, leb, ltb}
+use Rattle.definitions.specs.Basics.{ℕ, _<_, _≡_, Bool, _&&_, cond, Option, none, some, List, length, take, leb, ltb}
 use Rattle.definitions.specs.Syntax.{Region, patientAt}
 use Rattle.definitions.specs.Questions.{planFits}
 use Rattle.definitions.specs.Plans.{bedOf, costOver, total}
@@ -14,12 +14,12 @@ abbrev pub costIn : Cost → Option ℕ
 costIn Forbidden = none
 costIn (Of n) = some n
 
--- A sum in one word, of which the largest is no number: an entry is forbidden.
+-- A sum in one word: from this one on it is no number, since an entry is forbidden.
 abbrev pub noSum : ℕ
-noSum = 18_446_744_073_709_551_615
+noSum = 1_099_511_627_776
 
 abbrev pub sumIn : ℕ → Option ℕ
-sumIn word = cond (eqb word noSum) none (some word)
+sumIn word = cond (ltb word noSum) (some word) none
 
 -- The words of a term can be used to find a place for a plan.
 pub record Reads (terms : List ℕ) (k : ℕ) : Type 0 where

@@ -1,30 +1,25 @@
 // What each bed of a patient costs, with the beds that the others have.
 ghost use mathlib.Core.Path.{_≡_};
-ghost use Prim.Native.Nat.{_<_};
+ghost use Prim.Native.Nat.{_<_, _≤_};
 ghost use lib.ListN.{getD};
-ghost use Rattle.theorems.specs.Sums.{plus};
-ghost use Rattle.held_region.specs.Meaning.{saidBy};
 ghost use Rattle.pricing.specs.Pricing.{costIn, sumIn};
-ghost use Rattle.pricing.specs.BedCosts.{Small, AsksEntries, GivesEntries, Asks, Gives};
+ghost use Rattle.pricing.specs.BedCosts.{Small, mostWord, OneMore, AsksEntries, GivesEntries, Asks, Gives};
 use crate::Cost;
 use bucket_words::entry_start;
 use bucket_words::first_term;
 use bucket_words::next_term;
 use held_region::FORBIDDEN;
 
-// The word for a sum that is no number, since one of its entries is forbidden.
-const NO_SUM: u64 = 18_446_744_073_709_551_615;
+// From this word on a sum is no number, since one of its entries is forbidden: 64 numbers together are far below it.
+const NO_SUM: u64 = 1_099_511_627_776;
 
 // A sum with one more entry.
 fn add_entry(sum: u64, entry: u32) -> u64
-    requires { ⌜ Small sum ⌝ }
-    ensures { λ r. ⌜ sumIn r ≡ plus (sumIn sum) (saidBy entry) ⌝ }
+    requires { ⌜ Small sum × (sum ≤ mostWord) ⌝ }
+    ensures { λ r. ⌜ OneMore sum entry r ⌝ }
 {
-    if sum == NO_SUM {
-        return NO_SUM;
-    }
     if entry == FORBIDDEN {
-        return NO_SUM;
+        return sum + entry as u64 + NO_SUM;
     }
     sum + entry as u64
 }
@@ -70,7 +65,7 @@ pub fn bed_cost(sums: &[u64; 16], bed: usize) -> Cost
     ensures { λ c. ⌜ costIn c ≡ sumIn (getD (now (sums .entry)) bed 0) ⌝ }
 {
     let sum = sums[bed];
-    if sum == NO_SUM {
+    if NO_SUM <= sum {
         return Cost::Forbidden;
     }
     Cost::Of(sum)

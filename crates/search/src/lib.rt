@@ -117,12 +117,11 @@ pub fn list_region(work: &mut [u32], region: Region, store: &[u32; 4096]) -> usi
     let buckets = prepare(region, store);
     let roots = root_numbers(region);
     let patients = buckets.patients;
-    let terms = buckets.terms;
-    let moves = moves_of(&terms, region.t);
+    let moves = moves_of(&buckets.terms, region.t);
     list_trees(
         work,
         &patients,
-        &terms,
+        &buckets.terms,
         &moves,
         store,
         &roots,

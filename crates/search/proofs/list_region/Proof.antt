@@ -21,13 +21,13 @@ moves-of-requires c κs =
 
 list-trees-requires : tie.Need-list-trees-requires
 list-trees-requires c κs =
-    let roots = c .before .before .before .before .before .before .before .before .before in
+    let roots = c .before .before .before .before .before .before .before .before .before .before in
     let made = roots .before in
     record {
       region = _;
       forest = forest _ _ (made .prepare .ensures .prepared) (roots .root-numbers .ensures _);
       numbered = made .prepare .ensures .numbered;
-      linked = c .before .before .before .before .before .moves-of .ensures;
+      linked = c .before .before .before .before .before .before .moves-of .ensures;
       long = made .before .before .pre .long;
     }
 
@@ -37,7 +37,7 @@ same-length c = search needs
 returns : tie.Need-returns
 returns c =
     let gives = c .before .before .list-trees .ensures in
-    let roots = c .before .before .before .before .before .before .before .before .before .before .before .before in
+    let roots = c .before .before .before .before .before .before .before .before .before .before .before .before .before in
     record {
       count = gives .count;
       long = gives .long;

@@ -1,19 +1,23 @@
+use borrow.Author.Needs.{needs}
 use native.Mathlib.Omega.{arith}
-use Rattle.pricing.proofs.Adding.{add-to-none, add-mark, small-number, add-number}
+use Rattle.pricing.proofs.Adding.{add-mark, add-number}
 use Rattle.pricing.proofs.beds.add_entry.Statement.{statement}
 use Rattle.pricing.proofs.beds.add_entry.Tie as tie
 
+add-result : tie.Need-add-result
+add-result c = search needs
+
+add-result-2 : tie.Need-add-result-2
+add-result-2 c = search needs
+
 returns : tie.Need-returns
-returns c = add-to-none (c .before .args .sum) (c .before .args .entry) (c .if1 .taken)
+returns c = add-mark _ _ (c .if1 .taken)
+
+add-result-3 : tie.Need-add-result-3
+add-result-3 c = search needs
 
 returns-2 : tie.Need-returns-2
-returns-2 c = add-mark (c .before .before .args .sum) (c .before .before .args .entry) (c .if2 .taken)
-
-add-result : tie.Need-add-result
-add-result c = omega (arith, small-number _ (c .before .before .pre) (c .before .if1 .left))
-
-returns-3 : tie.Need-returns-3
-returns-3 c = add-number _ _ (c .before .before .pre) (c .before .if1 .left) (c .if2 .left) (omega arith)
+returns-2 c = add-number _ _ (c .before .pre .0) (c .if1 .left) (omega arith)
 
 pub add-entry-spec : {M : Type 1} → statement M
-add-entry-spec = tie.close (tie.spec returns returns-2 add-result returns-3)
+add-entry-spec = tie.close (tie.spec add-result add-result-2 returns add-result-3 returns-2)

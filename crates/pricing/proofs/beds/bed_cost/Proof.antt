@@ -1,7 +1,6 @@
 use borrow.Author.Needs.{needs}
-use mathlib.Core.Path.{sym, ap}
-use Rattle.pricing.specs.Pricing.{sumIn}
-use Rattle.pricing.specs.Costs.{sum-number}
+use mathlib.Core.Path.{sym}
+use Rattle.pricing.specs.Costs.{sum-number, sum-none}
 use Rattle.pricing.proofs.beds.bed_cost.Statement.{statement}
 use Rattle.pricing.proofs.beds.bed_cost.Tie as tie
 
@@ -12,7 +11,7 @@ element-copy-out-sum : tie.Need-element-copy-out-sum
 element-copy-out-sum c = search needs
 
 returns : tie.Need-returns
-returns c = sym (ap sumIn (c .if1 .taken))
+returns c = sym (sum-none _ (c .if1 .taken))
 
 returns-2 : tie.Need-returns-2
 returns-2 c = sym (sum-number _ (c .if1 .left))
