@@ -2,11 +2,12 @@
 use mathlib.Core.Path.{_≡_, refl, sym, ap, _∙_}
 use Prim.Native.Nat.{_≤_}
 use native.Mathlib.Decide.{decLt}
+use native.Mathlib.Nat.{add-zero}
 use native.Mathlib.Omega.{arith}
 use lib.ListN.{set, length-set}
 use lib.Seq.{getD-set-same, getD-set-other}
 use borrow.Author.Tests.{eqb-true, eqb-false}
-use Rattle.definitions.specs.Basics.{ℕ, _+_, _<_, Bool, true, false, List, length, getD, eqb}
+use Rattle.definitions.specs.Basics.{ℕ, _+_, _<_, Bool, true, false, cond, List, length, getD, eqb}
 use Rattle.theorems.specs.Sums.{plus, plus-none}
 use Rattle.held_region.specs.Meaning.{mark, saidBy}
 use Rattle.pricing.specs.Pricing.{noSum, sumIn}
@@ -15,20 +16,35 @@ use Rattle.pricing.specs.BedCosts.{Small, mostWord, OneMore, AsksEntries
 
 -- ---- one more entry
 
-pub add-mark : (sum entry : ℕ) → entry ≡ mark → OneMore sum entry (sum + entry + noSum)
+add-mark : (sum entry : ℕ) → entry ≡ mark → OneMore sum entry (sum + entry + noSum)
 add-mark sum entry e = record {
   is = sum-none (sum + entry + noSum) (omega arith) ∙ sym (plus-none (sumIn sum)) ∙ ap (λ w. plus (sumIn sum) (saidBy w)) (sym e);
   most = omega arith;
 }
 
-pub add-number : (sum entry : ℕ) → Small sum → (entry ≡ mark → ⊥) → entry < 4_294_967_296 → OneMore sum entry (sum + entry)
+add-number : (sum entry : ℕ) → Small sum → (entry ≡ mark → ⊥) → entry < 4_294_967_296 → OneMore sum entry (sum + entry + 0)
 add-number sum entry small other fits = record { is = by-sum (decLt sum noSum); most = omega arith }
   where
-    by-sum : Dec (sum < noSum) → sumIn (sum + entry) ≡ plus (sumIn sum) (saidBy entry)
+    by-sum : Dec (sum < noSum) → sumIn (sum + entry + 0) ≡ plus (sumIn sum) (saidBy entry)
     by-sum (yes h) =
         let number = sum-number sum h in
-        sum-number (sum + entry) (omega (arith, small sum number)) ∙ sym (rw (number, entry-number entry other) refl)
-    by-sum (no h) = sum-none (sum + entry) (omega arith) ∙ sym (ap (λ o. plus o (saidBy entry)) (sum-none sum (omega arith)))
+        ap sumIn (add-zero (sum + entry)) ∙ sum-number (sum + entry) (omega (arith, small sum number)) ∙ sym (rw (number, entry-number entry other) refl)
+    by-sum (no h) = sum-none (sum + entry + 0) (omega arith) ∙ sym (ap (λ o. plus o (saidBy entry)) (sum-none sum (omega arith)))
+
+pub added-most : (entry : ℕ) {more : ℕ} → more ≡ cond (eqb entry mark) noSum 0 → more ≤ noSum
+added-most entry is = by-code (eqb entry mark) is
+  where
+    by-code : (forbidden : Bool) {more : ℕ} → more ≡ cond forbidden noSum 0 → more ≤ noSum
+    by-code true is = omega (arith, is)
+    by-code false is = omega (arith, is)
+
+-- Its code is added, and for the mark what makes it no number.
+pub add-one : (sum entry more : ℕ) → Small sum → entry < 4_294_967_296 → more ≡ cond (eqb entry mark) noSum 0 → OneMore sum entry (sum + entry + more)
+add-one sum entry more small fits is = by-code (eqb entry mark) refl is
+  where
+    by-code : (forbidden : Bool) → eqb entry mark ≡ forbidden → more ≡ cond forbidden noSum 0 → OneMore sum entry (sum + entry + more)
+    by-code true e is = rw is (add-mark sum entry (eqb-true entry mark e))
+    by-code false e is = rw is (add-number sum entry small (eqb-false entry mark e) fits)
 
 -- ---- one more entry for each bed
 

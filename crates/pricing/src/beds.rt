@@ -2,7 +2,9 @@
 ghost use mathlib.Core.Path.{_≡_};
 ghost use Prim.Native.Nat.{_<_, _≤_};
 ghost use lib.ListN.{getD};
-ghost use Rattle.pricing.specs.Pricing.{costIn, sumIn};
+ghost use Rattle.definitions.specs.Basics.{cond, eqb};
+ghost use Rattle.held_region.specs.Meaning.{mark};
+ghost use Rattle.pricing.specs.Pricing.{costIn, noSum, sumIn};
 ghost use Rattle.pricing.specs.BedCosts.{Small, mostWord, OneMore, AsksEntries, GivesEntries, Asks, Gives};
 use crate::Cost;
 use bucket_words::entry_start;
@@ -13,15 +15,22 @@ use held_region::FORBIDDEN;
 // From this word on a sum is no number, since one of its entries is forbidden: 64 numbers together are far below it.
 const NO_SUM: u64 = 1_099_511_627_776;
 
+// What makes a sum no number: that much for a forbidden entry, and nothing for a number.
+fn no_sum_for(entry: u32) -> u64
+    ensures { λ n. ⌜ n ≡ cond (eqb entry mark) noSum 0 ⌝ }
+{
+    if entry == FORBIDDEN {
+        return NO_SUM;
+    }
+    0
+}
+
 // A sum with one more entry.
 fn add_entry(sum: u64, entry: u32) -> u64
     requires { ⌜ Small sum × (sum ≤ mostWord) ⌝ }
     ensures { λ r. ⌜ OneMore sum entry r ⌝ }
 {
-    if entry == FORBIDDEN {
-        return sum + entry as u64 + NO_SUM;
-    }
-    sum + entry as u64
+    sum + entry as u64 + no_sum_for(entry)
 }
 
 // Adds to the sum of each bed from the first to before the end the entry for it: the entries lie side by side, that for bed 0 at a place.
