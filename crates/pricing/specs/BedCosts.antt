@@ -18,7 +18,7 @@ Small word = (n : ℕ) → sumIn word ≡ some n → n ≤ mostTotal
 
 -- What one entry adds to a word at most, and a word that 64 entries made.
 abbrev pub mostAdded : ℕ
-mostAdded = 2_199_023_255_552
+mostAdded = 2_000_000_000_000
 
 abbrev pub mostWord : ℕ
 mostWord = 64 * mostAdded

@@ -16,7 +16,7 @@ costIn (Of n) = some n
 
 -- A sum in one word: from this one on it is no number, since an entry is forbidden.
 abbrev pub noSum : ℕ
-noSum = 1_099_511_627_776
+noSum = 1_000_000_000_000
 
 abbrev pub sumIn : ℕ → Option ℕ
 sumIn word = cond (ltb word noSum) (some word) none

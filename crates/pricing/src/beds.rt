@@ -13,7 +13,7 @@ use bucket_words::next_term;
 use held_region::FORBIDDEN;
 
 // From this word on a sum is no number, since one of its entries is forbidden: 64 numbers together are far below it.
-const NO_SUM: u64 = 1_099_511_627_776;
+const NO_SUM: u64 = 1_000_000_000_000;
 
 // What makes a sum no number: that much for a forbidden entry, and nothing for a number.
 fn no_sum_for(entry: u32) -> u64
