@@ -8,7 +8,7 @@ ghost use Rattle.kept_places.specs.Moves.{moveAt, Linked, AsksMove, Give
 ghost use Rattle.kept_places.specs.Steps.{AsksAdd, Added, AsksTerm};
 
 // The end of a patient's moves.
-const NO_MOVE: u32 = 608;
+const NO_MOVE: u16 = 608;
 
 // The stride of a member behind which another one comes; 0 for the highest, whose beds lie side by side, and where there is no member.
 fn low_stride(terms: &[u32; 640], k: usize, j: usize) -> usize
@@ -22,18 +22,18 @@ fn low_stride(terms: &[u32; 640], k: usize, j: usize) -> usize
 }
 
 // A move in front of its patient's others.
-fn add_move(moves: &mut [u32; 608], s: usize, k: usize, by: usize, at: usize)
+fn add_move(moves: &mut [u16; 608], s: usize, k: usize, by: usize, at: usize)
     requires { ⌜ AsksAdd s k by at (now moves) ⌝ }
     ensures { λ _. ⌜ Added s k by at (now (moves .entry)) (now (moves .exit)) ⌝ }
 {
-    moves[at] = k as u32;
-    moves[at + 1] = by as u32;
+    moves[at] = k as u16;
+    moves[at + 1] = by as u16;
     moves[at + 2] = moves[s];
-    moves[s] = at as u32;
+    moves[s] = at as u16;
 }
 
 // The moves of a term's members, the last of them first.
-fn add_moves(moves: &mut [u32; 608], terms: &[u32; 640], k: usize)
+fn add_moves(moves: &mut [u16; 608], terms: &[u32; 640], k: usize)
     requires { ⌜ AsksTerm (now terms) k (now moves) ⌝ }
     ensures { λ _. ⌜ Linked (now (terms .entry)) (moveAt k 0) (now (moves .exit)) ⌝ }
 {
@@ -48,7 +48,7 @@ fn add_moves(moves: &mut [u32; 608], terms: &[u32; 640], k: usize)
 }
 
 // The moves of all patients: the first t terms say something.
-pub fn moves_of(terms: &[u32; 640], t: usize) -> [u32; 608]
+pub fn moves_of(terms: &[u32; 640], t: usize) -> [u16; 608]
     requires { ⌜ Bounded (now terms) t ⌝ }
     ensures { λ moves. ⌜ Linked (now (terms .entry)) 32 moves ⌝ }
 {
@@ -62,7 +62,7 @@ pub fn moves_of(terms: &[u32; 640], t: usize) -> [u32; 608]
 }
 
 // A patient's bed changes: the place of each table that it moves is adjusted, and no other.
-pub fn move_places(places: &mut [u32; 64], moves: &[u32; 608], s: usize, old: usize, new: usize)
+pub fn move_places(places: &mut [u32; 64], moves: &[u16; 608], s: usize, old: usize, new: usize)
     requires { ⌜ AsksMove (now moves) s old new (now places) ⌝ }
     ensures { λ _. ⌜ GivesMove (now (moves .entry)) s old new (now (places .entry)) (now (places .exit)) ⌝ }
 {

@@ -78,7 +78,7 @@ pub fn walk(
     places: &mut [u32; 64],
     patients: &[u32; 160],
     terms: &[u32; 640],
-    moves: &[u32; 608],
+    moves: &[u16; 608],
     entries: &[u32; 4096],
     beds: &[u8; 32],
     v: usize,
