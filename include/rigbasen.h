@@ -183,7 +183,7 @@ uint64_t rigbasen_write(const uint8_t *patients, size_t patients_length,
  * - The areas that a call writes overlap none of its other areas, and nobody else writes to any of them meanwhile.
  *   (The library has no variables of its own, so threads may call at once, each with its own areas.)
  * - RIGBASEN_STACK_BYTES of stack are free: the work area is there. By measure, check and line take about 38,000 bytes,
- *   price 47,000, write 63,000, list up to 111,000 and sheet up to 118,000, the most where 32 patients are one tree.
+ *   price 47,000, write 63,000, list up to 113,000 and sheet up to 120,000, the most where 32 patients are one tree.
  * - Time. A call always ends, but where one tree holds many patients under many tables it can take very long.
  */
 

@@ -30,7 +30,7 @@ all-count r a = every-all (countsFor everybody) (r .tables) (λ t k.
     ap (λ m. contains m (lowest (t .members))) members-full
     ∙ contains-numbers 0 32 (lowest (t .members)) (omega arith) (omega (arith, right .known (lowest-in (t .members) (right .some)), patients-few r a)))
 
--- The words say the buckets of the tables that count, and all terms; so for every table.
+-- The words say the buckets of the tables that count, and each of these has the term of its number; where all count, so of the whole region.
 pub record PreparedFor (counts : Table → Bool) (r : Region) (store patients terms : List ℕ) : Type 0 where
   pub prepared : Prepared (withTables r counts) store patients terms
   pub numbered : Numbered r counts store terms
