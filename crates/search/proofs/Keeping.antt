@@ -10,7 +10,7 @@ use borrow.Author.Tests.{eq-eqb}
 use Rattle.definitions.specs.Basics.{ℕ, _+_, _-_, _*_, _<_, true, List, length, replicate, getD}
 use Rattle.definitions.specs.Syntax.{Region}
 use Rattle.definitions.specs.Plans.{bedOf, placeIn, constraints}
-use Rattle.lists.specs.Members.{_∈_, getD-in, in-append-left}
+use Rattle.lists.specs.Members.{getD-in, in-append-left}
 use Rattle.lists.specs.Every.{any-out}
 use Rattle.theorems.specs.Accepted.{Accepted, TableRight, table-right, tables-few}
 use Rattle.partial_rows.specs.Sets.{Patients}

@@ -16,7 +16,7 @@ use Rattle.partial_rows.specs.Rows.{Position, decidedTables, withBed, LowerBoun
 use Rattle.partial_rows.specs.Branches.{position-bed}
 use Rattle.bucket_words.specs.Words.{leastAt, firstBedAt, bedEndAt}
 use Rattle.bucket_words.specs.Kept.{Kept}
-use Rattle.buckets.specs.Terms.{Fitting, leastIn, fitting-low}
+use Rattle.buckets.specs.Terms.{Fitting, leastIn}
 use Rattle.pricing.specs.BedCosts as Price
 use Rattle.pricing.specs.Pricing.{sumIn}
 use Rattle.pricing.specs.Costs.{fitting-set}
@@ -51,7 +51,7 @@ module _ {r : Region} {store patients terms : List ℕ} {v : ℕ} {head : Branch
   pub decided : decidedTables r (only s) (contains others) ≡ decidedAt r s
   decided = bucket-decided r s split low (heads .upward)
 
-  pub fits-next : SumsFit head → (bed : ℕ) → bed < patientAt r s .bedCount → Fitting r (set (head .plan .beds) s bed)
+  fits-next : SumsFit head → (bed : ℕ) → bed < patientAt r s .bedCount → Fitting r (set (head .plan .beds) s bed)
   fits-next sumsFit bed h = fitting-set r (head .plan .beds) s bed (omega (arith, known, heads .counted, heads .few, sumsFit .beds)) (heads .fits) h
 
   -- The bed that is set.
@@ -100,17 +100,13 @@ module _ {r : Region} {store patients terms : List ℕ} {v : ℕ} {head : Branch
         zeros = refl;
       }
 
--- With one more bed below 16 all are still.
+-- Four bits hold each bed, also with one more that they hold.
 pub low-set : (beds : List ℕ) (s bed : ℕ) → bed < 16 → ((q : ℕ) → bedOf beds q < 16) → (q : ℕ) → bedOf (set beds s bed) q < 16
 low-set [] s bed small low q = low q
 low-set (x ∷ beds) zero bed small low zero = small
 low-set (x ∷ beds) zero bed small low (suc q) = low (suc q)
 low-set (x ∷ beds) (suc s) bed small low zero = low zero
 low-set (x ∷ beds) (suc s) bed small low (suc q) = low-set beds s bed small (λ p. low (suc p)) q
-
--- Four bits hold each bed that fits.
-pub low-beds : {r : Region} {store patients terms : List ℕ} {v : ℕ} {head : Branching} → Heads r store patients terms v head → (beds : List ℕ) → Fitting r beds → (q : ℕ) → q < v → bedOf beds q < 16
-low-beds {r} heads beds fits q h = fitting-low r (heads .prepared .accepted) beds fits q (omega (arith, heads .counted))
 
 -- What is asked for on the way to the head below a bed.
 module _ {store patients terms : List ℕ} {head : Branching} {s bed : ℕ} (asks : AsksNext store patients terms head s bed) where

@@ -31,7 +31,7 @@ use Rattle.packed_rows.specs.Packing.{packedRow}
 use Rattle.row_list.specs.Rows.{rowIn, rowsIn, Room, Inserted}
 use Rattle.row_list.specs.Laws.{unpadded-long, unpadded-at}
 use Rattle.search.specs.Walks.{Branching, remaining, leftIn, headRow, SumsFit, Heads, BranchOf, AsksNext, Below, Decides, AllPadded, isPast, AsksCut, Asks, Gives}
-use Rattle.search.proofs.Steps.{known, few, without-bed, inside-beds, not-before-first, not-from-end, low-beds, low-set, split, decided, fits-next, asks-few, asks-room, below-split, row-below, sums-fit-below, heads-below, bound-holds}
+use Rattle.search.proofs.Steps.{known, few, without-bed, inside-beds, not-before-first, not-from-end, low-set, split, decided, asks-few, asks-room, below-split, row-below, sums-fit-below, heads-below, bound-holds}
 use Rattle.search.proofs.Keeping.{kept-none, kept-again, kept-left, kept-places}
 use Rattle.search.proofs.Padded.{row-padded, row-unpadded, inserted-unpadded, inserted-padded}
 
@@ -87,7 +87,7 @@ module _ {store patients terms moves : List ℕ} {v n m : ℕ} {area lent : List
       row = row-padded v (head .cost) (head .plan .beds) few (asks .sumsFit .beds) x packed
 
       is : unpadded v (rowOf x) ≡ headRow v head
-      is = row-unpadded v (head .cost) (head .plan .beds) few (asks .sumsFit .beds) x packed (low-beds (asks .heads) (head .plan .beds) (asks .heads .fits))
+      is = row-unpadded v (head .cost) (head .plan .beds) few (asks .sumsFit .beds) x packed (λ q h. asks .sumsFit .low q)
 
   module _ (asks : Asks store patients terms moves v n m area lent head) {s : ℕ} where
     pub sofar-start : {first end : ℕ} (others : List ℕ) → remaining head ≡ s ∷ others → first ≡ firstBedAt patients s → end ≡ bedEndAt patients s
@@ -191,7 +191,7 @@ module _ {store patients terms moves : List ℕ} {v n m : ℕ} {area lent : List
             few = asks-few asks-next;
             notAll = asks-room asks-next;
             long = asks .sumsFit .beds;
-            low = low-beds (asks .heads) (set (head .plan .beds) s bed) (fits-next (asks .heads) (sofar .lowest) (asks .sumsFit) bed (fits (asks .region) (asks .heads)));
+            low = λ q h. low-set (head .plan .beds) s bed bed-small (asks .sumsFit .low) q;
           }
 
       -- One more bed, however the list grew by its rows.

@@ -107,6 +107,7 @@ pub fn walk(
         len: head.placed,
     };
     let mut found = n;
+    // The bed of s that the places count.
     let mut counted = 0;
     let mut bed = first;
     while bed < end {
