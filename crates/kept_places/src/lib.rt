@@ -7,7 +7,8 @@ ghost use Rattle.bucket_words.specs.Kept.{lowStride, Bounded};
 ghost use Rattle.kept_places.specs.Moves.{moveAt, Linked, AsksMove, GivesMove};
 ghost use Rattle.kept_places.specs.Steps.{AsksAdd, Added, AsksTerm};
 
-// The end of a patient's moves.
+// The words of the moves: first, for each of 32 patients, the place of its first move; then for three members of each term a move,
+// which has its term, its stride and the place of the patient's next move. The end of a patient's moves:
 const NO_MOVE: u16 = 608;
 
 // The stride of a member behind which another one comes; 0 for the highest, whose beds lie side by side, and where there is no member.
