@@ -11,6 +11,7 @@ use Rattle.definitions.specs.Basics.{ℕ, zero, suc, _+_, _-_, _*_, _<_, Bool, 
 use Rattle.definitions.specs.Plans.{bedOf}
 use Rattle.bucket_words.specs.Words.{memberAt}
 use Rattle.bucket_words.specs.Kept.{lowStride, keptAt, Kept}
+use Rattle.kept_places.specs.Beds.{low-set}
 use Rattle.kept_places.specs.Moves.{moveAt, termIn, strideIn, nextIn, strideFor, MoveOf, Leads, Says, Linked, AsksMove, GivesMove}
 use Rattle.kept_places.proofs.Strides.{low-within}
 
@@ -214,17 +215,11 @@ module _ {moves before : List ℕ} {s old new : ℕ} (asks : AsksMove moves s ol
   stride-near : (k j : ℕ) → k < 64 → j < 3 → lowStride terms k j ≤ 4096
   stride-near k j few slot = low-within terms k j 4096 (asks .bounded .near k j few (omega arith))
 
-  changed-low : (q : ℕ) → bedOf (set beds s new) q < 16
-  changed-low q = elim (ℕ-discrete q s) [
-    | yes e ↦ rw (e, getD-set-same beds s new 0 inside) (asks .small)
-    | no t ↦ rw (getD-set-other beds s q new 0 t) (asks .low q)
-  ]
-
   half-most : (low k : ℕ) → k < 64 → halfAt terms beds (set beds s new) low k ≤ 184320
   half-most low k few = total-most (partAt terms beds (set beds s new) low k) 61440 (λ j h. each j h (ltb (moveAt k j) low))
     where
       each : (j : ℕ) → j < 3 → (made : Bool) → part terms (cond made (set beds s new) beds) k j ≤ 61440
-      each j h true = part-most (changed-low (memberAt terms k j)) (stride-near k j few h)
+      each j h true = part-most (low-set beds s new (asks .small) (asks .low) (memberAt terms k j)) (stride-near k j few h)
       each j h false = part-most (asks .low (memberAt terms k j)) (stride-near k j few h)
 
   module _ {places : List ℕ} {at : ℕ} (half : Halfway moves s old new before places at) (more : at < 608) where

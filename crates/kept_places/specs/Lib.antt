@@ -1,2 +1,3 @@
+pub mod Beds
 pub mod Moves
 pub mod Steps

@@ -5,7 +5,7 @@ use native.Mathlib.Omega.{arith}
 use lib.ListN.{set, length-set}
 use lib.Seq.{take-set-lt, getD-set-same}
 use borrow.Author.Tests.{eq-eqb}
-use Rattle.definitions.specs.Basics.{ℕ, zero, suc, _+_, _<_, true, not, _&&_, _||_, Option, none, List, [], _∷_, map, length, getD, take, sum, eqb, isEmpty, contains, ltb, everyTwo, replicate}
+use Rattle.definitions.specs.Basics.{ℕ, _+_, _<_, true, not, _&&_, _||_, Option, none, List, _∷_, map, length, getD, take, sum, eqb, isEmpty, contains, ltb, everyTwo, replicate}
 use Rattle.definitions.specs.Syntax.{Region, patientAt}
 use Rattle.definitions.specs.Plans.{bedOf, costOver}
 use Rattle.theorems.specs.Accepted.{mostTotal}
@@ -16,6 +16,7 @@ use Rattle.partial_rows.specs.Rows.{Position, decidedTables, withBed, LowerBoun
 use Rattle.partial_rows.specs.Branches.{position-bed}
 use Rattle.bucket_words.specs.Words.{leastAt, firstBedAt, bedEndAt}
 use Rattle.bucket_words.specs.Kept.{Kept}
+use Rattle.kept_places.specs.Beds.{low-set}
 use Rattle.buckets.specs.Terms.{Fitting, leastIn}
 use Rattle.pricing.specs.BedCosts as Price
 use Rattle.pricing.specs.Pricing.{sumIn}
@@ -99,14 +100,6 @@ module _ {r : Region} {store patients terms : List ℕ} {v : ℕ} {head : Branch
         long = inside-beds sumsFit;
         zeros = refl;
       }
-
--- Four bits hold each bed, also with one more that they hold.
-pub low-set : (beds : List ℕ) (s bed : ℕ) → bed < 16 → ((q : ℕ) → bedOf beds q < 16) → (q : ℕ) → bedOf (set beds s bed) q < 16
-low-set [] s bed small low q = low q
-low-set (x ∷ beds) zero bed small low zero = small
-low-set (x ∷ beds) zero bed small low (suc q) = low (suc q)
-low-set (x ∷ beds) (suc s) bed small low zero = low zero
-low-set (x ∷ beds) (suc s) bed small low (suc q) = low-set beds s bed small (λ p. low (suc p)) q
 
 -- What is asked for on the way to the head below a bed.
 module _ {store patients terms : List ℕ} {head : Branching} {s bed : ℕ} (asks : AsksNext store patients terms head s bed) where

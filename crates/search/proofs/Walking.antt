@@ -23,6 +23,7 @@ use Rattle.partial_rows.specs.Padding.{unpadded, Padded}
 use Rattle.partial_rows.specs.Walk.{BranchBelow, walk-leaf, walk-cut, walk-none, ready-bed, walk-bed, walk-skip, walk-all}
 use Rattle.bucket_words.specs.Words.{firstBedAt, bedEndAt}
 use Rattle.bucket_words.specs.Kept.{Kept}
+use Rattle.kept_places.specs.Beds.{low-set}
 use Rattle.kept_places.specs.Moves.{AsksMove, GivesMove}
 use Rattle.buckets.specs.Permitted.{permitted-some, permitted-most}
 use Rattle.packed_rows.specs.declared.Row as Code
@@ -31,7 +32,7 @@ use Rattle.packed_rows.specs.Packing.{packedRow}
 use Rattle.row_list.specs.Rows.{rowIn, rowsIn, Room, Inserted}
 use Rattle.row_list.specs.Laws.{unpadded-long, unpadded-at}
 use Rattle.search.specs.Walks.{Branching, remaining, leftIn, headRow, SumsFit, Heads, BranchOf, AsksNext, Below, Decides, AllPadded, isPast, AsksCut, Asks, Gives}
-use Rattle.search.proofs.Steps.{known, few, without-bed, inside-beds, not-before-first, not-from-end, low-set, split, decided, asks-few, asks-room, below-split, row-below, sums-fit-below, heads-below, bound-holds}
+use Rattle.search.proofs.Steps.{known, few, without-bed, inside-beds, not-before-first, not-from-end, split, decided, asks-few, asks-room, below-split, row-below, sums-fit-below, heads-below, bound-holds}
 use Rattle.search.proofs.Keeping.{kept-none, kept-again, kept-left, kept-places}
 use Rattle.search.proofs.Padded.{row-padded, row-unpadded, inserted-unpadded, inserted-padded}
 
