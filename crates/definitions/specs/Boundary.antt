@@ -6,6 +6,7 @@ use Rattle.definitions.specs.Plans.{Plan}
 use Rattle.definitions.specs.Questions.{Asks, callAsks, regionOf, roomForRows, checkOf, askedByList, askedBySheet, askedByPrice}
 use Rattle.definitions.specs.Outcomes.{Found, listFound, sheetFound, written, bedsAfter, costsAfter, PriceOutcome, priceFound}
 use Rattle.definitions.specs.Writer.{regionFrom, writtenFile, askedByWrite, Made, madeBy, outputAfter}
+use Rattle.definitions.specs.Joining.{WhichFile, neitherFile, firstFile, secondFile, refusedFile, askedByJoin, joinMade}
 use Rattle.definitions.specs.Lookup.{FilePart, askedByLine, LineOutcome, lineFound}
 
 -- A number in so many bytes, lowest byte first.
@@ -125,19 +126,19 @@ askedByLentWrite patients tables entries m output =
     let asks = askedByWrite (lentRegion patients tables entries m) output in
     record { first = (2, lentWhole patients tables entries) ∷ asks .first; later = asks .later }
 
--- What a writer's call gives back: the number, the output area, and the result area, which holds the byte count.
+-- What a writer's call gives back: the number, the output area, and the result area, which holds the byte count and perhaps more numbers.
 pub record WriteCall : Type 0 where
   pub number : ℕ
   pub output : List ℕ
   pub result : List ℕ
 
-unfoldable pub writeCallOf : Made → List ℕ → List ℕ → WriteCall
-writeCallOf made output result = record { number = made .number; output = outputAfter made output; result = resultAfter (length (made .bytes) ∷ []) result }
+unfoldable pub writeCallOf : Made → List ℕ → List ℕ → List ℕ → WriteCall
+writeCallOf made more output result = record { number = made .number; output = outputAfter made output; result = resultAfter (length (made .bytes) ∷ more) result }
 
 unfoldable pub writeCall : List ℕ → List ℕ → List ℕ → ℕ → List ℕ → List ℕ → WriteCall
 writeCall patients tables entries m output result =
     let asks = askedByLentWrite patients tables entries m output in
-    writeCallOf (madeBy (callAsks asks (roomForNumbers 1 result)) (writtenFile (lentRegion patients tables entries m))) output result
+    writeCallOf (madeBy (callAsks asks (roomForNumbers 1 result)) (writtenFile (lentRegion patients tables entries m))) [] output result
 
 -- ---- the call of line (#103)
 
@@ -151,3 +152,15 @@ lineCallOf found result = record { number = found .number; result = resultAfter 
 
 unfoldable pub lineCall : List ℕ → List ℕ → List ℕ → PairCall
 lineCall file typed result = lineCallOf (lineFound file typed (callAsks (askedByLine file typed) (roomForNumbers 2 result))) result
+
+-- ---- the call of join (#106)
+
+-- The result area holds the byte count and which file the number is about, on a refusal too: 0 neither, 1 the first, 2 the second.
+abbrev pub fileNumber : WhichFile → ℕ
+fileNumber neitherFile = 0
+fileNumber firstFile = 1
+fileNumber secondFile = 2
+
+unfoldable pub joinCall : List ℕ → List ℕ → List ℕ → List ℕ → WriteCall
+joinCall f g output result =
+    writeCallOf (joinMade f g (callAsks (askedByJoin f g output) (roomForNumbers 2 result))) (fileNumber (refusedFile f g) ∷ []) output result

@@ -90,8 +90,8 @@ joinedPatients = patient 0 2 none ∷ patient 1 2 (some 0) ∷ patient 0 3 (some
 abbrev joined : ℕ → List ℕ
 joined m = fileOf m joinedPatients joinedTables
 
-abbrev pub joinedRegion : ℕ → Region
-joinedRegion m = region m joinedPatients joinedTables 0
+abbrev pub clinicsJoined : ℕ → Region
+clinicsJoined m = region m joinedPatients joinedTables 0
 
 -- A table over patients with 2, 3 and 2 beds; its entries are 20, 21 and so on.
 abbrev threeMembers : List ℕ
@@ -301,9 +301,9 @@ pub record Rows : Type 0 where
       sheetOf (regionOf (fileOf 3 (patient 0 2 none ∷ patient 1 1 none ∷ []) (table (0 ∷ []) (some 5 ∷ some 5 ∷ []) ∷ []))) 0
       ≡ row 5 (0 ∷ []) ∷ row 5 (1 ∷ []) ∷ []
   pub byPlaces :
-      map (tablesAmong (joinedRegion 5)) (0 ∷ 1 ∷ [])
+      map (tablesAmong (clinicsJoined 5)) (0 ∷ 1 ∷ [])
       ≡ (table (0 ∷ 1 ∷ []) (ownTable .entries) ∷ table (0 ∷ []) (some 1 ∷ some 2 ∷ []) ∷ []) ∷ (table (0 ∷ []) (some 0 ∷ some 3 ∷ []) ∷ []) ∷ []
-  pub joiningTables : map (joins (joinedRegion 5) 0) joinedTables ≡ false ∷ true ∷ false ∷ false ∷ []
+  pub joiningTables : map (joins (clinicsJoined 5) 0) joinedTables ≡ false ∷ true ∷ false ∷ false ∷ []
   pub asOften :
       map (timesIn (ownTable ∷ table (0 ∷ []) (some 0 ∷ []) ∷ ownTable ∷ [])) (ownTable ∷ table (0 ∷ []) (none ∷ []) ∷ table (1 ∷ []) (some 0 ∷ []) ∷ table (0 ∷ []) (some 0 ∷ []) ∷ table (0 ∷ []) (some 0 ∷ none ∷ []) ∷ [])
       ≡ 2 ∷ 0 ∷ 0 ∷ 1 ∷ 0 ∷ []

@@ -12,6 +12,7 @@ pub mod Isolation
 pub mod Outcomes
 pub mod Writer
 pub mod Lookup
+pub mod Joining
 pub mod Boundary
 pub mod Output
 pub mod Computing

@@ -43,11 +43,15 @@ unfoldable pub membersRight : Region → Bool
 membersRight r =
     every (λ t. within memberCount (length (t .members)) && every (λ s. ltb s (r .patientCount)) (t .members) && everyTwo ltb (t .members)) (r .tables)
 
+-- How many entries some tables have together.
+abbrev pub entriesOf : List Table → ℕ
+entriesOf tables = sum (map (λ t. length (t .entries)) tables)
+
 -- 8. Has each table as many entries as the product of its members' bed counts, and all tables together at most 4,096?
 unfoldable pub entryCountsRight : Region → Bool
 entryCountsRight r =
     every (λ t. eqb (length (t .entries)) (product (bedCounts r (t .members)))) (r .tables)
-    && within entryCount (sum (map (λ t. length (t .entries)) (r .tables)))
+    && within entryCount (entriesOf (r .tables))
 
 -- 9. Is each entry that is a number at most 1,000,000?
 unfoldable pub entriesWithin : Region → Bool

@@ -3,17 +3,18 @@ use Prim.Native.String.{String}
 use Rattle.definitions.specs.Basics.{ℕ, _+_, _-_, _^_, _≡_, refl, true, false, Option, none, some, List, [], _∷_, _++_, map, flatten, flatMap, length, replicate, text, below, numbersFrom, sum}
 use Rattle.definitions.specs.Syntax.{Patient, Table, Region, fixedBeds, patientsOf}
 use Rattle.definitions.specs.Layout.{layout}
-use Rattle.definitions.specs.Plans.{placeIn, stride, entryFor, constraints, listOf}
-use Rattle.definitions.specs.Questions.{regionOf, checkOf}
+use Rattle.definitions.specs.Plans.{Row, placeIn, stride, entryFor, constraints, listOf}
+use Rattle.definitions.specs.Questions.{planAllowed, regionOf, checkOf}
 use Rattle.definitions.specs.Sheets.{lowest, ownTables, ownCost, sheetOf}
 use Rattle.definitions.specs.Outcomes.{priceOutcome}
 use Rattle.definitions.specs.Writer.{writtenFile, WriteOutcome, writeOutcome}
 use Rattle.definitions.specs.Lookup.{bytesAt, LineOutcome, lineOutcome, partOf}
-use Rattle.definitions.specs.Boundary.{bytesOf, lentTableCount, PairCall, WriteCall, writeCall, lineCall}
+use Rattle.definitions.specs.Joining.{joinedRegion, clinicsApart, joinWithin, WhichFile, neitherFile, firstFile, secondFile, JoinOutcome, joinOutcome, firstPairs}
+use Rattle.definitions.specs.Boundary.{bytesOf, lentTableCount, PairCall, WriteCall, writeCall, lineCall, joinCall}
 use Rattle.definitions.specs.Computing.{everything}
-use Rattle.definitions.specs.Examples.{paperFile, patient, fixed, table, region, fileOf, row, lent, cleared, list, refusal, overOneAndTwo, allForbidden}
+use Rattle.definitions.specs.Examples.{textOf, paperFile, patient, fixed, table, region, fileOf, row, lent, cleared, list, refusal, overOneAndTwo, allForbidden}
 use Rattle.definitions.specs.Cases.{paperRegion, eight}
-use Rattle.definitions.specs.Edges.{joinedRegion}
+use Rattle.definitions.specs.Edges.{clinicsJoined, zeros}
 
 -- ---- #101: the writer
 
@@ -289,12 +290,12 @@ threeJoined a b c = region 4 (patient a 1 none ∷ patient b 2 (some 0) ∷ pati
 pub record Shares : Type 0 where
   pub lowestMember : map lowest ((3 ∷ []) ∷ (1 ∷ 2 ∷ []) ∷ (5 ∷ 4 ∷ 8 ∷ []) ∷ (5 ∷ 8 ∷ 4 ∷ []) ∷ []) ≡ 3 ∷ 1 ∷ 4 ∷ 4 ∷ []
   pub joinedTables :
-      map (λ c. map (λ t. t .members) (ownTables (joinedRegion 1) c)) (0 ∷ 1 ∷ 2 ∷ [])
+      map (λ c. map (λ t. t .members) (ownTables (clinicsJoined 1) c)) (0 ∷ 1 ∷ 2 ∷ [])
       ≡ ((0 ∷ 2 ∷ []) ∷ (0 ∷ 1 ∷ []) ∷ (0 ∷ []) ∷ []) ∷ ((1 ∷ []) ∷ []) ∷ [] ∷ []
-  pub joinedShares : shares (0 ∷ 1 ∷ []) (joinedRegion 5) ≡ (3 ∷ 0 ∷ []) ∷ (2 ∷ 3 ∷ []) ∷ (5 ∷ 0 ∷ []) ∷ (6 ∷ 0 ∷ []) ∷ (7 ∷ 0 ∷ []) ∷ []
-  pub firstCame : sheetOf (joinedRegion 5) 0 ≡ row 3 (1 ∷ 0 ∷ []) ∷ row 2 (0 ∷ 2 ∷ []) ∷ row 5 (1 ∷ 2 ∷ []) ∷ row 6 (1 ∷ 1 ∷ []) ∷ []
+  pub joinedShares : shares (0 ∷ 1 ∷ []) (clinicsJoined 5) ≡ (3 ∷ 0 ∷ []) ∷ (2 ∷ 3 ∷ []) ∷ (5 ∷ 0 ∷ []) ∷ (6 ∷ 0 ∷ []) ∷ (7 ∷ 0 ∷ []) ∷ []
+  pub firstCame : sheetOf (clinicsJoined 5) 0 ≡ row 3 (1 ∷ 0 ∷ []) ∷ row 2 (0 ∷ 2 ∷ []) ∷ row 5 (1 ∷ 2 ∷ []) ∷ row 6 (1 ∷ 1 ∷ []) ∷ []
   pub lowestOnly : map (sheetOf (threeJoined 7 2 2)) (2 ∷ 7 ∷ []) ≡ (row 0 (0 ∷ 0 ∷ []) ∷ row 0 (1 ∷ 0 ∷ []) ∷ row 0 (0 ∷ 1 ∷ []) ∷ []) ∷ (row 4 (0 ∷ []) ∷ []) ∷ []
-  pub joinedAdded : sharesAdded (joinedRegion 12) ≡ totals (joinedRegion 12)
+  pub joinedAdded : sharesAdded (clinicsJoined 12) ≡ totals (clinicsJoined 12)
   pub lastClinic : sharesAdded (threeJoined 15 0 0) ≡ 4 ∷ 6 ∷ 9 ∷ []
   pub withFixed : sharesAdded oneStays ≡ 5 ∷ []
   pub fixedBedsForNobody : ownTables oneStays 0 ≡ []
@@ -344,4 +345,117 @@ keptPlaces = record {
   noBedsYet = refl;
   walked = refl;
   entries = refl;
+}
+
+-- ---- #106: two regions joined
+
+-- For m plans: a root of clinic 1 with 2 beds and a child of clinic 2 with 3 beds that keeps bed 1, and a table over both.
+abbrev childKeepsBed : ℕ → Region
+childKeepsBed m = region m (patient 1 2 none ∷ fixed 2 3 (some 0) 1 ∷ []) (table (0 ∷ 1 ∷ []) (some 9 ∷ some 1 ∷ none ∷ some 9 ∷ some 0 ∷ some 9 ∷ []) ∷ []) 0
+
+abbrev second : List ℕ
+second = writtenFile (childKeepsBed 2)
+
+-- The paper's file and this one, joined.
+abbrev joinedText : List ℕ
+joinedText = textOf (
+    "(region 4 3 2)" ∷ "(patient 0 2 - -)" ∷ "(patient 0 2 0 -)" ∷ "(patient 1 2 - -)" ∷ "(patient 2 3 2 1)" ∷ "(cost (0) (3 1))" ∷ "(cost (0 1) (0 2 1 -))"
+    ∷ "(cost (2 3) (9 1 - 9 0 9))" ∷ "(end 9133)" ∷ [])
+
+-- One patient of a clinic, for m plans, and a table of these entries.
+abbrev single : ℕ → ℕ → List (Option ℕ) → Region
+single m c es = region m (patient c (length es) none ∷ []) (table (0 ∷ []) es ∷ []) 0
+
+-- What two regions list together, and the first m pairs of what each lists.
+abbrev listTogether : Region → Region → List Row
+listTogether r s = listOf (joinedRegion r s)
+
+abbrev pairsOf : ℕ → Region → Region → List Row
+pairsOf m r s = firstPairs m (listOf r) (listOf s)
+
+-- Two regions whose pairs have equal totals.
+abbrev equalFirst : Region
+equalFirst = single 4 0 (some 1 ∷ some 0 ∷ [])
+
+abbrev equalSecond : Region
+equalSecond = single 5 1 (some 1 ∷ some 0 ∷ some 1 ∷ [])
+
+-- A refusal of join.
+abbrev joinRefused : ℕ → WhichFile → List ℕ → JoinOutcome
+joinRefused q which output = record { number = q; which = which; count = 0; output = output }
+
+-- So many patients of one clinic; a table over the first so often; a table with so many entries.
+abbrev crowd : ℕ → ℕ → Region
+crowd c n = region 1 (replicate n (patient c 1 none)) [] 0
+
+abbrev manyTables : ℕ → ℕ → Region
+manyTables c n = region 1 (patient c 1 none ∷ []) (replicate n (table (0 ∷ []) (some 0 ∷ []))) 0
+
+abbrev manyEntries : ℕ → ℕ → Region
+manyEntries c n = region 1 (patient c 1 none ∷ []) (table (0 ∷ []) (zeros n) ∷ []) 0
+
+pub record Joins : Type 0 where
+  pub joinedPaper : joinOutcome paperFile second (lent 170) ≡ record { number = 0; which = neitherFile; count = 165; output = joinedText ++ lent 5 }
+  pub otherWay :
+      joinedRegion (childKeepsBed 2) paperRegion .patients ≡ patient 1 2 none ∷ fixed 2 3 (some 0) 1 ∷ patient 0 2 none ∷ patient 0 2 (some 2) ∷ []
+  pub otherTables : map (λ t. t .members) (joinedRegion (childKeepsBed 2) paperRegion .tables) ≡ (0 ∷ 1 ∷ []) ∷ (2 ∷ []) ∷ (2 ∷ 3 ∷ []) ∷ []
+  pub smallerM : map (λ m. joinedRegion (crowd 0 m) (childKeepsBed m) .plansWanted) (1 ∷ 2 ∷ []) ≡ 1 ∷ 1 ∷ []
+  pub joinedRows : listTogether paperRegion (childKeepsBed 2) ≡ row 2 (1 ∷ 0 ∷ 1 ∷ 1 ∷ []) ∷ row 3 (0 ∷ 0 ∷ 1 ∷ 1 ∷ []) ∷ []
+  pub joinedPairs : pairsOf 2 paperRegion (childKeepsBed 2) ≡ row 2 (1 ∷ 0 ∷ 1 ∷ 1 ∷ []) ∷ row 3 (0 ∷ 0 ∷ 1 ∷ 1 ∷ []) ∷ []
+  pub equalRows : listTogether equalFirst equalSecond ≡ row 0 (1 ∷ 1 ∷ []) ∷ row 1 (0 ∷ 1 ∷ []) ∷ row 1 (1 ∷ 0 ∷ []) ∷ row 1 (1 ∷ 2 ∷ []) ∷ []
+  pub equalPairs : pairsOf 4 equalFirst equalSecond ≡ row 0 (1 ∷ 1 ∷ []) ∷ row 1 (0 ∷ 1 ∷ []) ∷ row 1 (1 ∷ 0 ∷ []) ∷ row 1 (1 ∷ 2 ∷ []) ∷ []
+  pub noneWritten : joinOutcome allForbidden (writtenFile (single 1 1 (some 0 ∷ []))) (lent 120) .number ≡ 0
+  pub noneAllowed :
+      map (λ (e : Option ℕ × Option ℕ). planAllowed (joinedRegion (single 1 0 (e .0 ∷ [])) (single 1 1 (e .1 ∷ [])))) ((none, some 0) ∷ (some 0, none) ∷ (some 0, some 0) ∷ [])
+      ≡ false ∷ false ∷ true ∷ []
+  pub firstRefused : joinOutcome (overOneAndTwo 0) [] (lent 5) ≡ joinRefused 10 firstFile (lent 5)
+  pub secondRefused : joinOutcome paperFile [] (lent 5) ≡ joinRefused 2 secondFile (lent 5)
+  pub secondBefore16 : joinOutcome (overOneAndTwo 1) (overOneAndTwo 0) [] ≡ joinRefused 10 secondFile []
+  pub number16 : joinOutcome paperFile paperFile (lent 5) ≡ joinRefused 16 neitherFile (lent 5)
+  pub oneInCommon : clinicsApart (region 1 (patient 1 1 none ∷ patient 2 1 none ∷ []) [] 0) (region 1 (patient 3 1 none ∷ patient 2 1 none ∷ []) [] 0) ≡ false
+  pub before17 : joinOutcome (writtenFile (crowd 0 32)) (writtenFile (crowd 0 1)) [] ≡ joinRefused 16 neitherFile []
+  pub patients17 : map (λ n. joinWithin (crowd 0 31) (crowd 1 n)) (1 ∷ 2 ∷ []) ≡ true ∷ false ∷ []
+  pub tables17 : map (λ n. joinWithin (manyTables 0 60) (manyTables 1 n)) (4 ∷ 5 ∷ []) ≡ true ∷ false ∷ []
+  pub entries17 : map (λ n. joinWithin (manyEntries 0 4_000) (manyEntries 1 n)) (96 ∷ 97 ∷ []) ≡ true ∷ false ∷ []
+  pub before15 : joinOutcome (writtenFile (crowd 0 32)) (writtenFile (crowd 1 1)) [] ≡ joinRefused 17 neitherFile []
+  pub number15 : joinOutcome paperFile second (lent 164) ≡ joinRefused 15 neitherFile (lent 164)
+  pub justFits : joinOutcome paperFile second (lent 165) .output ≡ joinedText
+  pub called : joinCall paperFile second (lent 170) (lent 17) ≡ record { number = 0; output = joinedText ++ lent 5; result = eight 165 ++ eight 0 ++ lent 1 }
+  pub calledFirst : joinCall [] [] (lent 5) (lent 16) ≡ record { number = 2; output = lent 5; result = eight 0 ++ eight 1 }
+  pub calledSecond : joinCall paperFile [] (lent 5) (lent 16) ≡ record { number = 2; output = lent 5; result = eight 0 ++ eight 2 }
+  pub calledNeither : joinCall paperFile paperFile (lent 5) (lent 16) ≡ record { number = 16; output = lent 5; result = eight 0 ++ eight 0 }
+  pub calledShort : joinCall paperFile paperFile (lent 5) (lent 15) ≡ record { number = 12; output = lent 5; result = lent 15 }
+  pub calledSecondFirst : joinCall paperFile [] (lent 5) (lent 15) ≡ record { number = 2; output = lent 5; result = lent 15 }
+
+pub joinsRight : Joins
+unfolding everything lent cleared zeros
+joinsRight = record {
+  joinedPaper = refl;
+  otherWay = refl;
+  otherTables = refl;
+  smallerM = refl;
+  joinedRows = refl;
+  joinedPairs = refl;
+  equalRows = refl;
+  equalPairs = refl;
+  noneWritten = refl;
+  noneAllowed = refl;
+  firstRefused = refl;
+  secondRefused = refl;
+  secondBefore16 = refl;
+  number16 = refl;
+  oneInCommon = refl;
+  before17 = refl;
+  patients17 = refl;
+  tables17 = refl;
+  entries17 = refl;
+  before15 = refl;
+  number15 = refl;
+  justFits = refl;
+  called = refl;
+  calledFirst = refl;
+  calledSecond = refl;
+  calledNeither = refl;
+  calledShort = refl;
+  calledSecondFirst = refl;
 }

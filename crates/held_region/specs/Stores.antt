@@ -2,8 +2,10 @@
 use mathlib.Core.Path.{_≡_, refl, ap, _∙_}
 use Prim.Native.Nat.{_≤_}
 use native.Mathlib.Omega.{arith}
-use Rattle.definitions.specs.Basics.{ℕ, zero, suc, _+_, _<_, none, List, [], _∷_, map, length, getD, sum}
+use Rattle.definitions.specs.Basics.{ℕ, zero, suc, _+_, _<_, none, List, [], _∷_, length, getD}
 use Rattle.definitions.specs.Syntax.{Table, Region}
+-- The number of entries of all tables.
+pub use Rattle.definitions.specs.Questions.{entriesOf}
 use Rattle.held_region.specs.Meaning.{codeOf, sumBefore}
 
 -- The table of a number.
@@ -13,12 +15,9 @@ at tables i = getD tables i (record { members = []; entries = [] })
 abbrev pub tableAt : Region → ℕ → Table
 tableAt r i = at (r .tables) i
 
--- The number of entries of the first tables: where the next table's begin. The number of all.
+-- The number of entries of the first tables: where the next table's begin.
 unfoldable pub startOf : List Table → ℕ → ℕ
 startOf tables = sumBefore (λ i. length (at tables i .entries))
-
-abbrev pub entriesOf : List Table → ℕ
-entriesOf tables = sum (map (λ t. length (t .entries)) tables)
 
 pub start-next : (tables : List Table) (i : ℕ) → startOf tables (suc i) ≡ startOf tables i + length (at tables i .entries)
 unfolding startOf
