@@ -1,0 +1,4 @@
+-- Request #106: what is proved of two regions joined into one file.
+pub mod Shifting
+pub mod Joined
+pub mod Accepted
