@@ -57,7 +57,7 @@ module _ {v : ℕ} {r j : Region} (stands : Stands v r j) (a : Accepted r) where
       let few = both (within memberCount (length (t .members))) (both (within memberCount (length (t .members)) && _) (every-in _ (r .tables) (a .membersFit) k) .0) .0 in
       join (join (ap (within memberCount) (length-map (t .members) (λ s. v + s)) ∙ few)
       (every-map _ (λ s. v + s) (t .members) ∙ every-all _ (t .members) (λ s i. lt-ltb (v + s) (j .patientCount) (omega (arith, right .known i, stands .room)))))
-      (every-two-map ltb ltb (λ s. v + s) (t .members) (λ x y i k. ltb-shifted v x y) ∙ right .rising)
+      (every-two-map (λ s. v + s) ltb ltb (t .members) (λ x y i k. ltb-shifted v x y) ∙ right .rising)
 
   entries-after : (t : Table) → t ∈ r .tables → eqb (length (t .entries)) (product (bedCounts j (shifted v (t .members)))) ≡ true
   entries-after t k =
@@ -70,7 +70,7 @@ module _ {v : ℕ} {r j : Region} (stands : Stands v r j) (a : Accepted r) where
       let right = table-right r a k in
       let among : (x y : ℕ) → x ∈ t .members → contains (ancestors j (v + x)) (v + y) ≡ contains (ancestors r x) y =
       λ x y i. ap (λ l. contains l (v + y)) (ancestors-after x (right .known i)) ∙ contains-shifted v (ancestors r x) y in
-      every-two-map _ _ (λ s. v + s) (t .members) (λ x y i l. ap₂ _||_ (among x y i) (among y x l)) ∙ every-in _ (r .tables) (a .related) k
+      every-two-map (λ s. v + s) _ _ (t .members) (λ x y i l. ap₂ _||_ (among x y i) (among y x l)) ∙ every-in _ (r .tables) (a .related) k
 
 -- ---- the joined region
 

@@ -2,3 +2,7 @@
 pub mod Shifting
 pub mod Joined
 pub mod Accepted
+pub mod Totals
+pub mod Sorting
+pub mod Lists
+pub mod Sheets

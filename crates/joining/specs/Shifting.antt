@@ -1,10 +1,12 @@
 -- Numbers that are each v more: what tests and lists keep of them.
-use mathlib.Core.Path.{_≡_, refl, ap, ap₂, _∙_}
+use mathlib.Core.Path.{_≡_, refl, sym, ap, ap₂, _∙_}
+use mathlib.Core.Bool.{or-assoc}
 use mathlib.Core.List.{map-id}
 use native.Mathlib.Nat.{zero-add}
 use native.Mathlib.Omega.{arith}
 use borrow.Author.Tests.{ltb-true, lt-ltb, eqb-true, eq-eqb}
-use Rattle.definitions.specs.Basics.{ℕ, zero, suc, _+_, Bool, _&&_, _||_, List, [], _∷_, _++_, map, eqb, ltb, numbersFrom, below, everyTwo, contains}
+use Rattle.definitions.specs.Basics.{ℕ, zero, suc, _+_, Bool, true, false, _&&_, _||_, cond, List, [], _∷_, _++_, map, eqb, ltb, numbersFrom, below, any, everyTwo, keep, contains}
+use Rattle.definitions.specs.Isolation.{placeAmong}
 use Rattle.lists.specs.Tests.{same-answer}
 use Rattle.lists.specs.Members.{_∈_, here, there}
 use Rattle.lists.specs.Every.{every-map, every-same}
@@ -16,15 +18,32 @@ shifted v l = map (λ s. v + s) l
 pub not-shifted : (l : List ℕ) → shifted 0 l ≡ l
 not-shifted l = map-same (λ s. 0 + s) (λ s. s) l (λ s k. zero-add s) ∙ map-id l
 
--- ---- tests
+-- ---- tests of images, where what a function gives passes one test as what it is given of passes another
 
--- Any two of what a function gives pass a test where any two that it is given of pass another.
-pub every-two-map : {A B : Type 0} (f : B → B → Bool) (g : A → A → Bool) (h : A → B) (l : List A) → ((x y : A) → x ∈ l → y ∈ l → f (h x) (h y) ≡ g x y)
-    → everyTwo f (map h l) ≡ everyTwo g l
-every-two-map f g h [] same = refl
-every-two-map f g h (x ∷ l) same = ap₂ _&&_
-    (every-map (f (h x)) h l ∙ every-same (λ y. f (h x) (h y)) (g x) l (λ y k. same x y (here refl) (there k)))
-    (every-two-map f g h l (λ y z i k. same y z (there i) (there k)))
+module _ {A B : Type 0} (h : A → B) where
+  pub any-map : (f : B → Bool) (g : A → Bool) (l : List A) → ((x : A) → x ∈ l → f (h x) ≡ g x) → any f (map h l) ≡ any g l
+  any-map f g [] same = refl
+  any-map f g (x ∷ l) same = ap₂ _||_ (same x (here refl)) (any-map f g l (λ y k. same y (there k)))
+
+  pub keep-map : (f : B → Bool) (g : A → Bool) (l : List A) → ((x : A) → x ∈ l → f (h x) ≡ g x) → keep f (map h l) ≡ map h (keep g l)
+  keep-map f g [] same = refl
+  keep-map f g (x ∷ l) same = rw (same x (here refl), keep-map f g l (λ y k. same y (there k))) (go (g x))
+    where
+      go : (b : Bool) → cond b (h x ∷ map h (keep g l)) (map h (keep g l)) ≡ map h (cond b (x ∷ keep g l) (keep g l))
+      go true = refl
+      go false = refl
+
+  pub every-two-map : (f : B → B → Bool) (g : A → A → Bool) (l : List A) → ((x y : A) → x ∈ l → y ∈ l → f (h x) (h y) ≡ g x y) → everyTwo f (map h l) ≡ everyTwo g l
+  every-two-map f g [] same = refl
+  every-two-map f g (x ∷ l) same = ap₂ _&&_
+      (every-map (f (h x)) h l ∙ every-same (λ y. f (h x) (h y)) (g x) l (λ y k. same x y (here refl) (there k)))
+      (every-two-map f g l (λ y z i k. same y z (there i) (there k)))
+
+pub any-append : {A : Type 0} (f : A → Bool) (l m : List A) → any f (l ++ m) ≡ (any f l || any f m)
+any-append f [] m = refl
+any-append f (x ∷ l) m = ap (λ b. f x || b) (any-append f l m) ∙ sym (or-assoc (f x) (any f l) (any f m))
+
+-- ---- numbers
 
 module _ (v : ℕ) where
   pub ltb-shifted : (a b : ℕ) → ltb (v + a) (v + b) ≡ ltb a b
@@ -36,6 +55,10 @@ module _ (v : ℕ) where
   pub contains-shifted : (l : List ℕ) (q : ℕ) → contains (shifted v l) (v + q) ≡ contains l q
   contains-shifted [] q = refl
   contains-shifted (s ∷ l) q = ap₂ _||_ (eqb-shifted q s) (contains-shifted l q)
+
+  pub place-shifted : (l : List ℕ) (s : ℕ) → placeAmong (shifted v l) (v + s) ≡ placeAmong l s
+  place-shifted [] s = refl
+  place-shifted (p ∷ l) s = ap₂ (λ b n. cond b 0 (suc n)) (eqb-shifted p s) (place-shifted l s)
 
 -- ---- the numbers below v + w
 
