@@ -8,7 +8,7 @@ use lib.ListN.{length-append, length-map, List·getD-append}
 use lib.Seq.{getD-append-add}
 use Rattle.definitions.specs.Basics.{ℕ, _+_, _<_, min, Option, none, some, Option·map, List, _++_, map, length, below}
 use Rattle.definitions.specs.Syntax.{Patient, Table, Region, patientNumbers, patientAt}
-use Rattle.definitions.specs.Writer.{regionFrom}
+use Rattle.definitions.specs.Writer.{regionFrom, asHeld}
 use Rattle.definitions.specs.Joining.{patientAfter, tableAfter, joinedRegion}
 use Rattle.lists.specs.Members.{_∈_}
 use Rattle.lists.specs.Maps.{map-same, map-at}
@@ -55,6 +55,10 @@ module _ (r s : Region) where
   pub joined-counted : (length (joinedRegion r s .patients) ≡ joinedRegion r s .patientCount) × (length (joinedRegion r s .tables) ≡ joinedRegion r s .tableCount)
   unfolding joinedRegion regionFrom
   joined-counted = (refl, refl)
+
+  pub joined-held : asHeld (joinedRegion r s) ≡ joinedRegion r s
+  unfolding asHeld joinedRegion regionFrom
+  joined-held = refl
 
   pub joined-many : length (joinedRegion r s .patients) ≡ v + length (s .patients)
   joined-many = ap length joined-patients ∙ length-append (r .patients) _ ∙ ap (λ n. v + n) (length-map (s .patients) (patientAfter v))

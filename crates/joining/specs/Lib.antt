@@ -6,3 +6,4 @@ pub mod Totals
 pub mod Sorting
 pub mod Lists
 pub mod Sheets
+pub mod Promises

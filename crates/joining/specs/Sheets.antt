@@ -1,15 +1,16 @@
 -- Where no table joins it to others, a clinic that only one of the regions has is the same clinic in the joined region.
 use mathlib.Core.Path.{_≡_, refl, sym, ap, ap₂, _∙_}
+use mathlib.Core.Bool.{true≢false, not-eq-not}
 use mathlib.Core.List.{append-nil, map-map}
 use native.Mathlib.Omega.{arith}
-use borrow.Author.Tests.{not-false}
-use Rattle.definitions.specs.Basics.{ℕ, _+_, _<_, false, not, _&&_, _||_, List, [], _∷_, _++_, map, length, eqb, every, any, keep, isEmpty, contains}
+use borrow.Author.Tests.{eqb-true, not-true, not-false}
+use Rattle.definitions.specs.Basics.{ℕ, _+_, _<_, true, false, not, _&&_, _||_, List, [], _∷_, _++_, map, length, eqb, every, any, keep, isEmpty, contains}
 use Rattle.definitions.specs.Syntax.{Patient, Table, Region, patientNumbers, patientAt, bedCounts, fixedBeds, patientsOf}
 use Rattle.definitions.specs.Questions.{clinicPresent}
 use Rattle.definitions.specs.Isolation.{placeAmong, isAmong, tablesAmong, timesIn, joins, SameClinic}
-use Rattle.definitions.specs.Joining.{tableAfter, joinedRegion}
+use Rattle.definitions.specs.Joining.{tableAfter, joinedRegion, clinicsApart}
 use Rattle.lists.specs.Members.{_∈_}
-use Rattle.lists.specs.Every.{every-map, every-same, any-false}
+use Rattle.lists.specs.Every.{every-in, every-map, every-same, any-out, any-false}
 use Rattle.lists.specs.Keep.{keep-out, keep-none, keep-append}
 use Rattle.lists.specs.Maps.{map-same}
 use Rattle.lists.specs.Below.{below-out}
@@ -126,3 +127,15 @@ module _ (r s : Region) (a : Accepted r) (b : Accepted s) (c : ℕ) where
       (joined-among ∙ ap (λ l. map (tableAfter 0) l ++ map (tableAfter v) (keep (isAmong s c) (s .tables))) (none-among r a c absent))
       (joined-joins ∙ ap₂ _||_ (none-joins r a c absent) apart)
       apart
+
+-- ---- by 16 no clinic of the one is in the other
+
+module _ (r s : Region) (apart : clinicsApart r s ≡ true) (c : ℕ) where
+  pub not-in-second : clinicPresent r c ≡ true → clinicPresent s c ≡ false
+  unfolding clinicsApart clinicPresent
+  not-in-second present =
+      let (p, k, same) = any-out _ (r .patients) present in
+      not-true (clinicPresent s c) (ap (λ n. not (clinicPresent s n)) (sym (eqb-true (p .clinic) c same)) ∙ every-in _ (r .patients) apart k)
+
+  pub not-in-first : clinicPresent s c ≡ true → clinicPresent r c ≡ false
+  not-in-first present = not-eq-not .0 (λ e. true≢false (sym present ∙ not-in-second e))

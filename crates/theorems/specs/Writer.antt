@@ -219,7 +219,7 @@ module _ (early : Asked) (file output : List ℕ) where
   abbrev made : Made
   made = madeBy (early ++ (15, roomForFile file output) ∷ []) file
 
-  made-wrote : allYes (early ++ (15, roomForFile file output) ∷ []) ≡ true → Wrote file output (outputAfter made output) (length (made .bytes))
+  pub made-wrote : allYes (early ++ (15, roomForFile file output) ∷ []) ≡ true → Wrote file output (outputAfter made output) (length (made .bytes))
   unfolding roomForFile
   made-wrote all =
       let e = no-no (early ++ (15, roomForFile file output) ∷ []) all in
