@@ -12,7 +12,7 @@ use Rattle.held_region.specs.declared.Region.{Region}
 use Rattle.held_region.specs.Meaning.{optional, patientOf, patientIn, mark, saidBy, codeOf, tableIn, membersOf, startIn, tableSaid, said}
 use Rattle.lists.specs.Every.{every-map}
 use Rattle.lists.specs.Below.{length-by-places, at-place, same-tests}
-use Rattle.held_region.specs.Stores.{startOf, tableAt, start-next, HasEntries}
+use Rattle.held_region.specs.Stores.{startOf, tableAt, start-next, SaysEntries, HasEntries}
 
 -- Is there no number, or a smaller one? A parent is asked this of the patient's own number, a fixed bed of the count of beds.
 abbrev pub noneOrBelow : Option ℕ → ℕ → Bool
@@ -82,11 +82,13 @@ module _ (h : Region) (store : List ℕ) where
       start-next (said h store .tables) i
       ∙ ap₂ (λ a b. a + b) (starts-said i (omega arith)) (sym (entries-said i (omega arith)))
 
-  -- .. and there they stand in the store.
-  pub stands : HasEntries store (said h store .tables)
-  stands i q l m =
+  -- .. and there the store says them, so that they stand in it.
+  pub says : SaysEntries store (said h store .tables)
+  says i q l m =
       let inside : i < h .t = omega (arith, tables-said) in
       let there : q < tableIn h i .entries = omega (arith, entries-said i inside) in
-      ap (λ n. getD store (n + q) 0) (starts-said i (omega arith))
-      ∙ sym (code-back (getD store (startIn h i + q) 0))
-      ∙ ap codeOf (sym (ap (λ t. getD (t .entries) q none) (table-said i inside) ∙ at-place (λ k. saidBy (getD store (startIn h i + k) 0)) none (tableIn h i .entries) q there))
+      ap (λ n. saidBy (getD store (n + q) 0)) (starts-said i (omega arith))
+      ∙ sym (ap (λ t. getD (t .entries) q none) (table-said i inside) ∙ at-place (λ k. saidBy (getD store (startIn h i + k) 0)) none (tableIn h i .entries) q there)
+
+  pub stands : HasEntries store (said h store .tables)
+  stands i q l m = sym (code-back (getD store (startOf (said h store .tables) i + q) 0)) ∙ ap codeOf (says i q l m)

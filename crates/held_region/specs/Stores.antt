@@ -6,7 +6,7 @@ use Rattle.definitions.specs.Basics.{ℕ, zero, suc, _+_, _<_, none, List, [], 
 use Rattle.definitions.specs.Syntax.{Table, Region}
 -- The number of entries of all tables.
 pub use Rattle.definitions.specs.Questions.{entriesOf}
-use Rattle.held_region.specs.Meaning.{codeOf, sumBefore}
+use Rattle.held_region.specs.Meaning.{codeOf, saidBy, sumBefore}
 
 -- The table of a number.
 abbrev pub at : List Table → ℕ → Table
@@ -44,6 +44,10 @@ start-most [] (suc i) = unfold startOf in none-more i
     none-more zero = omega arith
     none-more (suc i) = omega (arith, none-more i)
 start-most (t ∷ tables) (suc i) = omega (arith, start-first t tables i, start-most tables i)
+
+-- The store's numbers from a table's start on say its entries.
+abbrev pub SaysEntries : List ℕ → List Table → Type 0
+SaysEntries store tables = (i q : ℕ) → i < length tables → q < length (at tables i .entries) → saidBy (getD store (startOf tables i + q) 0) ≡ getD (at tables i .entries) q none
 
 -- The store has the entries of each table from its start on.
 abbrev pub HasEntries : List ℕ → List Table → Type 0

@@ -15,6 +15,7 @@ use Rattle.definitions.specs.Writer.{regionFrom}
 use Rattle.definitions.specs.Boundary.{numberAt, optionAt, lentPatient, lentPatients, lentTableCount, lentMembers, lentEntryCount, lentEntriesBefore, lentTable, lentTables, lentRegion, lentWhole}
 use Rattle.lists.specs.Tests.{both, join}
 use Rattle.lists.specs.Every.{every-image}
+use Rattle.lists.specs.Filling.{Filled}
 use Rattle.lists.specs.Below.{length-by-places, at-place, below-more}
 use Rattle.held_region.specs.declared.Patient.{Patient}
 use Rattle.held_region.specs.declared.Table.{Table}
@@ -29,28 +30,9 @@ use Rattle.lent_region.specs.CutStands.{cut-stands}
 
 -- ---- the first of what is lent
 
--- What is held at each of the first n places is what is lent there.
-pub record FirstLent {A : Type 0} (Holds : ℕ → A → Type 0) (d : A) (n : ℕ) (held : List A) : Type 0 where
-  pub each : (i : ℕ) → i < n → Holds i (getD held i d)
-
-module _ {A : Type 0} {Holds : ℕ → A → Type 0} {d : A} {held : List A} where
-  pub lent-none : FirstLent Holds d 0 held
-  lent-none = record { each = λ i l. absurd (omega arith) }
-
-  -- One more.
-  pub lent-more : {s : ℕ} (a : A) → FirstLent Holds d s held → s < length held → Holds s a → FirstLent Holds d (s + 1) (set held s a)
-  lent-more {s} a before room holds = record { each = λ i l. go i l (ℕ-discrete i s) }
-    where
-      go : (i : ℕ) → i < s + 1 → Dec (i ≡ s) → Holds i (getD (set held s a) i d)
-      go i l (yes e) = rw (e, getD-set-same held s a d room) holds
-      go i l (no e) = rw (getD-set-other held s i a d e) (before .each i (omega arith))
-
-  pub lent-all : {s : ℕ} (n : ℕ) → FirstLent Holds d s held → n ≤ s → FirstLent Holds d n held
-  lent-all n before all = record { each = λ i l. before .each i (omega arith) }
-
 -- A patient of an area is held with its numbers cut off.
 abbrev pub PatientsLent : List ℕ → ℕ → List Patient → Type 0
-PatientsLent patients = FirstLent (λ s p. patientOf p ≡ cutPatient (lentPatient patients s)) noPatient
+PatientsLent patients = Filled (λ s p. patientOf p ≡ cutPatient (lentPatient patients s)) noPatient
 
 -- So are a table's first four members. Its counts are held as they are.
 pub record TableLent (tables : List ℕ) (i : ℕ) (h : Table) : Type 0 where
@@ -59,14 +41,14 @@ pub record TableLent (tables : List ℕ) (i : ℕ) (h : Table) : Type 0 where
   pub entries : h .entries ≡ lentEntryCount tables i
 
 abbrev pub TablesLent : List ℕ → ℕ → List Table → Type 0
-TablesLent tables = FirstLent (TableLent tables) noTable
+TablesLent tables = Filled (TableLent tables) noTable
 
 -- The number of the store for an entry of an area.
 abbrev pub codeLent : List ℕ → ℕ → ℕ
 codeLent entries k = codeOf (cutOption (optionAt entries k))
 
 abbrev pub EntriesLent : List ℕ → ℕ → List ℕ → Type 0
-EntriesLent entries = FirstLent (λ k code. code ≡ codeLent entries k) 0
+EntriesLent entries = Filled (λ k code. code ≡ codeLent entries k) 0
 
 -- ---- how many entries there are
 

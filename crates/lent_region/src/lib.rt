@@ -14,6 +14,7 @@ use held_region::NO_TABLE;
 use held_region::Patient;
 use held_region::Region;
 use held_region::Table;
+use limits::lesser;
 use scanner::Optional;
 
 // The number that stands for none.
@@ -128,12 +129,6 @@ fn code_at(entries: &[u8], k: usize) -> u32
         return FORBIDDEN;
     }
     cut_off(n)
-}
-
-fn lesser(a: usize, b: usize) -> usize
-    ensures { λ r. ⌜ r ≡ min a b ⌝ }
-{
-    if a < b { a } else { b }
 }
 
 // The first 32 patients.

@@ -1,6 +1,6 @@
 // The limits stand once: a table of lowest and highest per field.
 ghost use mathlib.Core.Path.{_≡_};
-ghost use Prim.Native.Nat.{_<_};
+ghost use Prim.Native.Nat.{_<_, min};
 ghost use Rattle.definitions.specs.Limits.{limits, within as isWithin};
 ghost use Rattle.limits.specs.Fields.{fieldOf, placeOf, limitOf};
 
@@ -74,4 +74,11 @@ pub fn highest(field: Field) -> usize
 {
     let limit = limit_of(field);
     limit.1
+}
+
+// The lesser of two numbers, as where a count is cut off at its limit.
+pub fn lesser(a: usize, b: usize) -> usize
+    ensures { λ r. ⌜ r ≡ min a b ⌝ }
+{
+    if a < b { a } else { b }
 }

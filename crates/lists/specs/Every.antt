@@ -51,6 +51,15 @@ module _ {A : Type 0} (test : A → Bool) where
       go true q h ih = (y, here refl, q)
       go false q h ih = let (x, k, p) = ih h in (x, there k, p)
 
+  -- None passes a test where every element fails it.
+  pub none-passes : (l : List A) → not (any test l) ≡ every (λ x. not (test x)) l
+  none-passes [] = refl
+  none-passes (x ∷ l) = go (test x) (none-passes l)
+    where
+      go : (b : Bool) → not (any test l) ≡ every (λ y. not (test y)) l → not (b || any test l) ≡ (not b && every (λ y. not (test y)) l)
+      go true ih = refl
+      go false ih = ih
+
   pub any-false : (l : List A) → (any test l ≡ false) ↔ ((x : A) → x ∈ l → test x ≡ false)
   any-false [] = (λ e x k. absurd (none-in-nil k), λ h. refl)
   any-false (x ∷ l) = let ih = any-false l in (

@@ -7,4 +7,5 @@ pub mod Maps
 pub mod Below
 pub mod Rising
 pub mod Loops
+pub mod Filling
 pub mod Rows

@@ -104,6 +104,7 @@ refused-with : {s store : List ℕ} {r : Loaded} {q : Refusal} → r ≡ refused
 refused-with {s} {store} {r} {q} e n = record {
   number = ap (λ (x : Loaded). numberOf (x .answer)) e ∙ n;
   held = λ fine. not-fine (sym (ap (λ (x : Loaded). x .answer) e) ∙ fine);
+  wide = λ fine. not-fine (sym (ap (λ (x : Loaded). x .answer) e) ∙ fine);
 }
 
 pub too-long : {s store : List ℕ} {r : Loaded} → shortEnough s ≡ false → r ≡ refusedWith TooLong → FileRead s r store
@@ -156,6 +157,7 @@ module _ {s : List ℕ} (h : shortEnough s ≡ true) {laid : Laid} {before after
           record {
             number = read-all s h (this .says) counted summed;
             held = λ fine. rw (e, file-says s h (this .says)) (stands-for (held-from this wide counted summed));
+            wide = λ fine. this .stored wide .wide;
           }
 
 -- ---- what is loaded
@@ -188,6 +190,7 @@ module _ (parents : Bool) {s store : List ℕ} {r : Loaded} (from : FileRead s r
   load-refused {q} {x} is e = record {
     number = ap (λ (x : Loaded). numberOf (x .answer)) e ∙ first-refused q (readAsked s) (asked parents (regionOf s)) (sym (ap numberOf is) ∙ from .number);
     says = λ fine. not-fine (sym (ap (λ (x : Loaded). x .answer) e) ∙ fine);
+    wide = λ fine. not-fine (sym (ap (λ (x : Loaded). x .answer) e) ∙ fine);
   }
 
   pub load-judged : {answer : Judged} → r .answer ≡ Fine → numberOf answer ≡ firstNo (asked parents (said (r .region) store))
@@ -198,4 +201,5 @@ module _ (parents : Bool) {s store : List ℕ} {r : Loaded} (from : FileRead s r
       record {
         number = judged ∙ file .asks ∙ none-refused (readAsked s) (asked parents (regionOf s)) refl (sym (ap numberOf is) ∙ from .number);
         says = λ fine. file .says (sym (judged ∙ file .asks) ∙ ap numberOf fine);
+        wide = λ fine. from .wide is;
       }

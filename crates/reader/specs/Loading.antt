@@ -1,5 +1,5 @@
 -- What is read and loaded of a file.
-use Rattle.definitions.specs.Basics.{ℕ, Bool, true, _≡_, List, [], _∷_, _++_}
+use Rattle.definitions.specs.Basics.{ℕ, Bool, true, _≡_, List, [], _∷_, _++_, length}
 use Rattle.definitions.specs.Questions.{Asked, shortEnough, laidOut, countsTrue, sumTrue, firstNo, regionOf, askedByCheck, checkOf}
 use Rattle.held_region.specs.declared.Region.{Region}
 use Rattle.held_region.specs.declared.Refusal.{Refusal}
@@ -17,15 +17,17 @@ readAsked s = (1, shortEnough s) ∷ (2, laidOut s) ∷ (3, countsTrue (regionOf
 abbrev pub loadAsked : Bool → List ℕ → Asked
 loadAsked parents s = readAsked s ++ asked parents (regionOf s)
 
--- The first no of questions 1 to 4; and where there is none, what is held stands for what the file says.
+-- The first no of questions 1 to 4; and where there is none, what is held stands for what the file says, and the store is as long as it was.
 pub record FileRead (s : List ℕ) (r : Loaded) (store : List ℕ) : Type 0 where
   pub number : numberOf (r .answer) ≡ firstNo (readAsked s)
   pub held : r .answer ≡ Fine → (parents : Bool) → StandsFor parents (said (r .region) store) (regionOf s)
+  pub wide : r .answer ≡ Fine → length store ≡ 4096
 
 -- The first no of all; and where there is none, the region and the store say what the file says.
 pub record LoadedFrom (parents : Bool) (s : List ℕ) (r : Loaded) (store : List ℕ) : Type 0 where
   pub number : numberOf (r .answer) ≡ firstNo (loadAsked parents s)
   pub says : r .answer ≡ Fine → said (r .region) store ≡ regionOf s
+  pub wide : r .answer ≡ Fine → length store ≡ 4096
 
 abbrev pub refusedWith : Refusal → Loaded
 refusedWith q = record { answer = Refused q; region = blankRegion }
