@@ -14,6 +14,7 @@ ghost use Rattle.theorems.specs.Accepted.{Accepted};
 ghost use Rattle.held_region.specs.Meaning.{said};
 ghost use Rattle.answers.specs.Answers.{writtenOutcome};
 ghost use Rattle.text_writer.specs.Wrote.{Room, Wrote};
+ghost use Rattle.writer.specs.Outcomes.{placedOutcome, placing};
 
 // The most bytes that the file of an accepted region has.
 pub const FILE_ROOM: usize = 35_038;
@@ -28,18 +29,24 @@ fn write_file(text: &mut [u8], region: Region, store: &[u32; 4096]) -> usize
     write_form(text, end, b"end", &[sum])
 }
 
-// The file of an accepted region is made in an area of its own, so that its length is known before the output area is touched.
-fn write_accepted(region: Region, store: &[u32; 4096], output: &mut [u8]) -> Written
+// The file stands in the output area, or that is too short for it.
+pub enum Placed {
+    Short,
+    Bytes(usize),
+}
+
+// The file of an accepted region, whole or not at all. It is made in an area of its own, so that its length is known before the output area is touched.
+pub fn place_file(region: Region, store: &[u32; 4096], output: &mut [u8]) -> Placed
     requires { ⌜ Accepted (said region (now store)) ⌝ }
-    ensures { λ r. ⌜ writtenOutcome r (now (output .exit)) ≡ writeOutcome (said region (now (store .entry))) (now (output .entry)) ⌝ }
+    ensures { λ r. ⌜ placedOutcome r (now (output .exit)) ≡ placing (spell (said region (now (store .entry)))) (now (output .entry)) ⌝ }
 {
     let mut text = [0u8; FILE_ROOM];
     let n = write_file(&mut text, region, store);
     if output.len() < n {
-        return Written::Short;
+        return Placed::Short;
     }
     write_text(output, 0, &text[..n]);
-    Written::Bytes(n)
+    Placed::Bytes(n)
 }
 
 // Questions 5 to 10 of a held region, whatever it says, then 15, then the file.
@@ -48,6 +55,9 @@ pub fn write(region: Region, store: &[u32; 4096], output: &mut [u8]) -> Written
 {
     match judge(region, store, true) {
         Judged::Refused(refusal) => Written::Refused(refusal),
-        Judged::Fine => write_accepted(region, store, output),
+        Judged::Fine => match place_file(region, store, output) {
+            Placed::Short => Written::Short,
+            Placed::Bytes(n) => Written::Bytes(n),
+        },
     }
 }

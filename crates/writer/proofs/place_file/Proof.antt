@@ -5,8 +5,8 @@ use lib.Seq.{length-take-le}
 use Rattle.text_writer.specs.Wrote.{ends-inside}
 use Rattle.region_lines.specs.Writable.{file-room}
 use Rattle.writer.specs.Outcomes.{made-short, made-copied}
-use Rattle.writer.proofs.write_accepted.Statement.{statement}
-use Rattle.writer.proofs.write_accepted.Tie as tie
+use Rattle.writer.proofs.place_file.Statement.{statement}
+use Rattle.writer.proofs.place_file.Tie as tie
 
 slice-aggregate-write-file : tie.Need-slice-aggregate-write-file
 slice-aggregate-write-file c = search needs
@@ -21,7 +21,7 @@ returns c =
     let w = c .before .before in
     let s = w .before .before .before in
     let room = file-room (s .args .region) (s .args .store .now) (s .pre) in
-    made-short (s .args .region) (s .args .store .now) (s .args .output .now) (s .pre) (w .write-file .ensures) room (c .if1 .taken)
+    made-short _ (s .args .output .now) (w .write-file .ensures) room (c .if1 .taken)
 
 array-share-prefix-text : tie.Need-array-share-prefix-text
 array-share-prefix-text c =
@@ -55,10 +55,10 @@ returns-2 c =
     let w = e .before .before in
     let s = w .before .before .before in
     let room = file-room (s .args .region) (s .args .store .now) (s .pre) in
-    made-copied (s .args .region) (s .args .store .now) (s .args .output .now) (s .pre) (w .write-file .ensures) room (e .if1 .left) (t .write-text .ensures)
+    made-copied _ (s .args .output .now) (w .write-file .ensures) room (e .if1 .left) (t .write-text .ensures)
 
-pub write-accepted-spec : {M : Type 1} → statement M
-write-accepted-spec =
+pub place-file-spec : {M : Type 1} → statement M
+place-file-spec =
     tie.close
     (tie.spec
     slice-aggregate-write-file
