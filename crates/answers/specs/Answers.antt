@@ -2,6 +2,7 @@
 use Rattle.definitions.specs.Basics.{ℕ, true, false, List}
 use Rattle.definitions.specs.Outcomes.{ListOutcome, PriceOutcome}
 use Rattle.definitions.specs.Writer.{WriteOutcome}
+use Rattle.definitions.specs.Joining.{WhichFile, neitherFile, firstFile, secondFile, JoinOutcome}
 use Rattle.held_region.specs.declared.Refusal.{Refusal}
 use Rattle.held_region.specs.declared.Judged.{Judged}
 use Rattle.held_region.specs.Refusals.{questionOf, numberOf}
@@ -17,6 +18,9 @@ use Rattle.answers.specs.declared.Priced.the-variants.{Refused, Misfit, 
 use Rattle.answers.specs.declared.Written.{Written}
 use Rattle.answers.specs.declared.Written.the-variants as Writes
 use Rattle.answers.specs.declared.Written.the-variants.{Bytes}
+use Rattle.answers.specs.declared.Joined.{Joined}
+use Rattle.answers.specs.declared.Joined.the-variants as Joins
+use Rattle.answers.specs.declared.Joined.the-variants.{RefusedFirst, RefusedSecond, Shared, TooMany}
 
 -- A refusal, by the question answered no.
 abbrev pub refusalNumber : Refusal → ℕ
@@ -86,3 +90,31 @@ writtenCount (Bytes n) = n
 
 abbrev pub writtenOutcome : Written → List ℕ → WriteOutcome
 writtenOutcome answer output = record { number = writtenNumber answer; count = writtenCount answer; output = output }
+
+-- Join's answer: the number, which file it is about, and the byte count, beside the output area as it is afterwards.
+abbrev pub joinedNumber : Joined → ℕ
+joinedNumber (RefusedFirst refusal) = refusalNumber refusal
+joinedNumber (RefusedSecond refusal) = refusalNumber refusal
+joinedNumber Shared = 16
+joinedNumber TooMany = 17
+joinedNumber Joins.Short = 15
+joinedNumber (Joins.Bytes n) = 0
+
+abbrev pub joinedWhich : Joined → WhichFile
+joinedWhich (RefusedFirst refusal) = firstFile
+joinedWhich (RefusedSecond refusal) = secondFile
+joinedWhich Shared = neitherFile
+joinedWhich TooMany = neitherFile
+joinedWhich Joins.Short = neitherFile
+joinedWhich (Joins.Bytes n) = neitherFile
+
+abbrev pub joinedCount : Joined → ℕ
+joinedCount (RefusedFirst refusal) = 0
+joinedCount (RefusedSecond refusal) = 0
+joinedCount Shared = 0
+joinedCount TooMany = 0
+joinedCount Joins.Short = 0
+joinedCount (Joins.Bytes n) = n
+
+abbrev pub joinedOutcome : Joined → List ℕ → JoinOutcome
+joinedOutcome answer output = record { number = joinedNumber answer; which = joinedWhich answer; count = joinedCount answer; output = output }

@@ -1,0 +1,2 @@
+-- What join gives back.
+pub mod Outcomes
