@@ -1,16 +1,17 @@
--- Price and line as calls from C, from what the entry gives and what is written of it.
-use mathlib.Core.Path.{_≡_, sym, ap, _∙_}
+-- Price, line and join as calls from C, from what the entry gives and what is written of it.
+use mathlib.Core.Path.{_≡_, sym, ap, ap₂, _∙_}
 use Prim.Native.Nat.{_≤_, _<_, _-_}
 use native.Mathlib.Omega.{arith}
 use borrow.Author.Tests.{lt-leb, le-leb}
-use Rattle.definitions.specs.Basics.{ℕ, zero, suc, cond, List, [], _∷_, length}
+use Rattle.definitions.specs.Basics.{ℕ, zero, suc, cond, List, [], _∷_, _++_, length, sets}
 use Rattle.definitions.specs.Plans.{Plan, total}
 use Rattle.definitions.specs.Questions.{firstNo, Asks, entryAsks, callAsks, askedByCheck, checkOf, regionOf, askedByPrice}
-use Rattle.definitions.specs.Outcomes.{PriceOutcome, priced, priceFound, priceOutcome}
+use Rattle.definitions.specs.Outcomes.{unlessRefused, PriceOutcome, priced, priceFound, priceOutcome}
 use Rattle.definitions.specs.Lookup.{FilePart, lineOver, askedByLine, LineOutcome, partUnlessRefused, lineFound, lineOutcome}
-use Rattle.definitions.specs.Boundary.{roomForNumbers, resultAfter, PairCall, priceCallOf, priceCall, partNumbers, lineCallOf, lineCall}
+use Rattle.definitions.specs.Joining.{joinedFile, askedByJoin, refusedFile, JoinOutcome, joinOutcome}
+use Rattle.definitions.specs.Boundary.{roomForNumbers, resultAfter, PairCall, priceCallOf, priceCall, partNumbers, lineCallOf, lineCall, fileNumber, WriteCall, writeCallOf, joinCall}
 use Rattle.theorems.specs.Answers.{Numbered}
-use Rattle.theorems.specs.Refusals.{price-number}
+use Rattle.theorems.specs.Refusals.{price-number, after-check, refused-before}
 use Rattle.byte_areas.specs.Results.{result-short}
 use Rattle.line_finder.specs.declared.FoundLine.{FoundLine}
 use Rattle.line_finder.specs.Found.{lineOf}
@@ -75,3 +76,45 @@ module _ (found : FoundLine) (result : List ℕ) where
   refused-numbers some-no =
       let some : suc (found .number - 1) ≡ found .number = omega arith in
       ap left some
+
+-- ---- join
+
+-- The questions of both files: a no of the first counts, and otherwise the second's.
+module _ (f g : List ℕ) where
+  pub first-number : (checkOf f ≡ 0 → ⊥) → firstNo (askedByCheck f ++ askedByCheck g) ≡ checkOf f
+  first-number some-no =
+      let is : checkOf f ≡ suc (checkOf f - 1) = omega (arith, some-no) in
+      refused-before f (askedByCheck g) _ is ∙ sym is
+
+  pub second-number : checkOf f ≡ 0 → firstNo (askedByCheck f ++ askedByCheck g) ≡ checkOf g
+  unfolding checkOf
+  second-number e = after-check f (askedByCheck g) e
+
+module _ (f g output result : List ℕ) where
+  -- The call by its number.
+  abbrev callWith : ℕ → WriteCall
+  callWith n =
+      let bytes = unlessRefused n (joinedFile f g) in
+      record { number = n; output = sets output 0 bytes; result = resultAfter (length bytes ∷ fileNumber (refusedFile f g) ∷ []) result }
+
+  -- After a refusal nothing is written, and a short result area is as it was.
+  short-call : (n : ℕ) → length result < 16 → record { number = orTwelve n; output = output; result = result } ≡ callWith (orTwelve n)
+  short-call zero h = ap {B = WriteCall} (λ left. record { number = 12; output = output; result = left }) (result-short _ result h)
+  short-call (suc q) h = ap {B = WriteCall} (λ left. record { number = suc q; output = output; result = left }) (result-short _ result h)
+
+  pub join-short : {n : ℕ} → length result < 16 → n ≡ orTwelve (firstNo (askedByCheck f ++ askedByCheck g))
+      → record { number = n; output = output; result = result } ≡ joinCall f g output result
+  unfolding joinCall writeCallOf askedByJoin askedByCheck
+  join-short h e =
+      let asks = askedByJoin f g output in
+      ap {B = WriteCall} (λ n. record { number = n; output = output; result = result }) e
+      ∙ short-call (firstNo (asks .first)) h ∙ ap callWith (sym (short-number asks result tt h))
+
+  pub join-long : {o : JoinOutcome} {n count which : ℕ} {after : List ℕ} → 16 ≤ length result → o ≡ joinOutcome f g output
+      → n ≡ o .number → count ≡ o .count → which ≡ fileNumber (o .which) → after ≡ resultAfter (count ∷ which ∷ []) result
+      → record { number = n; output = o .output; result = after } ≡ joinCall f g output result
+  unfolding joinCall writeCallOf joinOutcome
+  join-long {o} h e is-number is-count is-which stored =
+      ap₂ {C = WriteCall} (λ n left. record { number = n; output = o .output; result = left }) is-number (stored ∙ ap₂ (λ k w. resultAfter (k ∷ w ∷ []) result) is-count is-which)
+      ∙ ap {B = WriteCall} (λ (p : JoinOutcome). record { number = p .number; output = p .output; result = resultAfter (p .count ∷ fileNumber (p .which) ∷ []) result }) e
+      ∙ ap callWith (sym (long-number (askedByJoin f g output) result h))

@@ -1,14 +1,17 @@
-// The calls of price and line, whose result area holds two numbers.
+// The calls of price, line and join, whose result area holds two numbers.
 ghost use mathlib.Core.Path.{_≡_};
-ghost use Rattle.definitions.specs.Questions.{checkOf};
-ghost use Rattle.definitions.specs.Boundary.{priceCall, lineCall};
+ghost use Rattle.definitions.specs.Basics.{_++_};
+ghost use Rattle.definitions.specs.Questions.{firstNo, askedByCheck, checkOf};
+ghost use Rattle.definitions.specs.Boundary.{priceCall, lineCall, joinCall};
 ghost use Rattle.answers.specs.Rooms.{orTwelve};
 use answers::checked_number;
+use answers::join_values;
 use answers::or_twelve;
 use answers::price_values;
 use byte_areas::PAIR;
 use byte_areas::store_pair;
 use byte_areas::store_price;
+use joiner::join;
 use line_finder::find_line;
 use planner::check;
 use planner::price;
@@ -46,4 +49,28 @@ pub fn line_call(file: &[u8], typed: &[u8], result: &mut [u8]) -> u64
         store_pair(result, 0, 0);
     }
     found.number
+}
+
+// The number of a join whose result area is too short: that of the first file, else that of the second, else 12.
+fn join_without_room(first: &[u8], second: &[u8]) -> u64
+    ensures { λ n. ⌜ n ≡ orTwelve (firstNo (askedByCheck (now (first .entry)) ++ askedByCheck (now (second .entry)))) ⌝ }
+{
+    let answer = check(first);
+    let number = checked_number(answer);
+    if number != 0 {
+        return number;
+    }
+    number_without_room(second)
+}
+
+// The byte count, and which file the number is about, on a refusal too.
+pub fn join_call(first: &[u8], second: &[u8], output: &mut [u8], result: &mut [u8]) -> u64
+    ensures { λ n. ⌜ record { number = n; output = now (output .exit); result = now (result .exit) } ≡ joinCall (now (first .entry)) (now (second .entry)) (now (output .entry)) (now (result .entry)) ⌝ }
+{
+    if result.len() < PAIR {
+        return join_without_room(first, second);
+    }
+    let values = join_values(join(first, second, output));
+    store_pair(result, values.count as u64, values.which);
+    values.number
 }

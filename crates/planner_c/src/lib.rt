@@ -1,8 +1,9 @@
 // The calls from C: the proved entries on numbers and byte areas.
 ghost use mathlib.Core.Path.{_≡_};
-ghost use Rattle.definitions.specs.Boundary.{checkCall, listCall, sheetCall, priceCall, writeCall, lineCall};
+ghost use Rattle.definitions.specs.Boundary.{checkCall, listCall, sheetCall, priceCall, writeCall, lineCall, joinCall};
 use answers::checked_number;
 use lent_writer::write_lent;
+use pair_calls::join_call;
 use pair_calls::line_call;
 use pair_calls::price_call;
 use planner::check;
@@ -73,4 +74,17 @@ pub extern "C" fn rigbasen_write(
     ensures { λ n. ⌜ record { number = n; output = now (output .exit); result = now (result .exit) } ≡ writeCall (now (patients .entry)) (now (tables .entry)) (now (entries .entry)) m (now (output .entry)) (now (result .entry)) ⌝ }
 {
     write_lent(patients, tables, entries, m, output, result)
+}
+
+// Two files put together into one. The result area holds two numbers: the byte count, and which file the number is about (0 neither, 1 the first, 2 the second).
+#[no_mangle]
+pub extern "C" fn rigbasen_join(
+    first: &[u8],
+    second: &[u8],
+    output: &mut [u8],
+    result: &mut [u8],
+) -> u64
+    ensures { λ n. ⌜ record { number = n; output = now (output .exit); result = now (result .exit) } ≡ joinCall (now (first .entry)) (now (second .entry)) (now (output .entry)) (now (result .entry)) ⌝ }
+{
+    join_call(first, second, output, result)
 }
