@@ -1,6 +1,7 @@
 -- For each landed request of document 02, in one statement: each of its numbers, each bound, and what a builder gets wrong.
 use Prim.Native.String.{String}
-use Rattle.definitions.specs.Basics.{ℕ, _+_, _-_, _^_, _≡_, refl, true, false, Option, none, some, List, [], _∷_, _++_, map, flatten, flatMap, length, replicate, text, below, numbersFrom, sum}
+use mathlib.Core.Path.{ap}
+use Rattle.definitions.specs.Basics.{ℕ, _+_, _-_, _^_, _≡_, refl, true, false, cond, eqb, Option, none, some, List, [], _∷_, _++_, map, flatten, flatMap, length, replicate, text, below, numbersFrom, sum}
 use Rattle.definitions.specs.Syntax.{Patient, Table, Region, fixedBeds, patientsOf}
 use Rattle.definitions.specs.Layout.{layout}
 use Rattle.definitions.specs.Plans.{Row, placeIn, stride, entryFor, constraints, listOf}
@@ -349,18 +350,20 @@ keptPlaces = record {
 
 -- ---- #106: two regions joined
 
--- For m plans: a root of clinic 1 with 2 beds and a child of clinic 2 with 3 beds that keeps bed 1, and a table over both.
+-- For m plans: a root of clinic 11 with 2 beds and a child of clinic 12 with 3 beds that keeps bed 1, and a table over both.
 abbrev childKeepsBed : ℕ → Region
-childKeepsBed m = region m (patient 1 2 none ∷ fixed 2 3 (some 0) 1 ∷ []) (table (0 ∷ 1 ∷ []) (some 9 ∷ some 1 ∷ none ∷ some 9 ∷ some 0 ∷ some 9 ∷ []) ∷ []) 0
+childKeepsBed m =
+    region m (patient 11 2 none ∷ fixed 12 3 (some 0) 1 ∷ []) (
+    table (0 ∷ 1 ∷ []) (some 1_000_000 ∷ some 1 ∷ none ∷ some 1_000_000 ∷ some 0 ∷ some 94_444 ∷ []) ∷ []) 0
 
 abbrev second : List ℕ
 second = writtenFile (childKeepsBed 2)
 
--- The paper's file and this one, joined.
+-- The paper's file and this one, joined. (The other way round the sum is 10001, and the file one byte longer.)
 abbrev joinedText : List ℕ
 joinedText = textOf (
-    "(region 4 3 2)" ∷ "(patient 0 2 - -)" ∷ "(patient 0 2 0 -)" ∷ "(patient 1 2 - -)" ∷ "(patient 2 3 2 1)" ∷ "(cost (0) (3 1))" ∷ "(cost (0 1) (0 2 1 -))"
-    ∷ "(cost (2 3) (9 1 - 9 0 9))" ∷ "(end 9133)" ∷ [])
+    "(region 4 3 2)" ∷ "(patient 0 2 - -)" ∷ "(patient 0 2 0 -)" ∷ "(patient 11 2 - -)" ∷ "(patient 12 3 2 1)" ∷ "(cost (0) (3 1))" ∷ "(cost (0 1) (0 2 1 -))"
+    ∷ "(cost (2 3) (1000000 1 - 1000000 0 94444))" ∷ "(end 9999)" ∷ [])
 
 -- One patient of a clinic, for m plans, and a table of these entries.
 abbrev single : ℕ → ℕ → List (Option ℕ) → Region
@@ -384,9 +387,13 @@ equalSecond = single 5 1 (some 1 ∷ some 0 ∷ some 1 ∷ [])
 abbrev joinRefused : ℕ → WhichFile → List ℕ → JoinOutcome
 joinRefused q which output = record { number = q; which = which; count = 0; output = output }
 
+-- Patients of these clinics.
+abbrev atClinics : List ℕ → Region
+atClinics clinics = region 1 (map (λ c. patient c 1 none) clinics) [] 0
+
 -- So many patients of one clinic; a table over the first so often; a table with so many entries.
 abbrev crowd : ℕ → ℕ → Region
-crowd c n = region 1 (replicate n (patient c 1 none)) [] 0
+crowd c n = atClinics (replicate n c)
 
 abbrev manyTables : ℕ → ℕ → Region
 manyTables c n = region 1 (patient c 1 none ∷ []) (replicate n (table (0 ∷ []) (some 0 ∷ []))) 0
@@ -394,16 +401,21 @@ manyTables c n = region 1 (patient c 1 none ∷ []) (replicate n (table (0 ∷ [
 abbrev manyEntries : ℕ → ℕ → Region
 manyEntries c n = region 1 (patient c 1 none ∷ []) (table (0 ∷ []) (zeros n) ∷ []) 0
 
+-- (That a file is too long is handed in: 65,536 bytes take long to count.)
 pub record Joins : Type 0 where
-  pub joinedPaper : joinOutcome paperFile second (lent 170) ≡ record { number = 0; which = neitherFile; count = 165; output = joinedText ++ lent 5 }
-  pub otherWay :
-      joinedRegion (childKeepsBed 2) paperRegion .patients ≡ patient 1 2 none ∷ fixed 2 3 (some 0) 1 ∷ patient 0 2 none ∷ patient 0 2 (some 2) ∷ []
-  pub otherTables : map (λ t. t .members) (joinedRegion (childKeepsBed 2) paperRegion .tables) ≡ (0 ∷ 1 ∷ []) ∷ (2 ∷ []) ∷ (2 ∷ 3 ∷ []) ∷ []
+  pub joinedPaper : joinOutcome paperFile second (lent 188) ≡ record { number = 0; which = neitherFile; count = 183; output = joinedText ++ lent 5 }
+  pub movedParents :
+      joinedRegion (crowd 5 1) (clinicsJoined 1) .patients ≡ patient 5 1 none ∷ patient 0 2 none ∷ patient 1 2 (some 1) ∷ patient 0 3 (some 2) ∷ []
+  pub movedMembers :
+      map (λ t. t .members) (joinedRegion (crowd 5 1) (clinicsJoined 1) .tables) ≡ (1 ∷ 3 ∷ []) ∷ (1 ∷ 2 ∷ []) ∷ (1 ∷ []) ∷ (2 ∷ []) ∷ []
   pub smallerM : map (λ m. joinedRegion (crowd 0 m) (childKeepsBed m) .plansWanted) (1 ∷ 2 ∷ []) ≡ 1 ∷ 1 ∷ []
   pub joinedRows : listTogether paperRegion (childKeepsBed 2) ≡ row 2 (1 ∷ 0 ∷ 1 ∷ 1 ∷ []) ∷ row 3 (0 ∷ 0 ∷ 1 ∷ 1 ∷ []) ∷ []
   pub joinedPairs : pairsOf 2 paperRegion (childKeepsBed 2) ≡ row 2 (1 ∷ 0 ∷ 1 ∷ 1 ∷ []) ∷ row 3 (0 ∷ 0 ∷ 1 ∷ 1 ∷ []) ∷ []
   pub equalRows : listTogether equalFirst equalSecond ≡ row 0 (1 ∷ 1 ∷ []) ∷ row 1 (0 ∷ 1 ∷ []) ∷ row 1 (1 ∷ 0 ∷ []) ∷ row 1 (1 ∷ 2 ∷ []) ∷ []
   pub equalPairs : pairsOf 4 equalFirst equalSecond ≡ row 0 (1 ∷ 1 ∷ []) ∷ row 1 (0 ∷ 1 ∷ []) ∷ row 1 (1 ∷ 0 ∷ []) ∷ row 1 (1 ∷ 2 ∷ []) ∷ []
+  pub unsortedPairs :
+      firstPairs 5 (row 1 (2 ∷ []) ∷ row 1 (0 ∷ []) ∷ row 0 (1 ∷ []) ∷ []) (map (λ b. row 0 (b ∷ [])) (2 ∷ 1 ∷ 0 ∷ []))
+      ≡ row 0 (1 ∷ 0 ∷ []) ∷ row 0 (1 ∷ 1 ∷ []) ∷ row 0 (1 ∷ 2 ∷ []) ∷ row 1 (0 ∷ 0 ∷ []) ∷ row 1 (0 ∷ 1 ∷ []) ∷ []
   pub noneWritten : joinOutcome allForbidden (writtenFile (single 1 1 (some 0 ∷ []))) (lent 120) .number ≡ 0
   pub noneAllowed :
       map (λ (e : Option ℕ × Option ℕ). planAllowed (joinedRegion (single 1 0 (e .0 ∷ [])) (single 1 1 (e .1 ∷ [])))) ((none, some 0) ∷ (some 0, none) ∷ (some 0, some 0) ∷ [])
@@ -411,17 +423,24 @@ pub record Joins : Type 0 where
   pub firstRefused : joinOutcome (overOneAndTwo 0) [] (lent 5) ≡ joinRefused 10 firstFile (lent 5)
   pub secondRefused : joinOutcome paperFile [] (lent 5) ≡ joinRefused 2 secondFile (lent 5)
   pub secondBefore16 : joinOutcome (overOneAndTwo 1) (overOneAndTwo 0) [] ≡ joinRefused 10 secondFile []
+  pub firstTooLong : (f : List ℕ) → checkOf f ≡ 1 → joinOutcome f paperFile [] .which ≡ firstFile
+  pub secondTooLong : (g : List ℕ) → checkOf g ≡ 1 → joinOutcome paperFile g [] .which ≡ secondFile
   pub number16 : joinOutcome paperFile paperFile (lent 5) ≡ joinRefused 16 neitherFile (lent 5)
-  pub oneInCommon : clinicsApart (region 1 (patient 1 1 none ∷ patient 2 1 none ∷ []) [] 0) (region 1 (patient 3 1 none ∷ patient 2 1 none ∷ []) [] 0) ≡ false
-  pub before17 : joinOutcome (writtenFile (crowd 0 32)) (writtenFile (crowd 0 1)) [] ≡ joinRefused 16 neitherFile []
+  pub oneInCommon :
+      map (λ clinics. clinicsApart (atClinics (2 ∷ 4 ∷ [])) (atClinics clinics)) (
+      (2 ∷ 3 ∷ []) ∷ (3 ∷ 2 ∷ []) ∷ (4 ∷ 3 ∷ []) ∷ (3 ∷ 4 ∷ []) ∷ (3 ∷ 1 ∷ []) ∷ (5 ∷ 3 ∷ []) ∷ [])
+      ≡ false ∷ false ∷ false ∷ false ∷ true ∷ true ∷ []
   pub patients17 : map (λ n. joinWithin (crowd 0 31) (crowd 1 n)) (1 ∷ 2 ∷ []) ≡ true ∷ false ∷ []
   pub tables17 : map (λ n. joinWithin (manyTables 0 60) (manyTables 1 n)) (4 ∷ 5 ∷ []) ≡ true ∷ false ∷ []
   pub entries17 : map (λ n. joinWithin (manyEntries 0 4_000) (manyEntries 1 n)) (96 ∷ 97 ∷ []) ≡ true ∷ false ∷ []
-  pub before15 : joinOutcome (writtenFile (crowd 0 32)) (writtenFile (crowd 1 1)) [] ≡ joinRefused 17 neitherFile []
-  pub number15 : joinOutcome paperFile second (lent 164) ≡ joinRefused 15 neitherFile (lent 164)
-  pub justFits : joinOutcome paperFile second (lent 165) .output ≡ joinedText
-  pub called : joinCall paperFile second (lent 170) (lent 17) ≡ record { number = 0; output = joinedText ++ lent 5; result = eight 165 ++ eight 0 ++ lent 1 }
-  pub calledFirst : joinCall [] [] (lent 5) (lent 16) ≡ record { number = 2; output = lent 5; result = eight 0 ++ eight 1 }
+  pub number17 : joinOutcome (writtenFile (crowd 0 16)) (writtenFile (crowd 1 17)) (lent 5) ≡ joinRefused 17 neitherFile (lent 5)
+  pub inOrder : map (λ c. joinOutcome (writtenFile (crowd 0 17)) (writtenFile (crowd c 16)) [] .number) (0 ∷ 1 ∷ []) ≡ 16 ∷ 17 ∷ []
+  pub number15 : joinOutcome paperFile second (lent 182) ≡ joinRefused 15 neitherFile (lent 182)
+  pub justFits : joinOutcome paperFile second (lent 183) .number ≡ 0
+  pub called :
+      joinCall (writtenFile (atClinics (0 ∷ []))) (writtenFile (atClinics (1 ∷ []))) (lent 65) (lent 17)
+      ≡ record { number = 0; output = writtenFile (atClinics (0 ∷ 1 ∷ [])) ++ lent 3; result = eight 62 ++ eight 0 ++ lent 1 }
+  pub calledFirst : joinCall (overOneAndTwo 0) [] (lent 5) (lent 16) ≡ record { number = 10; output = lent 5; result = eight 0 ++ eight 1 }
   pub calledSecond : joinCall paperFile [] (lent 5) (lent 16) ≡ record { number = 2; output = lent 5; result = eight 0 ++ eight 2 }
   pub calledNeither : joinCall paperFile paperFile (lent 5) (lent 16) ≡ record { number = 16; output = lent 5; result = eight 0 ++ eight 0 }
   pub calledShort : joinCall paperFile paperFile (lent 5) (lent 15) ≡ record { number = 12; output = lent 5; result = lent 15 }
@@ -431,25 +450,28 @@ pub joinsRight : Joins
 unfolding everything lent cleared zeros
 joinsRight = record {
   joinedPaper = refl;
-  otherWay = refl;
-  otherTables = refl;
+  movedParents = refl;
+  movedMembers = refl;
   smallerM = refl;
   joinedRows = refl;
   joinedPairs = refl;
   equalRows = refl;
   equalPairs = refl;
+  unsortedPairs = refl;
   noneWritten = refl;
   noneAllowed = refl;
   firstRefused = refl;
   secondRefused = refl;
   secondBefore16 = refl;
+  firstTooLong = λ f one. ap (λ q. cond (eqb q 0) neitherFile firstFile) one;
+  secondTooLong = λ g one. ap (λ q. cond (eqb q 0) neitherFile secondFile) one;
   number16 = refl;
   oneInCommon = refl;
-  before17 = refl;
   patients17 = refl;
   tables17 = refl;
   entries17 = refl;
-  before15 = refl;
+  number17 = refl;
+  inOrder = refl;
   number15 = refl;
   justFits = refl;
   called = refl;
