@@ -5,5 +5,6 @@ pub mod Accepted
 pub mod Totals
 pub mod Sorting
 pub mod Lists
+pub mod Occurrences
 pub mod Sheets
 pub mod Promises

@@ -5,13 +5,13 @@ use mathlib.Core.List.{map-append, map-map}
 use native.Mathlib.Omega.{arith}
 use lib.ListN.{drop, length-map, length-drop, take-append-drop}
 use lib.Seq.{length-take-le}
-use Rattle.definitions.specs.Basics.{ℕ, _+_, min, compare, Bool, true, false, _&&_, Option·getD, isSome, List, [], _∷_, _++_, map, length, take, replicate, sort}
+use Rattle.definitions.specs.Basics.{ℕ, _+_, _<_, min, compare, Bool, true, false, _&&_, Option·getD, isSome, List, [], _∷_, _++_, map, length, take, replicate, sort}
 use Rattle.definitions.specs.Syntax.{Patient, Region}
-use Rattle.definitions.specs.Plans.{plans, total, allowed, Row, thenBy, compareRows, listOf}
+use Rattle.definitions.specs.Plans.{bedOf, plans, total, allowed, Row, thenBy, compareRows, listOf}
 use Rattle.definitions.specs.Questions.{planAllowed}
 use Rattle.definitions.specs.Joining.{patientAfter, joinedRegion, comparePairs, pairedRow, allPairs, firstPairs}
 use Rattle.lists.specs.Tests.{both, join, same-answer}
-use Rattle.lists.specs.Members.{_∈_, Distinct}
+use Rattle.lists.specs.Members.{_∈_, _⊆_, Distinct}
 use Rattle.lists.specs.Every.{any-in, any-out}
 use Rattle.ranking.specs.First.{First, first-iff, first-unique, sorted-distinct}
 use Rattle.ranking.specs.Combining.{Combined, Rising, Injective, cross, cross-enumerates, first-cross}
@@ -23,7 +23,7 @@ use Rattle.theorems.specs.Accepted.{Accepted, some-of}
 use Rattle.partial_rows.specs.Appending.{compare-append}
 use Rattle.joining.specs.Sorting.{map-take, map-cross, sort-map}
 use Rattle.joining.specs.Joined.{joined-plans, joined-patients, joined-many}
-use Rattle.joining.specs.Totals.{joined-total}
+use Rattle.joining.specs.Totals.{first-beds, second-beds, joined-total}
 
 -- One list behind the other is one way to interleave them.
 marks : ℕ → ℕ → List Bool
@@ -39,7 +39,7 @@ appended (x ∷ xs) ys = marked x (appended xs ys)
 abbrev counts : Region → List ℕ
 counts x = map (λ p. p .bedCount) (x .patients)
 
-row-long : (x : Region) (w : Row) → Allowed x w → length (w .beds) ≡ length (x .patients)
+pub row-long : (x : Region) (w : Row) → Allowed x w → length (w .beds) ≡ length (x .patients)
 row-long x w p = sym (fits-length (counts x) (w .beds) (p .fits)) ∙ length-map (x .patients) (λ p. p .bedCount)
 
 -- Question 13 asks for a row that is allowed.
@@ -52,6 +52,18 @@ allowed-row x e =
 row-allowed : (x : Region) (w : Row) → Allowed x w → planAllowed x ≡ true
 unfolding planAllowed
 row-allowed x w p = any-in (allowed x) (plans x) (plans-enumerate (counts x) .every (w .beds) (p .fits)) (ap isSome (p .priced))
+
+-- The rows of j are the rows of x, each put together with each row of y; the beds of the row of x stand there from v on.
+pub record Half (v : ℕ) (x y j : Region) : Type 0 where
+  pub combine : Row → Row → Row
+  pub apart : Allowed j ⊆ Combined combine (Allowed x) (Allowed y)
+  pub together : Combined combine (Allowed x) (Allowed y) ⊆ Allowed j
+  pub rising : Rising rowOrder rowOrder rowOrder combine (Allowed x) (Allowed y)
+  pub beds : (p q : Row) → Allowed x p → Allowed y q → (k : ℕ) → k < length (x .patients) → bedOf (combine p q .beds) (v + k) ≡ bedOf (p .beds) k
+
+-- Left and right may change places.
+turned : {combine : Row → Row → Row} {P Q : Row → Type 0} {z : Row} → Combined combine P Q z → Combined (λ w v. combine v w) Q P z
+turned c = record { left = c .right; right = c .left; inLeft = c .inRight; inRight = c .inLeft; is = c .is }
 
 module _ (r s : Region) (a : Accepted r) (b : Accepted s) where
   abbrev joined : Region
@@ -137,6 +149,25 @@ module _ (r s : Region) (a : Accepted r) (b : Accepted s) where
   injective v x w y p t q u e =
       let (left, right) = unweave (combined v w p q) (subst (Parts (x .beds) (y .beds)) (ap (λ (z : Row). z .beds) (sym e)) (combined x y t u)) in
       (by-beds r p t left, by-beds s q u right)
+
+  -- So its rows are rows of the first, each with a row of the second, and rows of the second, each with a row of the first.
+  pub first-half : Half 0 r s (joinedRegion r s)
+  first-half = record {
+    combine = combine;
+    apart = row-apart;
+    together = row-together;
+    rising = rising;
+    beds = λ v w p q. first-beds r (v .beds) (w .beds) (row-long r v p);
+  }
+
+  pub second-half : Half (length (r .patients)) s r (joinedRegion r s)
+  second-half = record {
+    combine = λ w v. combine v w;
+    apart = λ z p. turned (row-apart z p);
+    together = λ z c. row-together z (turned c);
+    rising = record { inLeft = λ w y v q o p. rising .inRight v w y p q o; inRight = λ w v x q p o. rising .inLeft v x w p o q };
+    beds = λ w v q p k h. second-beds r (v .beds) (w .beds) (row-long r v p) k;
+  }
 
   -- ---- pairs of a row from each list
 

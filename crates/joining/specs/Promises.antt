@@ -5,12 +5,12 @@ use mathlib.Core.List.{append-assoc}
 use native.Mathlib.Omega.{arith}
 use Prim.Native.Nat.{_≤_}
 use lib.Dec.{eqb·suc-zero}
-use Rattle.definitions.specs.Basics.{ℕ, zero, suc, min, true, false, _&&_, cond, List, [], _∷_, _++_, length, eqb, any}
+use Rattle.definitions.specs.Basics.{ℕ, zero, suc, min, true, _&&_, cond, List, [], _∷_, _++_, length, eqb}
 use Rattle.definitions.specs.Syntax.{Region}
 use Rattle.definitions.specs.Plans.{listOf}
 use Rattle.definitions.specs.Sheets.{sheetOf}
 use Rattle.definitions.specs.Questions.{clinicPresent, planAllowed, regionOf, Asked, firstNo, askedByCheck, checkOf, entryAsks, callAsks}
-use Rattle.definitions.specs.Isolation.{YieldsList, joins, SameBeginning}
+use Rattle.definitions.specs.Isolation.{YieldsList, SameBeginning}
 use Rattle.definitions.specs.Spelling.{spell}
 use Rattle.definitions.specs.Writer.{asHeld, writtenFile}
 use Rattle.definitions.specs.Joining.{joinedRegion, joinedFile, clinicsApart, joinWithin, askedByJoin, WhichFile, neitherFile, firstFile, secondFile, refusedFile, joinOutcome, firstPairs}
@@ -21,14 +21,13 @@ use Rattle.lists.specs.Every.{every-split}
 use Rattle.theorems.specs.Answers.{numbers, allYes, Numbered, Says, says}
 use Rattle.theorems.specs.Refusals.{after-check, refused-before}
 use Rattle.theorems.specs.Accepted.{Accepted, accepted}
-use Rattle.theorems.specs.Yields.{yields, asked-after}
-use Rattle.theorems.specs.Agreement.{same-beginning}
+use Rattle.theorems.specs.Yields.{yields, asked-after, sheet-some}
 use Rattle.theorems.specs.Lengths.{mostWritten}
 use Rattle.theorems.specs.Writer.{written-short, written-region, written-accepted, Wrote, Unwritten, made-wrote, made-refused}
 use Rattle.joining.specs.Joined.{joined-held}
 use Rattle.joining.specs.Accepted.{joined-accepted}
 use Rattle.joining.specs.Lists.{joined-list, joined-none}
-use Rattle.joining.specs.Sheets.{first-clinic, second-clinic, not-in-first, not-in-second}
+use Rattle.joining.specs.Sheets.{Begins, begins-alike, first-sheet, second-sheet, not-in-first, not-in-second}
 
 -- ---- which file a number is about
 
@@ -75,10 +74,6 @@ asked-which f g later numbered = rw (append-assoc (askedByCheck f) (askedByCheck
 
 -- ---- the joined file
 
--- A clinic of a region that no table joins to others.
-abbrev pub Unjoined : Region → ℕ → Type 0
-Unjoined r c = (clinicPresent r c ≡ true) × (any (joins r c) (r .tables) ≡ false)
-
 pub record Joined (f g : List ℕ) : Type 0 where
   -- The second's patients, tables and parents after the first's, with m the smaller of the two; accepted, and at most so long.
   pub says : regionOf (joinedFile f g) ≡ joinedRegion (regionOf f) (regionOf g)
@@ -87,9 +82,9 @@ pub record Joined (f g : List ℕ) : Type 0 where
   -- Its list is exactly the first m pairs of a row from each list; if either has no allowed plan, neither has the joined file.
   pub rows : listOf (regionOf (joinedFile f g)) ≡ firstPairs (min (regionOf f .plansWanted) (regionOf g .plansWanted)) (listOf (regionOf f)) (listOf (regionOf g))
   pub planned : planAllowed (regionOf (joinedFile f g)) ≡ (planAllowed (regionOf f) && planAllowed (regionOf g))
-  -- Of a clinic that no table joins to others, the sheet begins as that of its own file.
-  pub firstSheet : YieldsList f → YieldsList g → (c : ℕ) → Unjoined (regionOf f) c → SameBeginning (sheetOf (regionOf (joinedFile f g)) c) (sheetOf (regionOf f) c)
-  pub secondSheet : YieldsList f → YieldsList g → (c : ℕ) → Unjoined (regionOf g) c → SameBeginning (sheetOf (regionOf (joinedFile f g)) c) (sheetOf (regionOf g) c)
+  -- The sheet of a clinic begins as in its own file, joined to others by tables or not.
+  pub firstSheet : YieldsList f → YieldsList g → (c : ℕ) → clinicPresent (regionOf f) c ≡ true → SameBeginning (sheetOf (regionOf (joinedFile f g)) c) (sheetOf (regionOf f) c)
+  pub secondSheet : YieldsList f → YieldsList g → (c : ℕ) → clinicPresent (regionOf g) c ≡ true → SameBeginning (sheetOf (regionOf (joinedFile f g)) c) (sheetOf (regionOf g) c)
 
 -- What it takes: both files are accepted, and 16 and 17 are answered yes.
 module _ (f g : List ℕ) (inF : checkOf f ≡ 0) (inG : checkOf g ≡ 0)
@@ -127,6 +122,10 @@ module _ (f g : List ℕ) (inF : checkOf f ≡ 0) (inG : checkOf g ≡ 0)
   file-yields listF listG =
       yields (joinedFile f g) .1 (record { checked = file-checked; planned = file-planned ∙ join (yields f .0 listF .planned) (yields g .0 listG .planned) })
 
+  file-sheet : YieldsList f → YieldsList g → (c : ℕ) (own : Region) → Begins (sheetOf (joinedRegion r s) c) (sheetOf own c)
+      → SameBeginning (sheetOf (regionOf (joinedFile f g)) c) (sheetOf own c)
+  file-sheet listF listG c own begins = begins-alike _ _ (rw file-says begins) (sheet-some (joinedFile f g) (file-yields listF listG) c)
+
   made-joined : Joined f g
   made-joined = record {
     says = file-says;
@@ -134,10 +133,8 @@ module _ (f g : List ℕ) (inF : checkOf f ≡ 0) (inG : checkOf g ≡ 0)
     short = subst (λ file. length file ≤ mostWritten) (sym written) (written-short (joinedRegion r s) held);
     rows = ap listOf file-says ∙ joined-list r s a b;
     planned = file-planned;
-    firstSheet = λ listF listG c (present, alone).
-        same-beginning (joinedFile f g) f c (file-yields listF listG) listF (rw file-says (first-clinic r s a b c (not-in-second r s apart c present) alone));
-    secondSheet = λ listF listG c (present, alone).
-        same-beginning (joinedFile f g) g c (file-yields listF listG) listG (rw file-says (second-clinic r s a b c (not-in-first r s apart c present) alone));
+    firstSheet = λ listF listG c present. file-sheet listF listG c r (first-sheet r s a b c (not-in-second r s apart c present));
+    secondSheet = λ listF listG c present. file-sheet listF listG c s (second-sheet r s a b c (not-in-first r s apart c present));
   }
 
 -- So it is where every question is answered yes, perhaps with some more before 16.

@@ -1,12 +1,11 @@
 -- Numbers that are each v more: what tests and lists keep of them.
-use mathlib.Core.Path.{_≡_, refl, sym, ap, ap₂, _∙_}
-use mathlib.Core.Bool.{or-assoc}
+use mathlib.Core.Path.{_≡_, refl, ap, ap₂, _∙_}
 use mathlib.Core.List.{map-id}
 use native.Mathlib.Nat.{zero-add}
 use native.Mathlib.Omega.{arith}
 use borrow.Author.Tests.{ltb-true, lt-ltb, eqb-true, eq-eqb}
-use Rattle.definitions.specs.Basics.{ℕ, zero, suc, _+_, Bool, true, false, _&&_, _||_, cond, List, [], _∷_, _++_, map, eqb, ltb, numbersFrom, below, any, everyTwo, keep, contains}
-use Rattle.definitions.specs.Isolation.{placeAmong}
+use Rattle.definitions.specs.Basics.{ℕ, zero, suc, _+_, _<_, min, Bool, true, false, _&&_, _||_, cond, List, [], _∷_, _++_, map, length, eqb, ltb, numbersFrom, below, everyTwo, keep, contains}
+use Rattle.definitions.specs.Sheets.{lowest}
 use Rattle.lists.specs.Tests.{same-answer}
 use Rattle.lists.specs.Members.{_∈_, here, there}
 use Rattle.lists.specs.Every.{every-map, every-same}
@@ -21,10 +20,6 @@ not-shifted l = map-same (λ s. 0 + s) (λ s. s) l (λ s k. zero-add s) ∙ map-
 -- ---- tests of images, where what a function gives passes one test as what it is given of passes another
 
 module _ {A B : Type 0} (h : A → B) where
-  pub any-map : (f : B → Bool) (g : A → Bool) (l : List A) → ((x : A) → x ∈ l → f (h x) ≡ g x) → any f (map h l) ≡ any g l
-  any-map f g [] same = refl
-  any-map f g (x ∷ l) same = ap₂ _||_ (same x (here refl)) (any-map f g l (λ y k. same y (there k)))
-
   pub keep-map : (f : B → Bool) (g : A → Bool) (l : List A) → ((x : A) → x ∈ l → f (h x) ≡ g x) → keep f (map h l) ≡ map h (keep g l)
   keep-map f g [] same = refl
   keep-map f g (x ∷ l) same = rw (same x (here refl), keep-map f g l (λ y k. same y (there k))) (go (g x))
@@ -39,10 +34,6 @@ module _ {A B : Type 0} (h : A → B) where
       (every-map (f (h x)) h l ∙ every-same (λ y. f (h x) (h y)) (g x) l (λ y k. same x y (here refl) (there k)))
       (every-two-map f g l (λ y z i k. same y z (there i) (there k)))
 
-pub any-append : {A : Type 0} (f : A → Bool) (l m : List A) → any f (l ++ m) ≡ (any f l || any f m)
-any-append f [] m = refl
-any-append f (x ∷ l) m = ap (λ b. f x || b) (any-append f l m) ∙ sym (or-assoc (f x) (any f l) (any f m))
-
 -- ---- numbers
 
 module _ (v : ℕ) where
@@ -56,9 +47,10 @@ module _ (v : ℕ) where
   contains-shifted [] q = refl
   contains-shifted (s ∷ l) q = ap₂ _||_ (eqb-shifted q s) (contains-shifted l q)
 
-  pub place-shifted : (l : List ℕ) (s : ℕ) → placeAmong (shifted v l) (v + s) ≡ placeAmong l s
-  place-shifted [] s = refl
-  place-shifted (p ∷ l) s = ap₂ (λ b n. cond b 0 (suc n)) (eqb-shifted p s) (place-shifted l s)
+  pub lowest-shifted : (l : List ℕ) → 0 < length l → lowest (shifted v l) ≡ v + lowest l
+  lowest-shifted [] h = absurd (omega arith)
+  lowest-shifted (n ∷ []) h = refl
+  lowest-shifted (n ∷ m ∷ l) h = ap (min (v + n)) (lowest-shifted (m ∷ l) (omega arith)) ∙ omega arith
 
 -- ---- the numbers below v + w
 

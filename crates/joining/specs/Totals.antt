@@ -21,7 +21,7 @@ use Rattle.joining.specs.Joined.{Stands, joined-tables, joined-numbers, 
 -- What a region that stands in another costs there, where the plan has the beds of its own plan.
 module _ {v : ℕ} {r j : Region} (stands : Stands v r j) (a : Accepted r) (plan own : Plan)
     (beds : (q : ℕ) → q < length (r .patients) → bedOf plan (v + q) ≡ bedOf own q) where
-  entry-after : (t : Table) → t ∈ r .tables → entryFor j plan (tableAfter v t) ≡ entryFor r own t
+  pub entry-after : (t : Table) → t ∈ r .tables → entryFor j plan (tableAfter v t) ≡ entryFor r own t
   unfolding entryFor
   entry-after t k = ap (λ pairs. getD (t .entries) (place pairs) none)
       (map-map _ (λ s. v + s) (t .members) ∙ map-same _ _ (t .members) (λ s i.
@@ -39,6 +39,14 @@ module _ {v : ℕ} {r j : Region} (stands : Stands v r j) (a : Accepted r) (plan
       (sum-map (fixedCost r own) (fixedCost j plan) (λ q. v + q) (patientNumbers r) (λ q k. fixed-after q (below-out _ q k)))
       ∙ sym (total-parts r own)
 
+-- In a plan of the joined region the beds of the first come from 0 on, those of the second behind them.
+module _ (r : Region) (p q : Plan) (long : length p ≡ length (r .patients)) (k : ℕ) where
+  pub first-beds : k < length (r .patients) → bedOf (p ++ q) (0 + k) ≡ bedOf p k
+  first-beds h = ap (bedOf (p ++ q)) (zero-add k) ∙ List·getD-append p q 0 k (omega (arith, long))
+
+  pub second-beds : bedOf (p ++ q) (length (r .patients) + k) ≡ bedOf q k
+  second-beds = ap (λ n. bedOf (p ++ q) (n + k)) (sym long) ∙ getD-append-add p q k 0
+
 pub joined-total : (r s : Region) → Accepted r → Accepted s → (p q : Plan) → length p ≡ length (r .patients)
     → total (joinedRegion r s) (p ++ q) ≡ plus (total r p) (total s q)
 unfolding costOver
@@ -49,8 +57,8 @@ joined-total r s a b p q long =
     (ap (sumOver (fixedCost joined plan)) (joined-numbers r s) ∙ sum-append (fixedCost joined plan) (shifted 0 (patientNumbers r)) (shifted v (patientNumbers s)))
     ∙ plus-pairs (tables 0 r) (tables v s) (fixed 0 r) (fixed v s)
     ∙ ap₂ plus
-    (part-total (first-stands r s) a plan p (λ k h. ap (bedOf plan) (zero-add k) ∙ List·getD-append p q 0 k (omega (arith, long))))
-    (part-total (second-stands r s) b plan q (λ k h. ap (λ n. bedOf plan (n + k)) (sym long) ∙ getD-append-add p q k 0))
+    (part-total (first-stands r s) a plan p (first-beds r p q long))
+    (part-total (second-stands r s) b plan q (λ k h. second-beds r p q long k))
   where
     v : ℕ
     v = length (r .patients)
