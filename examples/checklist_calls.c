@@ -1,8 +1,9 @@
 /*
  * The calls that the checklist makes.
- *     cuts FILE            lends every cut of the file, short of the whole, to the five calls of a file
+ *     cuts FILE            lends every cut of the file, short of the whole, to the five calls of a file, and to join with the whole
  *     print FILE           the list and the clinics' sheets by the calls, in the printing program's form
  *     price FILE BED ..    what the plan costs
+ *     join FIRST SECOND    the two files joined
  *     seal                 standard input with its end line put behind it
  */
 #include <inttypes.h>
@@ -55,6 +56,19 @@ static int cut_refused(const struct region_file *cut, const uint8_t *plan, size_
         && rigbasen_check(cut->bytes, cut->length) != RIGBASEN_FINE;
 }
 
+/* Does join refuse a file of the two, name it, and write nothing? */
+static int named_clean(const struct region_file *first, const struct region_file *second, uint64_t named)
+{
+    uint8_t output[512];
+    uint8_t result[RIGBASEN_JOIN_RESULT_BYTES];
+    memset(output, PATTERN, sizeof output);
+    memset(result, PATTERN, sizeof result);
+    uint64_t number = rigbasen_join(first->bytes, first->length, second->bytes, second->length,
+                                    output, sizeof output, result, sizeof result);
+    return number != RIGBASEN_FINE && all(output, sizeof output, PATTERN)
+        && number_at(result) == 0 && number_at(result + RIGBASEN_NUMBER_BYTES) == named;
+}
+
 static int try_cuts(const struct region_file *file)
 {
     static const uint8_t plan[RIGBASEN_MOST_PATIENTS] = {0};
@@ -66,7 +80,8 @@ static int try_cuts(const struct region_file *file)
     }
     cut = *file;
     for (cut.length = 0; cut.length < file->length; cut.length++) {
-        if (!cut_refused(&cut, plan, patients)) {
+        int joined_refused = named_clean(&cut, file, RIGBASEN_FIRST_FILE) && named_clean(file, &cut, RIGBASEN_SECOND_FILE);
+        if (!joined_refused || !cut_refused(&cut, plan, patients)) {
             printf("the first %zu bytes are not refused\n", cut.length);
             return 1;
         }
@@ -132,6 +147,22 @@ static int print_price(const struct region_file *file, int count, char **beds)
     return 0;
 }
 
+static int print_joined(const char *first_name, const char *second_name)
+{
+    static struct region_file first;
+    static struct region_file second;
+    static struct region_file joined;
+    uint8_t result[RIGBASEN_JOIN_RESULT_BYTES];
+    read_region(first_name, &first);
+    read_region(second_name, &second);
+    uint64_t number = join_files(&first, &second, &joined, result);
+    if (number != RIGBASEN_FINE) {
+        printf("refused %" PRIu64 "\n", number);
+        return 1;
+    }
+    return fwrite(joined.bytes, 1, joined.length, stdout) == joined.length ? 0 : 2;
+}
+
 static int seal(void)
 {
     unsigned long sum = 0;
@@ -154,6 +185,9 @@ static int carry_out(const char *command, int count, char **behind)
         read_region(behind[0], &file);
         return print_price(&file, count - 1, behind + 1);
     }
+    if (strcmp(command, "join") == 0 && count == 2) {
+        return print_joined(behind[0], behind[1]);
+    }
     if (strcmp(command, "cuts") == 0 && count == 1) {
         read_region(behind[0], &file);
         return try_cuts(&file);
@@ -162,7 +196,7 @@ static int carry_out(const char *command, int count, char **behind)
         read_region(behind[0], &file);
         return print_answers(&file);
     }
-    fprintf(stderr, "checklist_calls cuts FILE, print FILE, price FILE BED .., or seal\n");
+    fprintf(stderr, "checklist_calls cuts FILE, print FILE, price FILE BED .., join FIRST SECOND, or seal\n");
     return 2;
 }
 

@@ -1,4 +1,4 @@
-/* What the ward screen and the settings page both show: what a refusal means, and rows. */
+/* What the programs for a screen show: what a refusal means, and rows. */
 #ifndef ON_SCREEN_H
 #define ON_SCREEN_H
 
@@ -28,6 +28,8 @@ static const struct {
     {RIGBASEN_NO_PLAN, "there is no allowed plan"},
     {RIGBASEN_PLAN_MISFIT, "the plan has not one bed for each patient, each below its patient's count"},
     {RIGBASEN_SHORT_OUTPUT, "the area for the file is too short"},
+    {RIGBASEN_COMMON_CLINIC, "the two files have a clinic in common; in one of them it must get another number first"},
+    {RIGBASEN_JOINED_SIZE, "together the two files have more than 32 patients, 64 tables or 4,096 entries"},
     {RIGBASEN_TYPED_MEMBERS, "what was typed is no member list; one is typed as it stands in the file, such as (0 1)"},
 };
 

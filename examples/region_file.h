@@ -95,6 +95,16 @@ static inline uint64_t line_over(const struct region_file *file, const char *typ
     return rigbasen_line(file->bytes, file->length, (const uint8_t *)typed, strlen(typed), result, RIGBASEN_LINE_RESULT_BYTES);
 }
 
+/* Two files joined into a third, with a result area of RIGBASEN_JOIN_RESULT_BYTES. On a refusal the third has no bytes. */
+static inline uint64_t join_files(const struct region_file *first, const struct region_file *second,
+                                  struct region_file *joined, uint8_t *result)
+{
+    uint64_t number = rigbasen_join(first->bytes, first->length, second->bytes, second->length,
+                                    joined->bytes, RIGBASEN_WRITTEN_BYTES, result, RIGBASEN_JOIN_RESULT_BYTES);
+    joined->length = (size_t)number_at(result);
+    return number;
+}
+
 /* A whole number of an argument, at most so large; or ends the program. */
 static inline uint64_t read_number(const char *argument, uint64_t most)
 {

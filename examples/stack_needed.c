@@ -13,6 +13,8 @@
 enum { STACK = 4 * RIGBASEN_STACK_BYTES, PATTERN = 0xA5 };
 
 static struct region_file file;
+static struct region_file halves[2];
+static struct region_file written;
 static struct areas areas;
 
 static void *run_nothing(void *unused)
@@ -60,27 +62,45 @@ static void *run_line(void *unused)
     return unused;
 }
 
-/* Writes the most of everything: patients in a chain, each with a fixed bed, and tables over two of them with 64 entries each. */
-static void *run_write(void *unused)
+/* Writes a region: patients in a chain, two of a clinic, each with a fixed bed, and tables over two of them with 64 entries each. */
+static void write_chain(uint64_t first_clinic, size_t patient_count, size_t table_count, struct region_file *into)
 {
     static struct rigbasen_patient patients[RIGBASEN_MOST_PATIENTS];
     static struct rigbasen_table tables[RIGBASEN_MOST_TABLES];
     static uint64_t entries[RIGBASEN_MOST_ENTRIES];
-    static uint8_t output[RIGBASEN_WRITTEN_BYTES];
-    uint8_t result[RIGBASEN_WRITE_RESULT_BYTES];
-    for (uint64_t i = 0; i < RIGBASEN_MOST_PATIENTS; i++) {
-        struct rigbasen_patient patient = {i / 2, 8, i == 0 ? RIGBASEN_NONE : i - 1, i % 8};
+    static uint8_t result[RIGBASEN_WRITE_RESULT_BYTES];
+    for (uint64_t i = 0; i < patient_count; i++) {
+        struct rigbasen_patient patient = {first_clinic + i / 2, 8, i == 0 ? RIGBASEN_NONE : i - 1, i % 8};
         patients[i] = patient;
     }
-    for (uint64_t i = 0; i < RIGBASEN_MOST_TABLES; i++) {
+    for (uint64_t i = 0; i < table_count; i++) {
         struct rigbasen_table table = {2, {i / 3, i / 3 + 1, 0, 0}, 64};
         tables[i] = table;
     }
-    uint64_t number = rigbasen_write((const uint8_t *)patients, sizeof patients, (const uint8_t *)tables, sizeof tables,
-                                     (const uint8_t *)entries, sizeof entries, RIGBASEN_MOST_ROWS,
-                                     output, sizeof output, result, sizeof result);
+    uint64_t number = rigbasen_write((const uint8_t *)patients, patient_count * sizeof patients[0],
+                                     (const uint8_t *)tables, table_count * sizeof tables[0],
+                                     (const uint8_t *)entries, table_count * 64 * sizeof entries[0], RIGBASEN_MOST_ROWS,
+                                     into->bytes, RIGBASEN_WRITTEN_BYTES, result, sizeof result);
+    into->length = (size_t)number_at(result);
     if (number != RIGBASEN_FINE) {
-        fprintf(stderr, "write refused the largest region\n");
+        fprintf(stderr, "write refused a large region\n");
+        exit(2);
+    }
+}
+
+/* The most of everything. */
+static void *run_write(void *unused)
+{
+    write_chain(0, RIGBASEN_MOST_PATIENTS, RIGBASEN_MOST_TABLES, &written);
+    return unused;
+}
+
+/* Two halves of the most of everything, which stand ready. */
+static void *run_join(void *unused)
+{
+    static uint8_t result[RIGBASEN_JOIN_RESULT_BYTES];
+    if (join_files(&halves[0], &halves[1], &written, result) != RIGBASEN_FINE) {
+        fprintf(stderr, "join refused the largest regions\n");
         exit(2);
     }
     return unused;
@@ -110,14 +130,17 @@ static size_t stack_of(void *(*run)(void *))
 
 int main(int count, char **arguments)
 {
-    static const char *const names[] = {"check", "list", "sheet", "price", "line", "write"};
-    static void *(*const calls[])(void *) = {run_check, run_list, run_sheet, run_price, run_line, run_write};
+    static const char *const names[] = {"check", "list", "sheet", "price", "line", "write", "join"};
+    static void *(*const calls[])(void *) = {run_check, run_list, run_sheet, run_price, run_line, run_write, run_join};
     enum { CALLS = sizeof calls / sizeof calls[0] };
     size_t most[CALLS] = {0};
     int over = 0;
     if (count < 2) {
         fprintf(stderr, "stack_needed FILE ..\n");
         return 2;
+    }
+    for (int half = 0; half < 2; half++) {
+        write_chain((uint64_t)half * RIGBASEN_MOST_CLINICS / 2, RIGBASEN_MOST_PATIENTS / 2, RIGBASEN_MOST_TABLES / 2, &halves[half]);
     }
     for (int i = 1; i < count; i++) {
         read_region(arguments[i], &file);

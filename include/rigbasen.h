@@ -1,5 +1,5 @@
 /*
- * Rigbasen: the bed plans of a region. Five calls over one region file, and a sixth that makes such a file.
+ * Rigbasen: the bed plans of a region. Five calls over one region file, a sixth that makes such a file, and a seventh that joins two.
  *
  *     rigbasen_check   is the file a good one?
  *     rigbasen_list    its m cheapest plans
@@ -7,6 +7,7 @@
  *     rigbasen_price   what one plan costs
  *     rigbasen_line    the line of the table over some members
  *     rigbasen_write   the file of a region that the caller holds
+ *     rigbasen_join    the file of two regions together
  *
  * Each call gives RIGBASEN_FINE or the number of the first question that is answered "no".
  * Link with libplanner_c.a, on x86-64. C99 or later, and C++.
@@ -40,8 +41,9 @@ extern "C" {
 #define RIGBASEN_ROWS_RESULT_BYTES RIGBASEN_NUMBER_BYTES        /* list and sheet: the row count */
 #define RIGBASEN_PRICE_RESULT_BYTES (2 * RIGBASEN_NUMBER_BYTES) /* price: allowed, then the total */
 #define RIGBASEN_LINE_RESULT_BYTES (2 * RIGBASEN_NUMBER_BYTES)  /* line: where it starts in the file, then its length */
-#define RIGBASEN_WRITTEN_BYTES 35038                            /* write: the output area */
+#define RIGBASEN_WRITTEN_BYTES 35038                            /* write and join: the output area */
 #define RIGBASEN_WRITE_RESULT_BYTES RIGBASEN_NUMBER_BYTES       /* write: the byte count */
+#define RIGBASEN_JOIN_RESULT_BYTES (2 * RIGBASEN_NUMBER_BYTES)  /* join: the byte count, then which file is refused */
 
 /* Stack that is enough for every call. */
 #define RIGBASEN_STACK_BYTES (128 * 1024)
@@ -62,10 +64,12 @@ enum rigbasen_number {
     RIGBASEN_ENTRIES = 9,        /* is each entry that is a number at most 1,000,000? */
     RIGBASEN_ANCESTORS = 10,     /* of any two members of a table, is one an ancestor of the other? */
     RIGBASEN_NO_SUCH_CLINIC = 11, /* sheet: has the clinic asked for a patient in the file? */
-    RIGBASEN_SHORT_AREA = 12,    /* list, sheet, price: are the lent areas long enough? line, write: is the result area? */
+    RIGBASEN_SHORT_AREA = 12,    /* list, sheet, price: are the lent areas long enough? line, write, join: is the result area? */
     RIGBASEN_NO_PLAN = 13,       /* list, sheet: is there an allowed plan? */
     RIGBASEN_PLAN_MISFIT = 14,   /* price: are there exactly V beds, each below its patient's count? */
-    RIGBASEN_SHORT_OUTPUT = 15,  /* write: is the output area long enough? */
+    RIGBASEN_SHORT_OUTPUT = 15,  /* write, join: is the output area long enough? */
+    RIGBASEN_COMMON_CLINIC = 16, /* join: have the two files no clinic in common? */
+    RIGBASEN_JOINED_SIZE = 17,   /* join: have both together at most 32 patients, 64 tables and 4,096 entries? */
     RIGBASEN_TYPED_MEMBERS = 21  /* line: do the typed members have the layout of a member list? */
 };
 
@@ -171,10 +175,41 @@ uint64_t rigbasen_write(const uint8_t *patients, size_t patients_length,
                         uint8_t *output, size_t output_length,
                         uint8_t *result, size_t result_length);
 
+/* Which file a number of 1 to 10 of join is about. */
+#define RIGBASEN_NEITHER_FILE 0
+#define RIGBASEN_FIRST_FILE 1
+#define RIGBASEN_SECOND_FILE 2
+
+/*
+ * Joins two regions that share a planner: writes one file of both, which check then finds good.
+ * Questions 1 to 10 of the first file, then 1 to 10 of the second, then 12, 16, 17, 15.
+ *
+ * The second's patients come behind the first's and its tables behind the first's tables. Where the first has v patients, patient 0
+ * of the second becomes patient v, and so on: each parent and each member of the second is v more. Clinics, bed counts, fixed beds and
+ * entries stay as they are, m is the smaller of the two, and the end line has the true sum.
+ *
+ * The list of the joined file is the first m pairs of a row of the first's list and a row of the second's, by their costs added up;
+ * at equal costs in order of the first's beds, then of the second's. Where either file has no allowed plan the joined one has none;
+ * that is no refusal here, the file is written, and list then answers 13.
+ *
+ * The file stands at the beginning of output, and its byte count in the first 8 bytes of result. The next 8 bytes say, on a refusal
+ * too, which file a number of 1 to 10 is about: RIGBASEN_FIRST_FILE or RIGBASEN_SECOND_FILE; for every other number, 0 included,
+ * RIGBASEN_NEITHER_FILE. Of two bad files the first is named.
+ *
+ * A clinic keeps its number, so question 16 refuses two files in which patients have the same one: give one of them another first.
+ * Question 12 asks for 16 bytes of result, and 15 for as many bytes of output as the joined file has; RIGBASEN_WRITTEN_BYTES always
+ * suffice.
+ */
+uint64_t rigbasen_join(const uint8_t *first, size_t first_length,
+                       const uint8_t *second, size_t second_length,
+                       uint8_t *output, size_t output_length,
+                       uint8_t *result, size_t result_length);
+
 /*
  * What is proved, for every file, clinic number, plan, typed text, lent region and areas of any length:
  * the call comes back, its number is the first "no", and every byte of every lent area afterwards is the one described here.
- * On a refusal beds, costs and output are untouched, and a result area that is long enough gets zeros; a shorter one is untouched.
+ * On a refusal beds, costs and output are untouched, and a result area that is long enough gets zeros, but for which file join refuses;
+ * a shorter one is untouched.
  * Bytes beyond the rows, the written file and the result's numbers are untouched. No call depends on an earlier one.
  *
  * What the caller sees to:
@@ -183,7 +218,7 @@ uint64_t rigbasen_write(const uint8_t *patients, size_t patients_length,
  * - The areas that a call writes overlap none of its other areas, and nobody else writes to any of them meanwhile.
  *   (The library has no variables of its own, so threads may call at once, each with its own areas.)
  * - RIGBASEN_STACK_BYTES of stack are free: the work area is there. By measure, check and line take about 38,000 bytes,
- *   price 47,000, write 63,000, list up to 113,000 and sheet up to 120,000, the most where 32 patients are one tree.
+ *   price 47,000, write 63,000, join TODO-STACK, list up to 113,000 and sheet up to 120,000, the most where 32 patients are one tree.
  * - Time. A call always ends, but where one tree holds many patients under many tables it can take very long.
  */
 

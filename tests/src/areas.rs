@@ -1,5 +1,7 @@
 //! Lent areas, each between guard bytes that no call may touch.
 
+use crate::plans::Row;
+
 const GUARD: usize = 16;
 const GUARD_BYTE: u8 = 0xa7;
 /// Before an area of numbers, so that they stand at no multiple of eight.
@@ -75,7 +77,7 @@ pub struct Areas {
     pub result: Area,
 }
 
-/// The areas that write writes.
+/// The areas that write and join write.
 #[derive(Clone, PartialEq)]
 pub struct Outputs {
     pub output: Area,
@@ -132,6 +134,16 @@ impl Areas {
     /// The same contents in memory blocks of exactly their lengths.
     pub fn bare(&self) -> Areas {
         Areas { beds: self.beds.bare(), costs: self.costs.bare(), result: self.result.bare() }
+    }
+
+    /// The rows that the result area counts, each of so many beds.
+    pub fn rows(&self, width: usize) -> Vec<Row> {
+        let count = self.result.contents().first_chunk().map_or(0, |bytes| u64::from_le_bytes(*bytes));
+        let (costs, _) = self.costs.contents().as_chunks();
+        let rows = self.beds.contents().chunks(width).zip(costs);
+        rows.take(count as usize)
+            .map(|(beds, cost)| Row { cost: u64::from_le_bytes(*cost), beds: beds.to_vec() })
+            .collect()
     }
 
     /// Takes over the contents of areas of the same lengths.

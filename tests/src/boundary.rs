@@ -62,6 +62,17 @@ extern "C" {
         result_length: usize,
     ) -> u64;
 
+    fn rigbasen_join(
+        first: *const u8,
+        first_length: usize,
+        second: *const u8,
+        second_length: usize,
+        output: *mut u8,
+        output_length: usize,
+        result: *mut u8,
+        result_length: usize,
+    ) -> u64;
+
     /// Of the trial's archive: line's entry in Rattle, which hands back a part of the file. The trial passes it on to `pwrite`.
     fn rigbasen_trial_line(file: *const u8, file_length: usize, typed: *const u8, typed_length: usize) -> u64;
 }
@@ -162,6 +173,24 @@ pub fn write(lent: &Lent, areas: &mut Outputs) -> u64 {
             entries.as_ptr(),
             entries.len(),
             lent.m,
+            output.as_mut_ptr(),
+            output.len(),
+            result.as_mut_ptr(),
+            result.len(),
+        )
+    }
+}
+
+/// Join's number; the result area has two numbers, the byte count and which file is refused.
+pub fn join(first: &[u8], second: &[u8], areas: &mut Outputs) -> u64 {
+    let (output, result) = (areas.output.lent(), areas.result.lent());
+    // Each pointer and length are those of one slice, and the slices do not overlap, but for the two files, which may be one.
+    unsafe {
+        rigbasen_join(
+            first.as_ptr(),
+            first.len(),
+            second.as_ptr(),
+            second.len(),
             output.as_mut_ptr(),
             output.len(),
             result.as_mut_ptr(),

@@ -1,5 +1,5 @@
 //! The tests that are run, not proved: the proved library beside an independent program written
-//! from document 01, and a baseline to measure it against.
+//! from documents 01 and 02, and a baseline to measure it against.
 
 pub mod areas;
 pub mod baseline;
@@ -7,6 +7,7 @@ pub mod boundary;
 pub mod compare;
 pub mod files;
 pub mod generate;
+pub mod joining;
 pub mod lent;
 pub mod limits;
 pub mod numbers;

@@ -1,7 +1,7 @@
 //! What numbers there are. A number that a request brings is added here, and some comparison must then make it come up.
 
 /// Every number that a call gives: 0, or the first question that is answered "no".
-pub const ALL: &[u64] = &[0, 1, 2, 3, 4, 5, 6, 7, 8, 9, 10, 11, 12, 13, 14, 15, 21];
+pub const ALL: &[u64] = &[0, 1, 2, 3, 4, 5, 6, 7, 8, 9, 10, 11, 12, 13, 14, 15, 16, 17, 21];
 
 /// The questions that every call puts to the file.
 pub const OF_FILES: &[u64] = &[1, 2, 3, 4, 5, 6, 7, 8, 9, 10];

@@ -1,5 +1,5 @@
 //! What each call from C must answer, by the independent program: the number, and every byte of
-//! every lent area afterwards.
+//! every lent area afterwards. Join is in `joining`.
 
 use crate::areas::{Areas, Outputs};
 use crate::generate::spelling;
@@ -208,7 +208,7 @@ fn write_rows(areas: &mut Areas, rows: &[Row]) {
 }
 
 /// Writes the numbers, lowest byte first, where the area has room for all of them.
-fn write_result(result: &mut [u8], numbers: &[u64]) {
+pub fn write_result(result: &mut [u8], numbers: &[u64]) {
     if result.len() < numbers.len() * 8 {
         return;
     }

@@ -1,4 +1,4 @@
-//! The five calls of a file over the baseline reader and search; the sixth is in `writer`.
+//! The five calls of a file over the baseline reader and search; write is in `writer`, join in `joiner`.
 
 use crate::areas::Areas;
 use crate::baseline::held::{Held, Patient, Table, HYPHEN};
@@ -21,7 +21,7 @@ pub fn price(file: &[u8], plan: &[u8], result: &mut [u8]) -> u64 {
 }
 
 /// Two numbers, where the result area has room for both.
-fn write_two(result: &mut [u8], first: u64, second: u64) {
+pub fn write_two(result: &mut [u8], first: u64, second: u64) {
     if let Some(numbers) = result.get_mut(..16) {
         numbers[..8].copy_from_slice(&first.to_le_bytes());
         numbers[8..].copy_from_slice(&second.to_le_bytes());

@@ -1,9 +1,10 @@
 //! The same product as an engineer would write it for speed, without proofs: a reader into fixed
-//! arrays, a branch and bound search, a writer, and the calls from C over them. The benchmark measures it
+//! arrays, a branch and bound search, a writer, a joiner, and the calls from C over them. The benchmark measures it
 //! beside the proved library, and the tests use it as a second route.
 
 pub mod calls;
 pub mod held;
+pub mod joiner;
 pub mod reader;
 pub mod rows;
 pub mod search;

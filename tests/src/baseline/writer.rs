@@ -87,7 +87,8 @@ fn or_hyphen(number: u64) -> u32 {
     cut_off(number)
 }
 
-fn spelled(held: &Held) -> Vec<u8> {
+/// The file of a region that was judged.
+pub fn spelled(held: &Held) -> Vec<u8> {
     let mut text = Text(Vec::with_capacity(MOST_BYTES));
     text.numbers(b"(region ", [held.patient_count, held.table_count, held.m].map(|count| count as u32), b")\n");
     for patient in held.patients() {

@@ -14,6 +14,7 @@ pub const BARE: Calls = Calls {
     list: Tested { name: "few, list", call: list },
     sheet: Tested { name: "few, sheet", call: sheet },
     write: Tested { name: "few, write", call: write },
+    join: Tested { name: "few, join", call: join },
 };
 
 /// Its comparison lends such blocks itself.
@@ -66,6 +67,13 @@ fn write(lent: &Lent, areas: &mut Outputs) -> u64 {
     let block = lent.bare();
     let number = boundary::write(&block, &mut blocks);
     assert!(block == lent.bare(), "a call wrote into a region that it may only read");
+    areas.take(&blocks);
+    number
+}
+
+fn join(first: &[u8], second: &[u8], areas: &mut Outputs) -> u64 {
+    let mut blocks = areas.bare();
+    let number = lending(first, |first| lending(second, |second| boundary::join(first, second, &mut blocks)));
     areas.take(&blocks);
     number
 }

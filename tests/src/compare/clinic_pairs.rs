@@ -7,16 +7,17 @@ use crate::compare::{SheetCall, Tested};
 use crate::generate::pairs::{self, Pair, Sharing, Sizes, LARGE, SMALL};
 use crate::generate::spelling;
 use crate::outcomes::Outcomes;
+use crate::plans::Row;
 use crate::random::Random;
 use crate::region::Region;
 
-/// A sheet as a call left it: its number, the number that is due, and the rows as beds and cost.
+/// A sheet as a call left it: its number, the number that is due, and the rows.
 struct Sheet {
     file: Vec<u8>,
     clinic: u64,
     number: u64,
     due: u64,
-    rows: Vec<(Vec<u8>, Vec<u8>)>,
+    rows: Vec<Row>,
     areas: Areas,
 }
 
@@ -123,16 +124,8 @@ fn called(tested: Tested<SheetCall>, due: SheetCall, (region, clinic): &(Region,
     let mut areas = Areas::patterned(lengths, random.number());
     let due = due(&file, *clinic, &mut areas.clone());
     let number = (tested.call)(&file, *clinic, &mut areas);
-    let rows = rows_left(&areas, region.patients_of(*clinic).len());
+    let rows = areas.rows(region.patients_of(*clinic).len());
     Sheet { file, clinic: *clinic, number, due, rows, areas }
-}
-
-/// The rows that the result area counts.
-fn rows_left(areas: &Areas, k: usize) -> Vec<(Vec<u8>, Vec<u8>)> {
-    let count = u64::from_le_bytes(areas.result.contents()[..8].try_into().expect("8 bytes"));
-    let beds = areas.beds.contents().chunks(k).map(<[u8]>::to_vec);
-    let costs = areas.costs.contents().chunks(8).map(<[u8]>::to_vec);
-    beds.zip(costs).take(count as usize).collect()
 }
 
 /// At every place below both counts the beds and the cost are the same.

@@ -1,8 +1,8 @@
-//! One file through all five calls. Cut, changed and damaged files: every call refuses what check refuses.
+//! One file through the five calls of a file, and through join before and behind another. Cut, changed and damaged files: every call refuses what check refuses.
 
 use crate::areas::{Area, Areas, Lengths};
 use crate::compare::report::{Difference, Tally};
-use crate::compare::{check, line, list, paper, price, sheet, Calls};
+use crate::compare::{check, join, line, list, paper, price, sheet, Calls};
 use crate::generate::{clinics, damage, small, spelling, typed};
 use crate::outcomes::Outcomes;
 use crate::random::Random;
@@ -21,7 +21,7 @@ pub fn run(calls: Calls, seed: u64, count: usize) -> Result<Vec<Tally>, Differen
     ])
 }
 
-/// Check, list, sheet, price and line of one file, in every byte that they leave.
+/// Check, list, sheet, price, line and join of one file, in every byte that they leave.
 pub fn compare(tally: &mut Tally, calls: Calls, file: &[u8], random: &mut Random) -> Result<Outcomes, Difference> {
     let outcomes = Outcomes::of(file);
     let region = outcomes.region();
@@ -37,6 +37,7 @@ pub fn compare(tally: &mut Tally, calls: Calls, file: &[u8], random: &mut Random
     price::compare(tally, calls.price, (file, &outcomes), &plan, result)?;
     let result = Area::patterned(random.pick(&[0, 15, 16, 16, 16, 17]), random.number());
     line::compare(tally, calls.line, (file, &outcomes.lines(file)), &typed::any(region, random), result)?;
+    join::compare_with_partner(tally, calls.join, (file, region), random)?;
     Ok(outcomes)
 }
 

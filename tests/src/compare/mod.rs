@@ -4,6 +4,7 @@ pub mod bare;
 pub mod check;
 pub mod clinic_pairs;
 pub mod every_call;
+pub mod join;
 pub mod large;
 pub mod line;
 pub mod list;
@@ -40,11 +41,12 @@ pub type LineCall = fn(&[u8], &[u8], &mut [u8]) -> u64;
 pub type ListCall = fn(&[u8], &mut Areas) -> u64;
 pub type SheetCall = fn(&[u8], u64, &mut Areas) -> u64;
 pub type WriteCall = fn(&Lent, &mut Outputs) -> u64;
+pub type JoinCall = fn(&[u8], &[u8], &mut Outputs) -> u64;
 
 /// Line's entry in Rattle: its number, and the part that it hands back.
 pub type PartCall = fn(&[u8], &[u8]) -> (u64, Option<Part>);
 
-/// The six calls of one program.
+/// The seven calls of one program.
 #[derive(Clone, Copy)]
 pub struct Calls {
     pub name: &'static str,
@@ -54,6 +56,7 @@ pub struct Calls {
     pub list: Tested<ListCall>,
     pub sheet: Tested<SheetCall>,
     pub write: Tested<WriteCall>,
+    pub join: Tested<JoinCall>,
 }
 
 pub const LIBRARY: Calls = Calls {
@@ -64,6 +67,7 @@ pub const LIBRARY: Calls = Calls {
     list: Tested { name: "list", call: boundary::list },
     sheet: Tested { name: "sheet", call: boundary::sheet },
     write: Tested { name: "write", call: boundary::write },
+    join: Tested { name: "join", call: boundary::join },
 };
 
 /// What line's entry hands back to a caller in Rattle.
@@ -77,6 +81,7 @@ pub const BASELINE: Calls = Calls {
     list: Tested { name: "baseline list", call: baseline::calls::list },
     sheet: Tested { name: "baseline sheet", call: baseline::calls::sheet },
     write: Tested { name: "baseline write", call: baseline::writer::write },
+    join: Tested { name: "baseline join", call: baseline::joiner::join },
 };
 
 /// Runs every comparison up to the first difference: the library's, each line printed as soon as it
@@ -116,7 +121,7 @@ fn run_beside(seed: u64, count: usize, printer: Option<&Path>) -> Result<Vec<Tal
     Ok(tallies)
 }
 
-/// Every comparison of the six calls of one program.
+/// Every comparison of the seven calls of one program.
 fn run_calls(calls: Calls, seed: u64, count: usize, done: fn(&Tally)) -> Result<Vec<Tally>, Difference> {
     let mut all = Vec::new();
     let mut add = |tallies: Vec<Tally>| {
@@ -133,10 +138,11 @@ fn run_calls(calls: Calls, seed: u64, count: usize, done: fn(&Tally)) -> Result<
     add(shares::run(calls.sheet, seed, count)?);
     add(clinic_pairs::run(calls.sheet, seed, count)?);
     add(write::run(calls.write, seed, count)?);
+    add(join::run(calls.join, seed, count)?);
     Ok(all)
 }
 
-/// Some dozens of regions and files through all six calls, for a run under a memory checker.
+/// Some dozens of regions and files through all seven calls, for a run under a memory checker.
 pub fn run_few(seed: u64) -> Result<(), Difference> {
     paper::run(BARE)?.print();
     print_all(check::run(BARE.check, seed, 20)?);
@@ -155,7 +161,8 @@ pub fn run_few(seed: u64) -> Result<(), Difference> {
     clinic_pairs::apart(BARE.sheet, seed, 24)?.print();
     large::lists(BARE.list, seed, 4)?.print();
     large::sheets(BARE.sheet, seed, 2)?.print();
-    run_few_writes(seed)
+    run_few_writes(seed)?;
+    run_few_joins(seed)
 }
 
 /// Some of the comparisons of line; those of all changes of a typed text have thousands of cases.
@@ -182,6 +189,19 @@ fn run_few_writes(seed: u64) -> Result<(), Difference> {
     write::limits(BARE.write, seed, 24)?.print();
     write::fixed_beds(BARE.write, seed, 4)?.print();
     write::round_trips(BARE.write, seed, 12)?.print();
+    Ok(())
+}
+
+/// Some of the comparisons of join; those of all sizes and lengths have thousands of cases.
+fn run_few_joins(seed: u64) -> Result<(), Difference> {
+    join::by_hand::run(BARE.join, seed, 1)?.print();
+    join::written::good_pairs(BARE.join, seed, 36)?.print();
+    join::written::threes(BARE.join, seed, 4)?.print();
+    join::refusals::either_file(BARE.join, seed, 2)?.print();
+    join::refusals::two_faults(BARE.join, seed, 1)?.print();
+    join::lists::small_pairs(BARE.join, seed, 12)?.print();
+    join::lists::large_pairs(BARE.join, seed, 2)?.print();
+    join::lists::sheets(BARE.join, seed, 6)?.print();
     Ok(())
 }
 

@@ -1,6 +1,6 @@
 //! What a comparison prints: a line where all agrees, or the first difference.
 
-use crate::areas::{Area, Areas};
+use crate::areas::{Area, Areas, Outputs};
 use crate::numbers;
 use std::collections::BTreeMap;
 
@@ -52,6 +52,16 @@ impl Tally {
         let missing = numbers.iter().find(|number| !self.numbers.contains_key(number));
         match missing {
             Some(number) if self.cases >= MANY => Err(self.lack("never came up", *number)),
+            _ => Ok(self),
+        }
+    }
+
+    /// The tally with a remark on how often some things were seen, if each of them was. In a run of few cases it need not be.
+    pub fn with_seen(mut self, seen: &[(&str, u64)]) -> Result<Tally, Difference> {
+        let texts: Vec<String> = seen.iter().map(|(what, times)| format!("{what}: {times}")).collect();
+        self.remark(format!("({})", texts.join(", ")));
+        match seen.iter().find(|(_, times)| *times == 0) {
+            Some((what, _)) if self.cases >= MANY => Err(self.lack(what, 0)),
             _ => Ok(self),
         }
     }
@@ -113,4 +123,9 @@ pub fn area_text(area: &Area) -> String {
 pub fn areas_text(areas: &Areas) -> String {
     let Areas { beds, costs, result } = areas;
     format!("\n  beds   {}\n  costs  {}\n  result {}", area_text(beds), area_text(costs), area_text(result))
+}
+
+/// The areas of a write or join call, one to a line.
+pub fn outputs_text(areas: &Outputs) -> String {
+    format!("\n  output {}\n  result {}", area_text(&areas.output), area_text(&areas.result))
 }

@@ -7,6 +7,7 @@ use crate::compare::report::{Difference, Tally, MANY};
 use crate::compare::{SheetCall, Tested};
 use crate::generate::pairs::{self, Sharing};
 use crate::generate::{large, small, spelling};
+use crate::lent::numbers_in;
 use crate::plans::{self, Row};
 use crate::random::Random;
 use crate::region::{Patient, Region};
@@ -35,14 +36,7 @@ pub fn large_regions(tested: Tested<SheetCall>, seed: u64, count: usize) -> Resu
 fn listed(region: &Region) -> Vec<Row> {
     let mut areas = Areas::patterned(Lengths::asked(region.m, region.patients.len()), 0);
     boundary::list(&spelling::file_of(region), &mut areas);
-    let beds = areas.beds.contents().chunks(region.patients.len()).map(<[u8]>::to_vec);
-    let rows = beds.zip(numbers(areas.costs.contents())).map(|(beds, cost)| Row { cost, beds });
-    rows.take(numbers(areas.result.contents())[0] as usize).collect()
-}
-
-/// The numbers in an area, eight bytes each.
-fn numbers(bytes: &[u8]) -> Vec<u64> {
-    bytes.chunks_exact(8).map(|bytes| u64::from_le_bytes(bytes.try_into().expect("8 bytes"))).collect()
+    areas.rows(region.patients.len())
 }
 
 fn every_row(
@@ -94,7 +88,7 @@ fn shares_due(region: &Region, row: &Row) -> Vec<Share> {
 fn share(tested: Tested<SheetCall>, file: &[u8], clinic: u64, row: &Row) -> Share {
     let mut areas = Areas::patterned(Lengths::asked(64, row.beds.len()), clinic);
     let number = (tested.call)(file, clinic, &mut areas);
-    Share { number, cost: numbers(areas.costs.contents())[0] }
+    Share { number, cost: numbers_in(&areas.costs)[0] }
 }
 
 fn difference(

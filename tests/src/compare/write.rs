@@ -2,7 +2,7 @@
 
 use crate::areas::{Area, Areas, Lengths, Outputs};
 use crate::boundary;
-use crate::compare::report::{area_text, readable, Difference, Tally};
+use crate::compare::report::{outputs_text, readable, Difference, Tally};
 use crate::compare::{list, paper, Tested, WriteCall, LIBRARY};
 use crate::files;
 use crate::generate::{faults, full_size, large, lent_faults, small, spelling};
@@ -72,10 +72,6 @@ fn lent_text(lent: &Lent) -> String {
     };
     let (patients, tables) = (text("patients", &lent.patients), text("tables  ", &lent.tables));
     format!("m {}{patients}{tables}{}", lent.m, text("entries ", &lent.entries))
-}
-
-fn outputs_text(areas: &Outputs) -> String {
-    format!("\n  output {}\n  result {}", area_text(&areas.output), area_text(&areas.result))
 }
 
 /// One call with areas of some lengths.

@@ -20,8 +20,17 @@ pub fn made() -> Vec<Made> {
         ("full_size", full_size()),
         ("one_tree", one_tree()),
         ("stays_put", stays_put()),
+        ("north", north()),
+        ("south", south()),
+        ("north_and_south", north_and_south()),
     ];
     all.map(|(name, region)| Made { path: format!("{DIRECTORY}/{name}.region"), bytes: file_of(&region) }).into()
+}
+
+/// The example of this name.
+pub fn file(name: &str) -> Vec<u8> {
+    let path = format!("{DIRECTORY}/{name}.region");
+    made().into_iter().find(|made| made.path == path).expect("an example of this name").bytes
 }
 
 fn small_ward() -> Region {
@@ -101,4 +110,29 @@ fn stays_put() -> Region {
     let patients = [root(0, 2), child(0, 3, 0).staying_in(2), root(1, 2).staying_in(1), child(1, 2, 2)];
     let tables = [table(&[0], "2 1"), table(&[0, 1], "0 1 4 3 - 0"), table(&[2], "1 3"), table(&[2, 3], "0 2 5 1")];
     region(8, patients, tables)
+}
+
+fn north() -> Region {
+    let patients = [root(0, 2), child(0, 2, 0), root(1, 2)];
+    let tables = [table(&[0], "3 1"), table(&[0, 1], "0 1 1 -"), table(&[1], "0 1"), table(&[2], "0 2")];
+    region(6, patients, tables)
+}
+
+fn south() -> Region {
+    let patients = [root(4, 3), child(4, 2, 0).staying_in(1)];
+    region(4, patients, [table(&[0], "1 0 4"), table(&[0, 1], "9 0 0 2 - 2")])
+}
+
+/// The two joined, by hand: nothing here is made of the two.
+fn north_and_south() -> Region {
+    let patients = [root(0, 2), child(0, 2, 0), root(1, 2), root(4, 3), child(4, 2, 3).staying_in(1)];
+    let tables = [
+        table(&[0], "3 1"),
+        table(&[0, 1], "0 1 1 -"),
+        table(&[1], "0 1"),
+        table(&[2], "0 2"),
+        table(&[3], "1 0 4"),
+        table(&[3, 4], "9 0 0 2 - 2"),
+    ];
+    region(4, patients, tables)
 }

@@ -23,8 +23,7 @@ pub fn print(given: &[(String, Vec<u8>)]) {
     println!("{COLUMNS}");
     println!("|---|---|---|---|---|---|---|---|---|---|");
     print_rows("the paper's", paper::PRINTED.as_bytes());
-    let full = examples::made().into_iter().find(|made| made.path.ends_with("full_size.region"));
-    print_rows("examples/full_size.region", &full.expect("an example of full size").bytes);
+    print_rows("examples/full_size.region", &examples::file("full_size"));
     print_rows("the longest, last table apart", &spelling::file_of(&full_size::longest_with_own_last_table()));
     for (name, file) in given {
         print_rows(name, file);

@@ -4,6 +4,7 @@
 
 mod check_times;
 mod fixed_times;
+mod join_times;
 mod line_times;
 mod list_times;
 mod small_times;
@@ -44,6 +45,7 @@ fn run(mut arguments: impl Iterator<Item = String>) -> Result<(), String> {
     check_times::print(&given);
     line_times::print(&given);
     write_times::print(&given);
+    join_times::print(&given);
     fixed_times::print(limit);
     list_times::print(&given, limit);
     Ok(())

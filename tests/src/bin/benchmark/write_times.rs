@@ -20,8 +20,7 @@ pub fn print(given: &[(String, Vec<u8>)]) {
     println!("| region | bytes | proved, µs | baseline, µs | ratio | repetitions |");
     println!("|---|---|---|---|---|---|");
     print_row("the paper's", paper::PRINTED.as_bytes());
-    let full = examples::made().into_iter().find(|made| made.path.ends_with("full_size.region"));
-    print_row("examples/full_size.region", &full.expect("an example of full size").bytes);
+    print_row("examples/full_size.region", &examples::file("full_size"));
     print_row("the longest file", &spelling::file_of(&full_size::longest_region()));
     for (name, file) in given {
         print_row(name, file);

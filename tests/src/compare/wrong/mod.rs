@@ -3,6 +3,7 @@
 
 mod checks;
 mod fixed_beds;
+mod joins;
 mod lines;
 mod lists;
 mod parts;
@@ -22,7 +23,7 @@ use crate::generate::small::{Kind, KINDS};
 /// A comparison of one call, with a seed and a count.
 type Comparison<Call> = fn(Tested<Call>, u64, usize) -> Result<Tally, Difference>;
 
-/// A comparison of the five calls of a file.
+/// A comparison of the calls of a file, join among them.
 type ComparisonOfAll = fn(Calls, u64, usize) -> Result<Tally, Difference>;
 
 /// A printing program's text of a file.
@@ -56,7 +57,10 @@ pub fn run() -> Result<Tally, Difference> {
     for (name, comparison, call) in wrong_parts() {
         found(&mut tally, name, comparison(Tested { name, call }, SEED, COUNT))?;
     }
-    for (name, comparison, calls) in wrong_calls() {
+    for (name, comparison, call) in joins::all() {
+        found(&mut tally, name, comparison(Tested { name, call }, SEED, COUNT))?;
+    }
+    for (name, comparison, calls) in wrong_calls().into_iter().chain(joins::among_all()) {
         found(&mut tally, name, comparison(calls, SEED, COUNT))?;
     }
     for (name, text) in wrong_texts() {
