@@ -186,22 +186,22 @@ pub enum Joined {
 pub struct JoinValues {
     pub number: u64,
     pub which: u64,
-    pub count: usize,
+    pub bytes: usize,
 }
 
 // Refused files have no bytes.
 fn not_joined(number: u64, which: u64) -> JoinValues
-    ensures { λ r. ⌜ (r .number ≡ number) × (r .which ≡ which) × (r .count ≡ 0) ⌝ }
+    ensures { λ r. ⌜ (r .number ≡ number) × (r .which ≡ which) × (r .bytes ≡ 0) ⌝ }
 {
     JoinValues {
         number: number,
         which: which,
-        count: 0,
+        bytes: 0,
     }
 }
 
 pub fn join_values(answer: Joined) -> JoinValues
-    ensures { λ r. ⌜ (r .number ≡ joinedNumber answer) × (r .which ≡ fileNumber (joinedWhich answer)) × (r .count ≡ joinedCount answer) ⌝ }
+    ensures { λ r. ⌜ (r .number ≡ joinedNumber answer) × (r .which ≡ fileNumber (joinedWhich answer)) × (r .bytes ≡ joinedCount answer) ⌝ }
 {
     match answer {
         Joined::RefusedFirst(refusal) => not_joined(refusal_number(refusal), 1),
@@ -212,7 +212,7 @@ pub fn join_values(answer: Joined) -> JoinValues
         Joined::Bytes(n) => JoinValues {
             number: 0,
             which: 0,
-            count: n,
+            bytes: n,
         },
     }
 }

@@ -70,7 +70,7 @@ pub fn join_call(first: &[u8], second: &[u8], output: &mut [u8], result: &mut [u
     if result.len() < PAIR {
         return join_without_room(first, second);
     }
-    let values = join_values(join(first, second, output));
-    store_pair(result, values.count as u64, values.which);
-    values.number
+    let joined = join_values(join(first, second, output));
+    store_pair(result, joined.bytes as u64, joined.which);
+    joined.number
 }

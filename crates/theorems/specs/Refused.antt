@@ -4,26 +4,32 @@ use Rattle.definitions.specs.Basics.{ℕ, suc, _≡_, Bool, true, List, [], _�
 use Rattle.definitions.specs.Spelling.{decimal, line as spelledLine}
 use Rattle.definitions.specs.Plans.{Plan}
 use Rattle.definitions.specs.Questions.{Asks, firstNo, entryAsks, callAsks, regionOf, roomForRows, areasLongEnough, clinicPresent}
-use Rattle.definitions.specs.Questions.{checkOf, askedByList, askedBySheet, askedByPrice}
+use Rattle.definitions.specs.Questions.{checkOf, askedByCheck, askedByList, askedBySheet, askedByPrice}
 use Rattle.definitions.specs.Outcomes.{outcomeOf, listFound, listOutcome, sheetFound, sheetOutcome, priceOutcome}
 use Rattle.definitions.specs.Lookup.{askedByLine, lineFound, lineOutcome}
-use Rattle.definitions.specs.Boundary.{roomForNumbers, checkCall, callOf, listCall, sheetCall, priceCallOf, priceCall, lineCallOf, lineCall}
+use Rattle.definitions.specs.Joining.{askedByJoin, joinOutcome}
+use Rattle.definitions.specs.Boundary.{roomForNumbers, checkCall, callOf, listCall, sheetCall, priceCallOf, priceCall, lineCallOf, lineCall, writeCallOf, joinCall}
 use Rattle.definitions.specs.Output.{printed, printedAnswer}
 use Rattle.theorems.specs.Answers.{no-then}
-use Rattle.theorems.specs.Refusals.{refused-before, price-number}
+use Rattle.theorems.specs.Refusals.{after-check, refused-before, price-number}
 
--- A file is refused with a number: by check, list, sheet, price and line, whatever is lent or typed; by the calls from C; and in print.
+-- A file is refused with a number: by check, list, sheet, price, line and join, whatever is lent, typed or joined; by the calls from C; and in print.
 pub record Refused (q : ℕ) (file : List ℕ) : Type 0 where
   pub check : checkOf file ≡ q
   pub list : (beds costs work : List ℕ) → listOutcome file beds costs work .number ≡ q
   pub sheet : (clinic : ℕ) (beds costs work : List ℕ) → sheetOutcome file clinic beds costs work .number ≡ q
   pub price : (plan : Plan) → priceOutcome file plan .number ≡ q
   pub line : (typed : List ℕ) → lineOutcome file typed .number ≡ q
+  -- Join refuses it as the first file, and as the second after a first that is accepted.
+  pub joinFirst : (other output : List ℕ) → joinOutcome file other output .number ≡ q
+  pub joinSecond : (other output : List ℕ) → checkOf other ≡ 0 → joinOutcome other file output .number ≡ q
   pub checkFromC : checkCall file ≡ q
   pub listFromC : (beds costs result : List ℕ) → listCall file beds costs result .number ≡ q
   pub sheetFromC : (clinic : ℕ) (beds costs result : List ℕ) → sheetCall file clinic beds costs result .number ≡ q
   pub priceFromC : (plan : Plan) (result : List ℕ) → priceCall file plan result .number ≡ q
   pub lineFromC : (typed result : List ℕ) → lineCall file typed result .number ≡ q
+  pub joinFirstFromC : (other output result : List ℕ) → joinCall file other output result .number ≡ q
+  pub joinSecondFromC : (other output result : List ℕ) → checkOf other ≡ 0 → joinCall other file output result .number ≡ q
   pub print : printed file ≡ spelledLine (text "refused" ∷ decimal q ∷ [])
 
 -- What an entry asks first decides, for the entry and for its call.
@@ -51,19 +57,31 @@ module _ (file : List ℕ) (q : ℕ) (refused : checkOf file ≡ suc q) where
   unfolding askedByLine checkOf
   line-first-no typed = refused
 
+  join-first-no : (other output : List ℕ) → firstNo (askedByJoin file other output .first) ≡ suc q
+  unfolding askedByJoin
+  join-first-no other output = refused-before file (askedByCheck other) q refused
+
+  join-second-no : (other output : List ℕ) → checkOf other ≡ 0 → firstNo (askedByJoin other file output .first) ≡ suc q
+  unfolding askedByJoin checkOf
+  join-second-no other output fine = after-check other (askedByCheck file) fine ∙ refused
+
   pub refused-alike : Refused (suc q) file
-  unfolding listOutcome sheetOutcome priceOutcome lineOutcome outcomeOf listFound sheetFound lineFound listCall sheetCall priceCall lineCall callOf priceCallOf lineCallOf printed
+  unfolding listOutcome sheetOutcome priceOutcome lineOutcome outcomeOf listFound sheetFound lineFound listCall sheetCall priceCall lineCall callOf priceCallOf lineCallOf joinOutcome joinCall writeCallOf printed
   refused-alike = record {
     check = refused;
     list = λ beds costs work. entry-no (askedByList file (areasLongEnough (regionOf file) beds costs work)) q (list-first-no _);
     sheet = λ c beds costs work. entry-no (askedBySheet file c (areasLongEnough (regionOf file) beds costs work)) q (sheet-first-no c _);
     price = λ plan. price-number file plan (entryAsks (askedByPrice file plan)) ∙ entry-no (askedByPrice file plan) q (price-first-no plan);
     line = λ typed. entry-no (askedByLine file typed) q (line-first-no typed);
+    joinFirst = λ other output. entry-no (askedByJoin file other output) q (join-first-no other output);
+    joinSecond = λ other output fine. entry-no (askedByJoin other file output) q (join-second-no other output fine);
     checkFromC = refused;
     listFromC = λ beds costs result. call-no (askedByList file (roomForRows (regionOf file) 8 beds costs)) q (list-first-no _) (roomForNumbers 1 result);
     sheetFromC = λ c beds costs result. call-no (askedBySheet file c (roomForRows (regionOf file) 8 beds costs)) q (sheet-first-no c _) (roomForNumbers 1 result);
     priceFromC = λ plan result.
         price-number file plan (callAsks (askedByPrice file plan) (roomForNumbers 2 result)) ∙ call-no (askedByPrice file plan) q (price-first-no plan) (roomForNumbers 2 result);
     lineFromC = λ typed result. call-no (askedByLine file typed) q (line-first-no typed) (roomForNumbers 2 result);
+    joinFirstFromC = λ other output result. call-no (askedByJoin file other output) q (join-first-no other output) (roomForNumbers 2 result);
+    joinSecondFromC = λ other output result fine. call-no (askedByJoin other file output) q (join-second-no other output fine) (roomForNumbers 2 result);
     print = ap (λ n. printedAnswer n (regionOf file)) (entry-no (askedByList file true) q (list-first-no true));
   }
