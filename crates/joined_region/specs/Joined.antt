@@ -1,5 +1,5 @@
 -- What is held of the joined region: the patients and the tables of both, and the entries of both in one store.
-use mathlib.Core.Path.{_≡_, refl, sym, ap, ap₂, _∙_}
+use mathlib.Core.Path.{_≡_, refl, sym, ap, ap₂, subst, _∙_}
 use Prim.Native.Nat.{_≤_}
 use native.Mathlib.Omega.{arith}
 use mathlib.Core.List.{map-map}
@@ -182,7 +182,7 @@ module _ (first second : Region) where
       is ∙ ap₂ (λ v x. patientAfter v x) (sym (patients-said first store)) (sym (patient-said second other k (omega arith)))
       ∙ sym stands ∙ ap (patientAt (joinedRegion r s)) place)
 
-  -- The tables of the joined region by number.
+  -- The tables of the joined region by number: those of the first, and those of the second, moved.
   module _ (store other : List ℕ) where
     first-table : (i : ℕ) → i < first .t → tableAt (joinedRegion (said first store) (said second other)) i ≡ tableSaid first store i
     unfolding joinedRegion regionFrom
@@ -198,25 +198,23 @@ module _ (first second : Region) where
         ∙ at-moved (length (said first store .patients)) (said second other .tables) k
         ∙ ap₂ tableAfter (patients-said first store) (table-said second other k l)
 
+  same-first : (store : List ℕ) (i : ℕ) → SameTable (tableIn first i) (tableSaid first store i)
+  same-first store i = record { members = refl; entries = sym (entries-count first store i) }
+
+  same-second : (other : List ℕ) (k : ℕ) (t : Table) → TableMoved (first .v) (tableIn second k) t → SameTable t (tableAfter (first .v) (tableSaid second other k))
+  same-second other k t moved = record { members = moved .members; entries = moved .entries ∙ sym (entries-count second other k) }
+
   pub tables-kept : {i : ℕ} {tables : List Table} → TablesJoined first second i tables → i < first .t → i < length tables
       → TablesJoined first second (i + 1) (set tables i (tableIn first i))
   tables-kept {i} joined-so-far l room store other =
-      let is = first-table store other i l in
-      filled-more (tableIn first i) (joined-so-far store other) room (record {
-        members = sym (ap (λ t. t .members) is);
-        entries = sym (ap (λ t. length (t .entries)) is ∙ entries-count first store i);
-      })
+      filled-more (tableIn first i) (joined-so-far store other) room (subst (SameTable (tableIn first i)) (sym (first-table store other i l)) (same-first store i))
 
   pub tables-more : {i : ℕ} {tables : List Table} (t : Table) → TablesJoined first second i tables → first .t ≤ i → i < first .t + second .t → i < length tables
       → TableMoved (first .v) (tableIn second (i - first .t)) t → TablesJoined first second (i + 1) (set tables i t)
   tables-more {i} t joined-so-far from to room moved store other =
-      let k = i - first .t in
-      let place : first .t + k ≡ i = omega arith in
-      let is = ap (tableAt (joinedRegion (said first store) (said second other))) (sym place) ∙ second-table store other k (omega arith) in
-      filled-more t (joined-so-far store other) room (record {
-        members = moved .members ∙ sym (ap (λ u. u .members) is);
-        entries = moved .entries ∙ sym (ap (λ u. length (u .entries)) is ∙ entries-count second other k);
-      })
+      let place : first .t + (i - first .t) ≡ i = omega arith in
+      let is = sym (second-table store other (i - first .t) (omega arith)) ∙ ap (tableAt (joinedRegion (said first store) (said second other))) place in
+      filled-more t (joined-so-far store other) room (subst (SameTable t) is (same-second other (i - first .t) t moved))
 
 -- ---- one more entry
 

@@ -1,13 +1,13 @@
--- Maps that keep how things compare: what they keep of inserting, of sorted and rising lists, and of the first m things of a set.
+-- Maps that keep how things compare: what they keep of inserting and sorting, of sorted and rising lists, and of the first m things of a set.
 use mathlib.Core.Path.{sym, ap, _∙_}
 use mathlib.Core.Logic.{inl, inr}
 use native.Mathlib.Omega.{arith}
 use lib.ListN.{length-map}
-use Rattle.definitions.specs.Basics.{ℕ, Ordering, Ordering·lt, Ordering·eq, Ordering·gt, _≡_, refl, List, [], _∷_, map, insert}
+use Rattle.definitions.specs.Basics.{ℕ, Ordering, Ordering·lt, Ordering·eq, Ordering·gt, _≡_, refl, List, [], _∷_, map, insert, sort}
 use Rattle.lists.specs.Members.{_∈_, here, there, in-map, in-map-cases, in-cast}
 use Rattle.ranking.specs.Orders.{Order, View, before, equal, after}
 use Rattle.ranking.specs.First.{First, Sorted, FullBefore}
-use Rattle.ranking.specs.Sorting.{step}
+use Rattle.ranking.specs.Sorting.{step, sort-out}
 use Rattle.ranking.specs.Rising.{NoneBefore, Rising}
 
 -- What the map makes of things of Q.
@@ -40,6 +40,23 @@ comes-before O x y e = go (rw e at (O .view x y))
     go : View (O .Lt) x y Ordering·lt → O .Lt x y
     go (before t) = t
 
+-- By any two comparisons that the map keeps for things of P: to insert or to sort and to map, in either order.
+module _ {A B : Type 0} (cmp : A → A → Ordering) (other : B → B → Ordering) (f : A → B) (P : A → Type 0) (keeps : (x y : A) → P x → P y → other (f x) (f y) ≡ cmp x y) where
+  pub insert-map : (x : A) (l : List A) → P x → ((y : A) → y ∈ l → P y) → insert other (f x) (map f l) ≡ map f (insert cmp x l)
+  insert-map x [] p q = refl
+  insert-map x (y ∷ l) p q = rw (keeps x y p (q y (here refl))) (go (cmp x y) (insert-map x l p (λ z i. q z (there i))))
+    where
+      go : (o : Ordering) → insert other (f x) (map f l) ≡ map f (insert cmp x l)
+          → step o (f x) (f y) (map f l) (insert other (f x) (map f l)) ≡ map f (step o x y l (insert cmp x l))
+      go Ordering·lt ih = refl
+      go Ordering·eq ih = refl
+      go Ordering·gt ih = ap {B = List B} (λ r. f y ∷ r) ih
+
+  pub sort-map : (l : List A) → ((y : A) → y ∈ l → P y) → map f (sort cmp l) ≡ sort other (map f l)
+  sort-map [] q = refl
+  sort-map (x ∷ l) q =
+      sym (insert-map x (sort cmp l) (q x (here refl)) (λ y i. q y (there (sort-out cmp l i)))) ∙ ap (insert other (f x)) (sort-map l (λ y i. q y (there i)))
+
 module _ {A B : Type 0} (O : Order A) (U : Order B) (f : A → B) (P : A → Type 0) where
   -- The map keeps how things of P compare.
   abbrev pub Keeps : Type 0
@@ -52,17 +69,6 @@ module _ {A B : Type 0} (O : Order A) (U : Order B) (f : A → B) (P : A → Typ
 
   pub before-back : (x y : A) → P x → P y → U .Lt (f x) (f y) → O .Lt x y
   before-back x y p q t = comes-before O x y (sym (keeps x y p q) ∙ says-before U (f x) (f y) t)
-
-  -- To insert and to map, in either order.
-  pub insert-map : (x : A) (l : List A) → P x → ((y : A) → y ∈ l → P y) → insert (U .cmp) (f x) (map f l) ≡ map f (insert (O .cmp) x l)
-  insert-map x [] p q = refl
-  insert-map x (y ∷ l) p q = rw (keeps x y p (q y (here refl))) (go (O .cmp x y) (insert-map x l p (λ z i. q z (there i))))
-    where
-      go : (o : Ordering) → insert (U .cmp) (f x) (map f l) ≡ map f (insert (O .cmp) x l)
-          → step o (f x) (f y) (map f l) (insert (U .cmp) (f x) (map f l)) ≡ map f (step o x y l (insert (O .cmp) x l))
-      go Ordering·lt ih = refl
-      go Ordering·eq ih = refl
-      go Ordering·gt ih = ap {B = List B} (λ r. f y ∷ r) ih
 
   -- A list is rising, or sorted, where its image is.
   pub rising-back : (l : List A) → ((y : A) → y ∈ l → P y) → Rising U (map f l) → Rising O l

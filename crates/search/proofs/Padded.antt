@@ -43,7 +43,7 @@ module _ (v n m : ℕ) (area : List ℕ) (few : v ≤ 32) (padded : AllPadded v 
     inserted-unpadded rising =
         ap (map (unpadded v)) (ins .rows (rising-back rowOrder rowOrder (unpadded v) (Padded v) (unpadded-keeps v few) (wholeRows n area) padded rising))
         ∙ take-map (unpadded v) m (insert compareRows (rowOf x) (wholeRows n area))
-        ∙ ap (take m) (sym (insert-map rowOrder rowOrder (unpadded v) (Padded v) (unpadded-keeps v few) (rowOf x) (wholeRows n area) p padded))
+        ∙ ap (take m) (sym (insert-map (rowOrder .cmp) (rowOrder .cmp) (unpadded v) (Padded v) (unpadded-keeps v few) (rowOf x) (wholeRows n area) p padded))
 
     pub inserted-padded : AllPadded v r after
     inserted-padded z k = elim (ins .members z k) [ inl e ↦ subst⁻¹ (Padded v) e p | inr t ↦ padded z t ]
