@@ -5,7 +5,7 @@ use native.Mathlib.Omega.{arith}
 use mathlib.Core.List.{map-map}
 use lib.ListN.{set, length-append, length-map, List·getD-append}
 use lib.Seq.{length-take-le, getD-take, getD-append-add}
-use Rattle.definitions.specs.Basics.{ℕ, zero, suc, _+_, _-_, _<_, min, Bool, true, not, _&&_, Option, none, some, List, [], _∷_, _++_, map, length, getD, take, eqb, below, every}
+use Rattle.definitions.specs.Basics.{ℕ, zero, suc, _+_, _-_, _<_, min, Bool, true, not, _&&_, Option, none, some, List, [], _++_, map, length, getD, take, eqb, below, every}
 use Rattle.definitions.specs.Limits.{Field, patientCount, tableCount, entryCount, limits, within}
 use Rattle.definitions.specs.Syntax as Said
 use Rattle.definitions.specs.Syntax.{patientAt}

@@ -15,7 +15,6 @@ use Rattle.theorems.specs.Answers.{no-then}
 use Rattle.theorems.specs.Refusals.{after-check, refused-before}
 use Rattle.theorems.specs.Writer.{made-with}
 use Rattle.held_region.specs.declared.Refusal.{Refusal}
-use Rattle.answers.specs.declared.Joined.{Joined}
 use Rattle.answers.specs.declared.Joined.the-variants as Joins
 use Rattle.answers.specs.declared.Joined.the-variants.{RefusedFirst, RefusedSecond, Shared, TooMany}
 use Rattle.answers.specs.Answers.{refusalNumber, joinedOutcome}

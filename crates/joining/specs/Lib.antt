@@ -3,8 +3,6 @@ pub mod Shifting
 pub mod Joined
 pub mod Accepted
 pub mod Totals
-pub mod Sorting
 pub mod Lists
-pub mod Occurrences
 pub mod Sheets
 pub mod Promises

@@ -13,7 +13,9 @@ use Rattle.definitions.specs.Joining.{patientAfter, joinedRegion, comparePairs,
 use Rattle.lists.specs.Tests.{both, join, same-answer}
 use Rattle.lists.specs.Members.{_∈_, _⊆_, Distinct}
 use Rattle.lists.specs.Every.{any-in, any-out}
+use Rattle.lists.specs.Maps.{map-take, map-cross}
 use Rattle.ranking.specs.First.{First, first-iff, first-unique, sorted-distinct}
+use Rattle.ranking.specs.Mapped.{sort-map}
 use Rattle.ranking.specs.Combining.{Combined, Rising, Injective, cross, cross-enumerates, first-cross}
 use Rattle.theorems.specs.List.{rowOrder, Fits, plans-enumerate, Allowed, by-beds, list-first}
 use Rattle.theorems.specs.Interleaving.{Interleaved, done, marked, unmarked, unweave, rising-marked, rising-unmarked, fits-apart, fits-together}
@@ -21,7 +23,6 @@ use Rattle.theorems.specs.Isolation.{fits-length}
 use Rattle.theorems.specs.Sums.{plus, Halves, halves}
 use Rattle.theorems.specs.Accepted.{Accepted, some-of}
 use Rattle.partial_rows.specs.Appending.{compare-append}
-use Rattle.joining.specs.Sorting.{map-take, map-cross, sort-map}
 use Rattle.joining.specs.Joined.{joined-plans, joined-patients, joined-many}
 use Rattle.joining.specs.Totals.{first-beds, second-beds, joined-total}
 
@@ -193,7 +194,7 @@ module _ (r s : Region) (a : Accepted r) (b : Accepted s) where
   rows-paired m =
       map-take pairedRow m (sort comparePairs (allPairs (listOf r) (listOf s)))
       ∙ ap (take m)
-      (sort-map pairedRow comparePairs compareRows (λ p. Allowed r (p .0)) compare-paired (allPairs (listOf r) (listOf s)) pair-allowed
+      (sort-map comparePairs compareRows pairedRow (λ p. Allowed r (p .0)) compare-paired (allPairs (listOf r) (listOf s)) pair-allowed
       ∙ ap (sort compareRows) (map-cross pairedRow (λ v w. (v, w)) (listOf r) (listOf s)))
 
   -- Its list.

@@ -21,6 +21,7 @@ use Rattle.lists.specs.Maps.{map-same}
 use Rattle.lists.specs.Below.{below-out, by-number}
 use Rattle.ranking.specs.First.{First, first-iff, first-take, first-prefix}
 use Rattle.ranking.specs.Parts.{parts-first}
+use Rattle.ranking.specs.FirstComing.{first-few, first-begins, first-images}
 use Rattle.theorems.specs.Readers.{empty-is}
 use Rattle.theorems.specs.Accepted.{Accepted, table-right, plans-wanted}
 use Rattle.theorems.specs.Clinics.{clinic-patient, present-asked}
@@ -32,7 +33,6 @@ use Rattle.joining.specs.Shifting.{shifted, keep-map, lowest-shifted}
 use Rattle.joining.specs.Joined.{Stands, joined-plans, joined-tables, joined-numbers, first-stands, second-stands}
 use Rattle.joining.specs.Totals.{entry-after}
 use Rattle.joining.specs.Lists.{Half, row-long, first-half, second-half}
-use Rattle.joining.specs.Occurrences.{first-few, first-begins, first-images}
 
 -- ---- a region that stands in another
 

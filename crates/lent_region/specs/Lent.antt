@@ -2,10 +2,10 @@
 use mathlib.Core.Path.{_≡_, refl, sym, ap, ap₂, _∙_}
 use mathlib.Core.List.{map-map}
 use Prim.Native.Nat.{_≤_}
-use native.Mathlib.Decide.{decLe, ℕ-discrete}
+use native.Mathlib.Decide.{decLe}
 use native.Mathlib.Omega.{arith}
-use lib.ListN.{set, length-map, List·getD-map}
-use lib.Seq.{take-nil, getD-set-same, getD-set-other}
+use lib.ListN.{length-map, List·getD-map}
+use lib.Seq.{take-nil}
 use borrow.Author.Tests.{eqb-true, eq-eqb, lt-ltb}
 use Rattle.definitions.specs.Basics.{ℕ, zero, suc, _+_, _*_, _/_, _%_, _<_, min, true, _&&_, Option, none, some, noneOr, List, [], _∷_, _++_, map, length, getD, take, eqb, ltb, sum, below, every}
 use Rattle.definitions.specs.Syntax as Said

@@ -1,14 +1,14 @@
 -- What functions give on a list, one by one, partly or in one piece.
 use mathlib.Core.Path.{sym, ap, ap₂, _∙_, subst⁻¹}
 use mathlib.Core.Logic.{_⊎_, inl, inr}
-use mathlib.Core.List.{append-assoc}
+use mathlib.Core.List.{append-assoc, map-append, map-map}
 use mathlib.Core.Option.{Option·none-ne-some}
 use native.Mathlib.Nat.{mul-le-mul, mul-le-mul-right, pow-zero, pow-succ'}
 use native.Mathlib.Omega.{arith}
 use borrow.Author.Tests.{leb-true}
 use Prim.Native.Nat.{_≤_}
 use Rattle.definitions.specs.Basics.{ℕ, zero, suc, _<_, _*_, _^_, _≡_, refl, true, Option, none, some, Option·elim}
-use Rattle.definitions.specs.Basics.{List, [], _∷_, _++_, map, length, getD, drop, leb, product, flatten, flatMap, filterMap, dropLast, onAll, every}
+use Rattle.definitions.specs.Basics.{List, [], _∷_, _++_, map, length, getD, take, drop, leb, product, flatten, flatMap, filterMap, dropLast, onAll, every}
 use Rattle.lists.specs.Tests.{both}
 use Rattle.lists.specs.Members.{_∈_, here, there, here-or-there, none-in-nil, in-cast, Distinct}
 
@@ -19,6 +19,11 @@ module _ {A B : Type 0} where
   map-same f g (x ∷ l) h = ap₂ {C = List B} (λ y ys. y ∷ ys) (h x (here refl)) (map-same f g l (λ y k. h y (there k)))
 
   -- What stands at a place, whatever stands in for what is past the end.
+  pub map-take : (f : A → B) (n : ℕ) (l : List A) → map f (take n l) ≡ take n (map f l)
+  map-take f zero l = refl
+  map-take f (suc n) [] = refl
+  map-take f (suc n) (x ∷ l) = ap {B = List B} (λ r. f x ∷ r) (map-take f n l)
+
   pub map-at : (f : A → B) (l : List A) (i : ℕ) (d : A) (e : B) → i < length l → getD (map f l) i e ≡ f (getD l i d)
   map-at f [] i d e h = absurd (omega arith)
   map-at f (x ∷ l) zero d e h = refl
@@ -78,6 +83,13 @@ pub flatten-append : {A : Type 0} (ls ms : List (List A)) → flatten (ls ++ ms)
 unfolding flatten
 flatten-append [] ms = refl
 flatten-append {A} (l ∷ ls) ms = ap (λ (r : List A). l ++ r) (flatten-append ls ms) ∙ sym (append-assoc l (flatten ls) (flatten ms))
+
+-- What a function gives on every thing that is made of an element of each of two lists.
+pub map-cross : {A B C D : Type 0} (f : A → B) (make : C → D → A) (cs : List C) (ds : List D)
+    → map f (flatMap (λ c. map (make c) ds) cs) ≡ flatMap (λ c. map (λ d. f (make c d)) ds) cs
+unfolding flatMap
+map-cross f make [] ds = refl
+map-cross f make (c ∷ cs) ds = map-append f (map (make c) ds) _ ∙ ap₂ _++_ (map-map f (make c) ds) (map-cross f make cs ds)
 
 pub flatten-map : {A B : Type 0} (f : A → List B) (l : List A) → flatten (map f l) ≡ flatMap f l
 unfolding flatten flatMap

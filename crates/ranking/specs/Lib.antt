@@ -5,5 +5,6 @@ pub mod Rising
 pub mod Mapped
 pub mod Combining
 pub mod Occurrences
+pub mod FirstComing
 pub mod Parts
 pub mod Growing

@@ -7,8 +7,8 @@ use borrow.Author.Tests.{leb-true}
 use Prim.Native.Nat.{_≤_}
 use lib.ListN.{drop, length-map}
 use lib.Seq.{take-at, drop-append-add}
-use Rattle.definitions.specs.Basics.{ℕ, zero, suc, _+_, _*_, _<_, _≡_, refl, Bool, true, false, List, [], _∷_, _++_, map, flatMap, length, getD, take}
-use Rattle.definitions.specs.Basics.{leb, any, firstOccurrences}
+use Rattle.definitions.specs.Basics.{ℕ, zero, suc, _+_, _*_, _<_, _≡_, refl, true, List, [], _∷_, _++_, map, flatMap, length, getD, take}
+use Rattle.definitions.specs.Basics.{leb}
 use Rattle.definitions.specs.Syntax.{Region, patientNumbers, patientsOf}
 use Rattle.definitions.specs.Plans.{Row, listOf}
 use Rattle.definitions.specs.Sheets.{sameBeds, part, ownRow, sheetOf}
@@ -20,6 +20,7 @@ use Rattle.lists.specs.Tests.{both}
 use Rattle.lists.specs.Members.{_∈_, here, there}
 use Rattle.lists.specs.Keep.{keep-short}
 use Rattle.lists.specs.Below.{below-long}
+use Rattle.ranking.specs.FirstComing.{first-few}
 use Rattle.theorems.specs.Writing.{written-is}
 use Rattle.theorems.specs.Accepted.{patients-counted}
 use Rattle.theorems.specs.List.{list-first}
@@ -57,19 +58,10 @@ number-at n result h = rw h (written-at (bytesOf 8) 8 (n ∷ []) result (λ x k.
 
 -- ---- a sheet has room: at most m rows of at most V beds
 
-occurrences-short : {A : Type 0} (alike : A → A → Bool) (seen l : List A) → length (firstOccurrences alike seen l) ≤ length l
-occurrences-short alike seen [] = omega arith
-occurrences-short {A} alike seen (x ∷ l) = go (any (alike x) seen) (occurrences-short alike seen l) (occurrences-short alike (x ∷ seen) l)
-  where
-    go : (b : Bool) → length (firstOccurrences alike seen l) ≤ length l → length (firstOccurrences alike (x ∷ seen) l) ≤ length l
-        → length {A = A} (elim b [ true ↦ firstOccurrences alike seen l | false ↦ x ∷ firstOccurrences alike (x ∷ seen) l ]) ≤ suc (length l)
-    go true h k = omega arith
-    go false h k = omega arith
-
 module _ (region : Region) (c : ℕ) where
   pub rows-few : length (sheetOf region c) ≤ region .plansWanted
   unfolding sheetOf
-  rows-few = le-trans (occurrences-short sameBeds [] (map (ownRow region c) (listOf region)))
+  rows-few = le-trans (first-few sameBeds [] (map (ownRow region c) (listOf region)))
       (omega (arith, length-map (listOf region) (ownRow region c), list-first region .short))
 
   pub patients-few : length (patientsOf region c) ≤ length (region .patients)

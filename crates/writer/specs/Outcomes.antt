@@ -10,7 +10,7 @@ use Rattle.definitions.specs.Outcomes.{unlessRefused}
 use Rattle.definitions.specs.Writer.{roomForFile, askedByWrite, madeBy, WriteOutcome, writeOutcomeOf, writeOutcome}
 use Rattle.theorems.specs.Answers.{allYes, yes-then, no-then}
 use Rattle.theorems.specs.Accepted.{Accepted, accepted-asked}
-use Rattle.theorems.specs.Writer.{passes-accepted, outcomeWith, made-with}
+use Rattle.theorems.specs.Writer.{passes-accepted, made-with}
 use Rattle.held_region.specs.declared.Refusal.{Refusal}
 use Rattle.held_region.specs.declared.Region.{Region}
 use Rattle.held_region.specs.Meaning.{said}
