@@ -194,7 +194,8 @@ uint64_t rigbasen_write(const uint8_t *patients, size_t patients_length,
  *
  * The file stands at the beginning of output, and its byte count in the first 8 bytes of result. The next 8 bytes say, on a refusal
  * too, which file a number of 1 to 10 is about: RIGBASEN_FIRST_FILE or RIGBASEN_SECOND_FILE; for every other number, 0 included,
- * RIGBASEN_NEITHER_FILE. Of two bad files the first is named.
+ * RIGBASEN_NEITHER_FILE. Of two bad files the first is named. (A shorter result area is untouched, so there a number of 1 to 10 does
+ * not tell which file it is about; check does.)
  *
  * A clinic keeps its number, so question 16 refuses two files in which patients have the same one: give one of them another first.
  * Question 12 asks for 16 bytes of result, and 15 for as many bytes of output as the joined file has; RIGBASEN_WRITTEN_BYTES always
@@ -218,7 +219,7 @@ uint64_t rigbasen_join(const uint8_t *first, size_t first_length,
  * - The areas that a call writes overlap none of its other areas, and nobody else writes to any of them meanwhile.
  *   (The library has no variables of its own, so threads may call at once, each with its own areas.)
  * - RIGBASEN_STACK_BYTES of stack are free: the work area is there. By measure, check and line take about 38,000 bytes,
- *   price 47,000, write 63,000, join TODO-STACK, list up to 113,000 and sheet up to 120,000, the most where 32 patients are one tree.
+ *   price 47,000, write 63,000, join 93,000, list up to 113,000 and sheet up to 120,000, the most where 32 patients are one tree.
  * - Time. A call always ends, but where one tree holds many patients under many tables it can take very long.
  */
 
