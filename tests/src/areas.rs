@@ -1,6 +1,7 @@
 //! Lent areas, each between guard bytes that no call may touch.
 
 use crate::plans::Row;
+use crate::random::Random;
 
 const GUARD: usize = 16;
 const GUARD_BYTE: u8 = 0xa7;
@@ -75,6 +76,17 @@ pub struct Areas {
     pub beds: Area,
     pub costs: Area,
     pub result: Area,
+}
+
+/// A length at or beside the one that is needed, or any shorter or somewhat longer one.
+pub fn length_near(needed: usize, random: &mut Random) -> usize {
+    match random.below(8) {
+        0 => needed - 1,
+        1 => random.below(needed),
+        2 => needed + 1,
+        3 => needed + random.below(40),
+        _ => needed,
+    }
 }
 
 /// The areas that write and join write.

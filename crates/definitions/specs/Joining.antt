@@ -22,6 +22,7 @@ joinedRegion r s =
     let v = length (r .patients) in
     regionFrom (min (r .plansWanted) (s .plansWanted)) (r .patients ++ map (patientAfter v) (s .patients)) (r .tables ++ map (tableAfter v) (s .tables))
 
+-- The file of what two files say, joined.
 unfoldable pub joinedFile : List ℕ → List ℕ → List ℕ
 joinedFile f g = spell (joinedRegion (regionOf f) (regionOf g))
 

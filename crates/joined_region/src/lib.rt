@@ -111,6 +111,7 @@ fn table_after(table: Table, v: u32) -> Table
     }
 }
 
+// The patients of both. The array is a fresh one, whose length is known; of one that comes out of a region it is not.
 fn append_patients(first: Region, second: Region) -> [Patient; 32]
     requires { ⌜ Fitting first second ⌝ }
     ensures { λ ps. ⌜ PatientsJoined first second (first .v + second .v) ps ⌝ }
@@ -130,6 +131,7 @@ fn append_patients(first: Region, second: Region) -> [Patient; 32]
     patients
 }
 
+// The tables of both, in the same way.
 fn append_tables(first: Region, second: Region) -> [Table; 64]
     requires { ⌜ Fitting first second ⌝ }
     ensures { λ ts. ⌜ TablesJoined first second (first .t + second .t) ts ⌝ }

@@ -1,6 +1,6 @@
 //! Write in every byte of every area, with regions that a file could say and with others; and written files read back.
 
-use crate::areas::{Area, Areas, Lengths, Outputs};
+use crate::areas::{length_near, Area, Areas, Lengths, Outputs};
 use crate::boundary;
 use crate::compare::report::{outputs_text, readable, Difference, Tally};
 use crate::compare::{list, paper, Tested, WriteCall, LIBRARY};
@@ -97,13 +97,7 @@ fn lent_with_file(region: &Region, random: &mut Random) -> (Lent, Result<Vec<u8>
 /// Areas of lengths at or beside what the file needs, or any.
 fn near(file: &Result<Vec<u8>, u64>, random: &mut Random) -> Outputs {
     let needed = file.as_ref().map_or(SOME, Vec::len);
-    let output = match random.below(8) {
-        0 => needed - 1,
-        1 => random.below(needed),
-        2 => needed + 1,
-        3 => needed + random.below(40),
-        _ => needed,
-    };
+    let output = length_near(needed, random);
     let result = if random.chance(80) { 8 } else { random.below(18) };
     Outputs::patterned(output, result, random.number())
 }

@@ -5,7 +5,7 @@ pub mod lists;
 pub mod refusals;
 pub mod written;
 
-use crate::areas::Outputs;
+use crate::areas::{length_near, Outputs};
 use crate::compare::report::{outputs_text, readable, Difference, Tally};
 use crate::compare::{JoinCall, Tested};
 use crate::generate::joins::{self, Pair};
@@ -65,14 +65,7 @@ impl Files {
 
     /// Areas of lengths at or beside those that are asked for, or any.
     pub fn near(&self, random: &mut Random) -> Outputs {
-        let needed = self.needed();
-        let output = match random.below(8) {
-            0 => needed - 1,
-            1 => random.below(needed),
-            2 => needed + 1,
-            3 => needed + random.below(40),
-            _ => needed,
-        };
+        let output = length_near(self.needed(), random);
         let result = if random.chance(80) { RESULT_BYTES } else { random.below(34) };
         Outputs::patterned(output, result, random.number())
     }
