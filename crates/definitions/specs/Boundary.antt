@@ -7,6 +7,7 @@ use Rattle.definitions.specs.Questions.{Asks, callAsks, regionOf, roomFo
 use Rattle.definitions.specs.Outcomes.{Found, listFound, sheetFound, written, bedsAfter, costsAfter, PriceOutcome, priceFound}
 use Rattle.definitions.specs.Writer.{regionFrom, writtenFile, askedByWrite, Made, madeBy, outputAfter}
 use Rattle.definitions.specs.Joining.{WhichFile, neitherFile, firstFile, secondFile, refusedFile, askedByJoin, joinMade}
+use Rattle.definitions.specs.Parents.{parentsFile, askedByParents}
 use Rattle.definitions.specs.Lookup.{FilePart, askedByLine, LineOutcome, lineFound}
 
 -- A number in so many bytes, lowest byte first.
@@ -164,3 +165,8 @@ fileNumber secondFile = 2
 unfoldable pub joinCall : List ℕ → List ℕ → List ℕ → List ℕ → WriteCall
 joinCall f g output result =
     writeCallOf (joinMade f g (callAsks (askedByJoin f g output) (roomForNumbers 2 result))) (fileNumber (refusedFile f g) ∷ []) output result
+
+-- ---- the call of parents (#107)
+
+unfoldable pub parentsCall : List ℕ → List ℕ → List ℕ → WriteCall
+parentsCall file output result = writeCallOf (madeBy (callAsks (askedByParents file output) (roomForNumbers 1 result)) (parentsFile file)) [] output result

@@ -13,6 +13,7 @@ pub mod Outcomes
 pub mod Writer
 pub mod Lookup
 pub mod Joining
+pub mod Parents
 pub mod Boundary
 pub mod Output
 pub mod Computing

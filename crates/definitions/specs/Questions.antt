@@ -107,17 +107,21 @@ firstNo [] = 0
 firstNo ((q, true) ∷ rest) = firstNo rest
 firstNo ((q, false) ∷ rest) = q
 
--- Questions 5 to 10, which are put to what a file says.
+-- Questions 1 to 4, which are put to the file.
+abbrev pub askedOfFile : List ℕ → Asked
+askedOfFile file = let r = regionOf file in (1, shortEnough file) ∷ (2, laidOut file) ∷ (3, countsTrue r) ∷ (4, sumTrue file r) ∷ []
+
+-- Questions 5 to 9, which are put to what it says, with the answer to 6 handed in; 5 to 10.
+abbrev pub askedToNine : Region → Bool → Asked
+askedToNine r patientsRight =
+    (5, countsWithin r) ∷ (6, patientsRight) ∷ (7, membersRight r) ∷ (8, entryCountsRight r) ∷ (9, entriesWithin r) ∷ []
+
 abbrev pub askedOfRegion : Region → Asked
-askedOfRegion r =
-    (5, countsWithin r) ∷ (6, patientsWithin r && parentsSmaller r) ∷ (7, membersRight r) ∷ (8, entryCountsRight r) ∷ (9, entriesWithin r)
-    ∷ (10, membersRelated r) ∷ []
+askedOfRegion r = askedToNine r (patientsWithin r && parentsSmaller r) ++ (10, membersRelated r) ∷ []
 
 -- Questions 1 to 10, which every entry over a file asks first. Check asks no others and gives the number alone.
 unfoldable pub askedByCheck : List ℕ → Asked
-askedByCheck file =
-    let r = regionOf file in
-    (1, shortEnough file) ∷ (2, laidOut file) ∷ (3, countsTrue r) ∷ (4, sumTrue file r) ∷ askedOfRegion r
+askedByCheck file = askedOfFile file ++ askedOfRegion (regionOf file)
 
 unfoldable pub checkOf : List ℕ → ℕ
 checkOf file = firstNo (askedByCheck file)

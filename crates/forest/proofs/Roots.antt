@@ -12,7 +12,7 @@ use Rattle.partial_rows.specs.Trees.{rootOf}
 use Rattle.held_region.specs.declared.Region.{Region}
 use Rattle.held_region.specs.Meaning.{optional, patientIn, said}
 use Rattle.held_region.specs.Sound.{ParentsFirst, parents-first}
-use Rattle.held_region.specs.Ancestors.{ancestors-root, ancestors-next}
+use Rattle.theorems.specs.Ancestors.{ancestors-root, ancestors-next}
 use Rattle.held_region.specs.Related.{own-parent, parent-smaller}
 use Rattle.forest.specs.Trees.{rootFrom}
 

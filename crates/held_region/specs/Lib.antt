@@ -4,7 +4,6 @@ pub mod Asked
 pub mod Members
 pub mod Sound
 pub mod Entries
-pub mod Ancestors
 pub mod Sets
 pub mod Related
 pub mod Refusals

@@ -24,7 +24,7 @@ use Rattle.held_region.specs.Members.{every-member}
 use Rattle.held_region.specs.Asked.{patients-said, patient-said, tables-by-places}
 use Rattle.held_region.specs.Sound.{Sound, ParentsFirst, parents-first, members-fit, members-held}
 use Rattle.theorems.specs.Accepted.{parent-below}
-use Rattle.held_region.specs.Ancestors.{ancestors-root, ancestors-next, no-later}
+use Rattle.theorems.specs.Ancestors.{ancestors-root, ancestors-next, no-later}
 
 -- A table whose members are all held, patients of a set, and rise.
 pub record MembersKnown (t : Table) : Type 0 where

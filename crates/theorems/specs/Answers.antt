@@ -1,6 +1,6 @@
 -- What the number of an entry says of the questions that it asked.
-use mathlib.Core.Path.{_≡_, refl, ap, _∙_}
-use mathlib.Core.Logic.{_↔_, inl, inr}
+use mathlib.Core.Path.{_≡_, refl, sym, ap, _∙_}
+use mathlib.Core.Logic.{_↔_, _≢_, inl, inr}
 use mathlib.Core.Bool.{Bool, true, false, _&&_}
 use mathlib.Core.List.{List, [], _∷_, _++_, map, List·Memᴰ, List·Memᴰ·head, List·Memᴰ·tail, List·Memᴰ·cases-cons}
 use Prim.Native.Nat.{ℕ, zero, suc}
@@ -92,6 +92,13 @@ asked-twice [] late q false true = refl
 asked-twice [] late q false false = refl
 asked-twice ((p, true) ∷ early) late q a b = asked-twice early late q a b
 asked-twice ((p, false) ∷ early) late q a b = refl
+
+-- A question that does not give the number may be left out.
+pub left-out : (early late : Asked) (q : ℕ) (a : Bool) {n : ℕ} → firstNo (early ++ (q, a) ∷ late) ≡ n → n ≢ q → firstNo (early ++ late) ≡ n
+left-out [] late q true e other = e
+left-out [] late q false e other = absurd (other (sym e))
+left-out ((p, true) ∷ early) late q a e other = left-out early late q a e other
+left-out ((p, false) ∷ early) late q a e other = e
 
 pub says : (asked : Asked) → Numbered asked → Says asked (firstNo asked)
 says asked n = record {

@@ -17,6 +17,7 @@ pub mod Interleaving
 pub mod Sums
 pub mod Fixed
 pub mod Accepted
+pub mod Ancestors
 pub mod Lowest
 pub mod Clinics
 pub mod Sameness

@@ -1,5 +1,5 @@
--- A file that check accepts, with one byte changed to another, is refused by every entry, by every call from C and in print.
-use mathlib.Core.Path.{sym, ap, _∙_}
+-- A file whose questions 1 to 4 are answered yes, with one byte changed to another, is refused by every entry, by every call from C and in print.
+use mathlib.Core.Path.{sym, ap, subst, _∙_}
 use mathlib.Core.Logic.{_≢_}
 use mathlib.Core.Bool.{false≢true}
 use mathlib.Core.Option.{Option·some-injective}
@@ -9,23 +9,26 @@ use Prim.Native.Nat.{_≤_}
 use lib.ListN.{drop, set, length-set, length-append, List·getD-append}
 use lib.Seq.{set-append-left, lt-length-set, getD-set-same, getD-set-other, getD-append-add, append-snoc}
 use lib.Seq.{take-append-seam, drop-append-seam, take-at, drop-at, take-set-le}
-use borrow.Author.Tests.{lt-ltb, le-leb, lt-leb, eqb-true, ne-eqb}
-use Rattle.definitions.specs.Basics.{ℕ, zero, suc, _+_, _-_, _<_, _≡_, refl, Bool, true, false, not, some, List, [], _∷_, _++_, take, length}
+use borrow.Author.Tests.{lt-ltb, le-leb, lt-leb, leb-true, eqb-true, ne-eqb}
+use Rattle.definitions.specs.Basics.{ℕ, zero, suc, _+_, _-_, _<_, _≡_, refl, Bool, true, false, not, some, List, [], _∷_, _++_, take, length, leb}
 use Rattle.definitions.specs.Basics.{getD, eqb, sum, text, every}
 use Rattle.definitions.specs.Limits.{limits}
 use Rattle.definitions.specs.Layout.{isDigit, whole, endLine}
 use Rattle.definitions.specs.Spelling.{decimal, spellBody, spell}
-use Rattle.definitions.specs.Questions.{checksum, sumTrue, regionOf, checkOf}
+use Rattle.definitions.specs.Questions.{checksum, shortEnough, laidOut, countsTrue, sumTrue, regionOf, firstNo, askedOfFile, askedOfRegion, askedByCheck, checkOf}
 use Rattle.theorems.specs.Refused.{Refused, refused-alike}
-use Rattle.theorems.specs.Accepted.{accepted, region-said}
-use Rattle.lists.specs.Every.{every-at, every-append, every-weaken}
+use Rattle.lists.specs.Tests.{both}
+use Rattle.lists.specs.Members.{_∈_}
+use Rattle.theorems.specs.Answers.{says, no-then}
+use Rattle.theorems.specs.Accepted.{region-said}
+use Rattle.lists.specs.Every.{every-in, every-at, every-append, every-weaken}
 use Rattle.theorems.specs.Numbers.{digit-bounds, decimal-digits}
 use Rattle.theorems.specs.Lines.{inFile, lines-end, line-inside}
 use Rattle.theorems.specs.Forms.{spellEnd, end-spelt, end-takes}
 use Rattle.theorems.specs.Files.{flatten-body, body-lines, end-line}
 use Rattle.theorems.specs.Spelling.{laid-out-spelt, laid-out-bytes, body-spelt}
 
--- What check's 0 says of the bytes: a body that ends in a line end, and an end line that gives the body's sum.
+-- What these questions say of the bytes: a body that ends in a line end, and an end line that gives the body's sum.
 record Summed (file : List ℕ) : Type 0 where
   body : List ℕ
   before : List ℕ
@@ -33,20 +36,22 @@ record Summed (file : List ℕ) : Type 0 where
   is : file ≡ body ++ spellEnd (checksum body)
   bytes : every inFile file ≡ true
 
-summed : (file : List ℕ) → checkOf file ≡ 0 → Summed file
+summed : (file : List ℕ) → firstNo (askedOfFile file) ≡ 0 → Summed file
 unfolding sumTrue spell
 summed file e =
-    let yes-to-all = accepted file e in
+    let all = both (shortEnough file) (says (askedOfFile file) tt .accepted .0 e) .1 in
+    let (laid, rest) = both (laidOut file) all in
+    let (true-sum, none-left) = both (sumTrue file (regionOf file)) (both (countsTrue (regionOf file)) rest .1) in
     let r = regionOf file in
-    let body-is = body-spelt file r (region-said file (yes-to-all .laid)) in
-    let stated : r .statedSum ≡ checksum (spellBody r) = eqb-true _ _ (yes-to-all .summed) ∙ ap checksum body-is in
+    let body-is = body-spelt file r (region-said file laid) in
+    let stated : r .statedSum ≡ checksum (spellBody r) = eqb-true _ _ true-sum ∙ ap checksum body-is in
     let (before, ends) = lines-end _ _ (body-lines r) in
     record {
       body = spellBody r;
       before = before;
       ends = sym (flatten-body r) ∙ ends;
-      is = laid-out-spelt file (yes-to-all .laid) .1 ∙ ap (λ (n : ℕ). spellBody r ++ spellEnd n) stated;
-      bytes = laid-out-bytes file (yes-to-all .laid);
+      is = laid-out-spelt file laid .1 ∙ ap (λ (n : ℕ). spellBody r ++ spellEnd n) stated;
+      bytes = laid-out-bytes file laid;
     }
 
 -- An end line has one opening bracket, its first byte. (Like every line it has one line end, its last byte.)
@@ -203,16 +208,20 @@ module _ (file : List ℕ) (i b : ℕ) (h : i < length file) (F : Summed file) (
   unchanged (yes first) = in-body first
   unchanged (no second) = in-end (omega arith)
 
-check-one-byte : (file : List ℕ) (i b : ℕ) → i < length file → b ≢ getD file i 0 → checkOf file ≡ 0 → checkOf (set file i b) ≢ 0
-check-one-byte file i b h other e changed =
-    let F = summed file e in
-    other (unchanged file i b h F (summed (set file i b) changed) (decLt i (length (F .body))))
-
--- Check's number for the changed file is not 0, and it is what every entry, every call and the printed text give.
-pub one-byte : (file : List ℕ) (i b : ℕ) → i < length file → b ≢ getD file i 0 → checkOf file ≡ 0
-    → (checkOf (set file i b) ≢ 0) × Refused (checkOf (set file i b)) (set file i b)
-one-byte file i b h other e = let changed = check-one-byte file i b h other e in (changed, go (checkOf (set file i b)) refl changed)
+-- Check's number for the changed file is not 0 and at most 4, and it is what every entry, every call and the printed text give.
+pub one-byte : (file : List ℕ) (i b : ℕ) → i < length file → b ≢ getD file i 0 → firstNo (askedOfFile file) ≡ 0
+    → (checkOf (set file i b) ≢ 0) × (checkOf (set file i b) ≤ 4) × Refused (checkOf (set file i b)) (set file i b)
+unfolding checkOf askedByCheck
+one-byte file i b h other e = go (firstNo (askedOfFile changed)) refl
   where
-    go : (n : ℕ) → checkOf (set file i b) ≡ n → n ≢ 0 → Refused n (set file i b)
-    go zero same changed = absurd (changed refl)
-    go (suc q) same changed = refused-alike (set file i b) q same
+    changed : List ℕ
+    changed = set file i b
+
+    few : (n : ℕ) → n ∈ 0 ∷ 1 ∷ 2 ∷ 3 ∷ 4 ∷ [] → n ≤ 4
+    few n k = leb-true n 4 (every-in (λ q. leb q 4) (0 ∷ 1 ∷ 2 ∷ 3 ∷ 4 ∷ []) refl k)
+
+    go : (n : ℕ) → firstNo (askedOfFile changed) ≡ n → (checkOf changed ≢ 0) × (checkOf changed ≤ 4) × Refused (checkOf changed) changed
+    go zero same = let F = summed file e in absurd (other (unchanged file i b h F (summed changed same) (decLt i (length (F .body)))))
+    go (suc q) same =
+        let is = no-then (askedOfFile changed) (askedOfRegion (regionOf changed)) q same in
+        rw is ((λ z. omega (arith, z)), few (suc q) (subst (λ n. n ∈ 0 ∷ 1 ∷ 2 ∷ 3 ∷ 4 ∷ []) same (says (askedOfFile changed) tt .own)), refused-alike changed q is)

@@ -16,6 +16,7 @@ use Rattle.definitions.specs.Outcomes.{Found, unlessRefused, listFound, sheetFo
 use Rattle.definitions.specs.Outcomes.{ListOutcome, outcomeOf, listOutcome, sheetOutcome, PriceOutcome, priced, priceFound, priceOutcome}
 use Rattle.definitions.specs.Writer.{askedByWrite}
 use Rattle.definitions.specs.Joining.{askedByJoin}
+use Rattle.definitions.specs.Parents.{askedByParents}
 use Rattle.definitions.specs.Lookup.{lineOver, askedByLine, partUnlessRefused, lineFound, lineOutcome}
 use Rattle.definitions.specs.Boundary.{bytesOf, roomForNumbers, resultAfter, ListCall, callOf, checkCall, listCall, sheetCall, priceCallOf, priceCall}
 use Rattle.definitions.specs.Boundary.{askedByLentWrite, lineCallOf, lineCall}
@@ -25,11 +26,17 @@ use Rattle.theorems.specs.Writing.{written-is}
 
 -- ---- the questions of each entry, by number, whatever the file
 
+abbrev fiveToNine : List ℕ
+fiveToNine = 5 ∷ 6 ∷ 7 ∷ 8 ∷ 9 ∷ []
+
 abbrev fiveToTen : List ℕ
-fiveToTen = 5 ∷ 6 ∷ 7 ∷ 8 ∷ 9 ∷ 10 ∷ []
+fiveToTen = fiveToNine ++ 10 ∷ []
+
+abbrev oneToNine : List ℕ
+oneToNine = 1 ∷ 2 ∷ 3 ∷ 4 ∷ fiveToNine
 
 abbrev oneToTen : List ℕ
-oneToTen = 1 ∷ 2 ∷ 3 ∷ 4 ∷ fiveToTen
+oneToTen = oneToNine ++ 10 ∷ []
 
 pub record EachAsks : Type 0 where
   pub check : (file : List ℕ) → numbers (askedByCheck file) ≡ oneToTen
@@ -38,6 +45,7 @@ pub record EachAsks : Type 0 where
   pub price : (file : List ℕ) (plan : Plan) → numbers (entryAsks (askedByPrice file plan)) ≡ oneToTen ++ 14 ∷ []
   pub line : (file typed : List ℕ) → numbers (entryAsks (askedByLine file typed)) ≡ oneToTen ++ 21 ∷ []
   pub join : (f g output : List ℕ) → numbers (entryAsks (askedByJoin f g output)) ≡ oneToTen ++ oneToTen ++ 16 ∷ 17 ∷ 15 ∷ []
+  pub parents : (file output : List ℕ) → numbers (entryAsks (askedByParents file output)) ≡ oneToNine ++ 15 ∷ []
   -- From C, 12 is asked of the result area first.
   pub listFromC : (file : List ℕ) (longEnough room : Bool) → numbers (callAsks (askedByList file longEnough) room) ≡ oneToTen ++ 12 ∷ 12 ∷ 13 ∷ []
   pub sheetFromC : (file : List ℕ) (c : ℕ) (longEnough room : Bool)
@@ -45,13 +53,14 @@ pub record EachAsks : Type 0 where
   pub priceFromC : (file : List ℕ) (plan : Plan) (room : Bool) → numbers (callAsks (askedByPrice file plan) room) ≡ oneToTen ++ 12 ∷ 14 ∷ []
   pub lineFromC : (file typed : List ℕ) (room : Bool) → numbers (callAsks (askedByLine file typed) room) ≡ oneToTen ++ 12 ∷ 21 ∷ []
   pub joinFromC : (f g output : List ℕ) (room : Bool) → numbers (callAsks (askedByJoin f g output) room) ≡ oneToTen ++ oneToTen ++ 12 ∷ 16 ∷ 17 ∷ 15 ∷ []
+  pub parentsFromC : (file output : List ℕ) (room : Bool) → numbers (callAsks (askedByParents file output) room) ≡ oneToNine ++ 12 ∷ 15 ∷ []
   -- The writer has no file to read; from C, 2 is asked of the areas that hold the region.
   pub write : (r : Region) (output : List ℕ) → numbers (entryAsks (askedByWrite r output)) ≡ fiveToTen ++ 15 ∷ []
   pub writeFromC : (patients tables entries : List ℕ) (m : ℕ) (output : List ℕ) (room : Bool)
       → numbers (callAsks (askedByLentWrite patients tables entries m output) room) ≡ 2 ∷ fiveToTen ++ 12 ∷ 15 ∷ []
 
 pub each-asks : EachAsks
-unfolding askedByCheck askedByList askedBySheet askedByPrice askedByLine askedByJoin askedByWrite askedByLentWrite
+unfolding askedByCheck askedByList askedBySheet askedByPrice askedByLine askedByJoin askedByParents askedByWrite askedByLentWrite
 each-asks = record {
   check = λ file. refl;
   list = λ file l. refl;
@@ -59,11 +68,13 @@ each-asks = record {
   price = λ file p. refl;
   line = λ file typed. refl;
   join = λ f g output. refl;
+  parents = λ file output. refl;
   listFromC = λ file l room. refl;
   sheetFromC = λ file c l room. refl;
   priceFromC = λ file p room. refl;
   lineFromC = λ file typed room. refl;
   joinFromC = λ f g output room. refl;
+  parentsFromC = λ file output room. refl;
   write = λ r output. refl;
   writeFromC = λ ps ts es m output room. refl;
 }
