@@ -1,7 +1,7 @@
 -- The number of each answer, and what the questions from the fifth on are asked of.
-use Rattle.definitions.specs.Basics.{ℕ, Bool, not, _&&_, _||_, cond, [], _∷_}
+use Rattle.definitions.specs.Basics.{ℕ, Bool, not, _&&_, _||_, cond, [], _∷_, _++_}
 use Rattle.definitions.specs.Syntax as Said
-use Rattle.definitions.specs.Questions.{Asked, countsWithin, patientsWithin, parentsSmaller, membersRight, entryCountsRight, entriesWithin, membersRelated}
+use Rattle.definitions.specs.Questions.{Asked, askedToNine, patientsWithin, parentsSmaller, entryCountsRight, entriesWithin, membersRelated}
 use Rattle.held_region.specs.declared.Region.{Region}
 use Rattle.held_region.specs.declared.Refusal.{Refusal}
 use Rattle.held_region.specs.declared.Refusal.the-variants.{TooLong, Layout, Counts, Sum, Limits, Patients, Members, EntryCounts, Entries, Ancestors}
@@ -30,4 +30,4 @@ unfoldable pub lastAsked : Bool → Said.Region → Asked
 lastAsked parents r = (8, entryCountsRight r) ∷ (9, entriesWithin r) ∷ cond parents ((10, membersRelated r) ∷ []) []
 
 unfoldable pub asked : Bool → Said.Region → Asked
-asked parents r = (5, countsWithin r) ∷ (6, patientsWithin r && (not parents || parentsSmaller r)) ∷ (7, membersRight r) ∷ lastAsked parents r
+asked parents r = askedToNine r (patientsWithin r && (not parents || parentsSmaller r)) ++ cond parents ((10, membersRelated r) ∷ []) []

@@ -46,6 +46,10 @@ numbers-more : (a n : ℕ) → numbersFrom a (suc n) ≡ numbersFrom a n ++ ((a 
 numbers-more a zero = let e : a + 0 ≡ a = omega arith in rw e
 numbers-more a (suc n) = let e : suc a + n ≡ a + suc n = omega arith in ap (λ (l : List ℕ). a ∷ l) (numbers-more (suc a) n ∙ rw e)
 
+-- One number more.
+pub below-next : (n : ℕ) → below (suc n) ≡ below n ++ (n ∷ [])
+below-next n = let e : 0 + n ≡ n = omega arith in rw e at (numbers-more 0 n)
+
 module _ {A : Type 0} where
   -- As many elements as there are places.
   pub length-by-places : (g : ℕ → A) (k n : ℕ) → length (map g (numbersFrom k n)) ≡ n
@@ -70,10 +74,7 @@ module _ {A : Type 0} where
 
   -- One place more.
   pub below-more : (g : ℕ → A) (n : ℕ) → map g (below (suc n)) ≡ map g (below n) ++ (g n ∷ [])
-  below-more g n =
-      let e : 0 + n ≡ n = omega arith in
-      let more : below (suc n) ≡ below n ++ (n ∷ []) = rw e at (numbers-more 0 n) in
-      ap (map g) more ∙ map-append g (below n) (n ∷ [])
+  below-more g n = ap (map g) (below-next n) ∙ map-append g (below n) (n ∷ [])
 
   -- It depends on the function's values there alone.
   pub below-same : (f g : ℕ → A) (n : ℕ) → ((j : ℕ) → j < n → f j ≡ g j) → map f (below n) ≡ map g (below n)

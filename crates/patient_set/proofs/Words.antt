@@ -1,20 +1,24 @@
 -- What the machine's operations on words do to each patient.
-use mathlib.Core.Path.{_≡_, refl, sym, ap, ap₂, _∙_}
-use mathlib.Core.Bool.{Bool, true, false, not, cond, _&&_, _||_}
-use mathlib.Core.List.{List, _∷_}
+use mathlib.Core.Path.{_≡_, refl, sym, ap, ap₂, subst, _∙_}
+use mathlib.Core.Bool.{Bool, true, false, false≢true, not, cond, _&&_, _||_}
+use mathlib.Core.Option.{some, Option·getD}
+use mathlib.Core.List.{List, [], _∷_, _++_}
 use Prim.Native.Nat.{ℕ, zero, suc, _+_, _-_, _*_, _/_, _%_, _^_, _≤_, _<_, max, min}
 use native.Mathlib.Nat.{zero-lt-suc, pow-suc, add-zero, add-suc, suc-add, mul-mod-left, div-one, one-mul, div-eq-of-lt, mul-div-cancel}
-use native.Mathlib.Numerals.{add-one}
+use native.Mathlib.Numerals.{add-one, one-add}
 use native.Mathlib.Omega.{arith}
 use lib.Arith.{digits-div, digits-mod, lt-one}
 use lib.Bits.{bitOr, bitAnd, bitXor, differ, or-shr, or-step, and-shr, and-step, xor-shr, xor-step}
-use lib.Count.{ones, onesIn, ones-step, trailingZeros, under}
+use lib.Count.{ones, onesIn, ones-step, leadingZeros, leading-top, trailingZeros, under}
 use lib.Dec.{eqb, ltb, lit<, eqb·suc-suc, eqb·zero-suc, eqb·suc-zero, leb·zero, leb·suc-zero, leb·suc-suc}
 use lib.ListN.{length}
-use lib.Pow.{shr-shr, shl-exact, pow-lt, ones-split, ones-lt, high}
-use Rattle.definitions.specs.Basics.{keep, numbersFrom}
+use lib.Pow.{shr-shr, shr-lt, shr-mono, shl-shr, shl-exact, pow-lt, ones-split, ones-lt, high}
+use Rattle.definitions.specs.Basics.{isEmpty, keep, numbersFrom, below}
+use Rattle.definitions.specs.Parents.{last}
+use Rattle.lists.specs.Keep.{keep-append}
+use Rattle.lists.specs.Below.{below-next}
 use Rattle.patient_set.specs.Sets.{inSet, members, first}
-use Rattle.patient_set.specs.Laws.{bit, last-bit, half-at, half-lt, outside}
+use Rattle.patient_set.specs.Laws.{bit, last-bit, half-at, half-lt, outside, members-below, empty-word}
 
 -- An operation on words that works bit by bit, as `test` does on the bits' tests.
 module _ (op f : ℕ → ℕ → ℕ) (test : Bool → Bool → Bool)
@@ -147,6 +151,44 @@ ones-in (suc n) w h = ones-step w ∙ ap (λ x. w % 2 + x) (ones-in n (w / 2) (h
 pub lowest-is : (w : ℕ) → trailingZeros 32 w ≡ first 32 (members w)
 unfolding members
 lowest-is w = ap (λ x. trailingZeros 32 x) (sym (div-one w)) ∙ sym (add-zero (trailingZeros 32 (w / 1))) ∙ zeros-from w 0 32
+
+-- The last of a list that ends so.
+last-is : (l : List ℕ) (x : ℕ) → last (l ++ x ∷ []) ≡ some x
+last-is [] x = refl
+last-is (y ∷ []) x = refl
+last-is (y ∷ z ∷ l) x = last-is (z ∷ l) x
+
+-- Where 2 ^ j is the highest one of a word, j is the highest patient.
+top-last : (w j : ℕ) → j < 32 → 2 ^ j ≤ w → w < 2 ^ suc j → last (members w) ≡ some j
+top-last w j h low high =
+    let least : 1 * 2 ^ j / 2 ^ j ≤ w / 2 ^ j = shr-mono j (omega arith) in
+    let most : w / 2 ^ j < 2 ^ 1 = shr-lt 1 j (subst (λ n. w < 2 ^ n) (sym (one-add j)) high) in
+    let one : w / 2 ^ j ≡ 1 = omega (arith, shl-shr 1 j) in
+    let there : inSet w j ≡ true = ap (λ x. eqb (x % 2) 1) one in
+    ap last
+    (members-below w (suc j) (omega arith) (λ q l. outside (suc j) w q high l)
+    ∙ ap (keep (inSet w)) (below-next j) ∙ keep-append (inSet w) (below j) (j ∷ []) ∙ ap (λ b. keep (inSet w) (below j) ++ cond b (j ∷ []) []) there)
+    ∙ last-is (keep (inSet w) (below j)) j
+
+-- The place of the highest one, by the zeros above it.
+pub highest-is : (w : ℕ) → w < 2 ^ 32 → isEmpty (members w) ≡ false → (leadingZeros 32 w ≤ 31) × (31 - leadingZeros 32 w ≡ Option·getD (last (members w)) 32)
+highest-is w h filled =
+    let pos : 0 < w = go w (sym (empty-word w h) ∙ filled) in
+    let (j, all, low, high) = leading-top 32 w pos h in
+    let place : 31 - leadingZeros 32 w ≡ j = omega arith in
+    (omega arith, place ∙ sym (ap (λ o. Option·getD o 32) (top-last w j (omega arith) low high)))
+  where
+    go : (n : ℕ) → eqb n 0 ≡ false → 0 < n
+    go zero e = absurd (false≢true (sym e))
+    go (suc n) e = omega arith
+
+-- No patient has no highest.
+pub highest-none : (w : ℕ) → isEmpty (members w) ≡ true → 32 ≡ Option·getD (last (members w)) 32
+highest-none w empty = go (members w) empty
+  where
+    go : (l : List ℕ) → isEmpty l ≡ true → 32 ≡ Option·getD (last l) 32
+    go [] e = refl
+    go (x ∷ l) e = absurd (false≢true e)
 
 pub size-is : (w : ℕ) → w < 2 ^ 32 → ones w ≡ length (members w)
 unfolding members

@@ -1,7 +1,8 @@
 // Sets of patients, as 32-bit words: patient p is in the set where bit p is 1.
 ghost use mathlib.Core.Path.{_≡_};
 ghost use Prim.Native.Nat.{ℕ, _<_, _≤_};
-ghost use Rattle.definitions.specs.Basics.{eqb, ltb, not, _&&_, _||_, length, isEmpty};
+ghost use Rattle.definitions.specs.Basics.{eqb, ltb, not, _&&_, _||_, Option·getD, length, isEmpty};
+ghost use Rattle.definitions.specs.Parents.{last};
 ghost use Rattle.patient_set.specs.Sets.{inSet, members, first};
 
 pub struct PatientSet(pub u32);
@@ -81,6 +82,16 @@ impl PatientSet {
         ensures { λ r. ⌜ r ≡ first 32 (members (self .0)) ⌝ }
     {
         u32::trailing_zeros(self.0)
+    }
+
+    // The highest patient, 32 where there is none.
+    pub fn highest(self) -> u32
+        ensures { λ r. ⌜ r ≡ Option·getD (last (members (self .0))) 32 ⌝ }
+    {
+        if self.is_empty() {
+            return 32;
+        }
+        31 - u32::leading_zeros(self.0)
     }
 
     // How many patients are in the set.

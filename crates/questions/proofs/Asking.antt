@@ -28,7 +28,7 @@ module _ (r : Region) (parents : Bool) where
       no-seven e = simp (five, six, e)
 
       pub first-yes : {n : ℕ} → membersRight r ≡ true → n ≡ firstNo (lastAsked parents r) → n ≡ firstNo (asked parents r)
-      unfolding asked
+      unfolding asked lastAsked
       first-yes e last = simp (five, six, e) last
 
   pub no-eight : entryCountsRight r ≡ false → 8 ≡ firstNo (lastAsked parents r)

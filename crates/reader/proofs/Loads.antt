@@ -11,7 +11,7 @@ use Rattle.definitions.specs.Limits.{fileLength, limits, within}
 use Rattle.definitions.specs.Syntax as Said
 use Rattle.definitions.specs.Layout.{lines, layout}
 use Rattle.definitions.specs.Spelling.{spellable}
-use Rattle.definitions.specs.Questions.{firstNo, shortEnough, laidOut, countsTrue, sumTrue, checksum, regionOf, Asked}
+use Rattle.definitions.specs.Questions.{firstNo, askedOfFile, shortEnough, laidOut, countsTrue, sumTrue, checksum, regionOf, Asked}
 use Rattle.lists.specs.Tests.{both, join}
 use Rattle.lists.specs.Every.{every-weaken}
 use Rattle.theorems.specs.Accepted.{region-said}
@@ -33,18 +33,17 @@ use Rattle.reader.proofs.StoredEntries.{stands-held}
 use Rattle.layout.specs.declared.Laid.{Laid}
 use Rattle.reader.specs.declared.Loaded.{Loaded}
 use Rattle.layout.specs.LaidOut.{LaidThere, LaidOut}
-use Rattle.reader.specs.Loading.{readAsked, FileRead, LoadedFrom, refusedWith, regionHeld}
+use Rattle.reader.specs.Loading.{FileRead, LoadedFrom, refusedWith, regionHeld}
 
 -- ---- the first four questions
 
 module _ (s : List ℕ) where
-  pub read-too-long : shortEnough s ≡ false → 1 ≡ firstNo (readAsked s)
-  unfolding readAsked
+  pub read-too-long : shortEnough s ≡ false → 1 ≡ firstNo (askedOfFile s)
   read-too-long h = rw h
 
   module _ (short : shortEnough s ≡ true) where
-    pub read-no-layout : layout s ≡ none → 2 ≡ firstNo (readAsked s)
-    unfolding readAsked laidOut
+    pub read-no-layout : layout s ≡ none → 2 ≡ firstNo (askedOfFile s)
+    unfolding laidOut
     read-no-layout e = rw (short, e)
 
     module _ {tree : Said.Region} (says : layout s ≡ some tree) where
@@ -55,17 +54,14 @@ module _ (s : List ℕ) where
       pub file-says : regionOf s ≡ tree
       file-says = Option·some-injective (regionOf s) tree (sym (region-said s laid) ∙ says)
 
-      pub read-counts : countsTrue tree ≡ false → 3 ≡ firstNo (readAsked s)
-      unfolding readAsked
+      pub read-counts : countsTrue tree ≡ false → 3 ≡ firstNo (askedOfFile s)
       read-counts e = rw (short, laid, file-says, e)
 
       module _ (counted : countsTrue tree ≡ true) where
-        pub read-sum : sumTrue s tree ≡ false → 4 ≡ firstNo (readAsked s)
-        unfolding readAsked
+        pub read-sum : sumTrue s tree ≡ false → 4 ≡ firstNo (askedOfFile s)
         read-sum e = rw (short, laid, file-says, counted, e)
 
-        pub read-all : sumTrue s tree ≡ true → 0 ≡ firstNo (readAsked s)
-        unfolding readAsked
+        pub read-all : sumTrue s tree ≡ true → 0 ≡ firstNo (askedOfFile s)
         read-all e = rw (short, laid, file-says, counted, e)
 
 -- ---- what is held
@@ -100,7 +96,7 @@ module _ {s : List ℕ} {laid : Laid} {before after : List ℕ} (l : LaidThere s
 not-fine : {q : Refusal} {P : Type 0} → Refused q ≡ Fine → P
 not-fine k = absurd (let z : _≡_ {A = ℕ} 0 1 = cc in omega arith)
 
-refused-with : {s store : List ℕ} {r : Loaded} {q : Refusal} → r ≡ refusedWith q → questionOf q ≡ firstNo (readAsked s) → FileRead s r store
+refused-with : {s store : List ℕ} {r : Loaded} {q : Refusal} → r ≡ refusedWith q → questionOf q ≡ firstNo (askedOfFile s) → FileRead s r store
 refused-with {s} {store} {r} {q} e n = record {
   number = ap (λ (x : Loaded). numberOf (x .answer)) e ∙ n;
   held = λ fine. not-fine (sym (ap (λ (x : Loaded). x .answer) e) ∙ fine);
@@ -188,18 +184,17 @@ none-refused ((n, false) ∷ these) those all e = absurd (omega (arith, ltb-true
 module _ (parents : Bool) {s store : List ℕ} {r : Loaded} (from : FileRead s r store) where
   pub load-refused : {q : Refusal} {x : Loaded} → r .answer ≡ Refused q → x ≡ refusedWith q → LoadedFrom parents s x store
   load-refused {q} {x} is e = record {
-    number = ap (λ (x : Loaded). numberOf (x .answer)) e ∙ first-refused q (readAsked s) (asked parents (regionOf s)) (sym (ap numberOf is) ∙ from .number);
+    number = ap (λ (x : Loaded). numberOf (x .answer)) e ∙ first-refused q (askedOfFile s) (asked parents (regionOf s)) (sym (ap numberOf is) ∙ from .number);
     says = λ fine. not-fine (sym (ap (λ (x : Loaded). x .answer) e) ∙ fine);
     wide = λ fine. not-fine (sym (ap (λ (x : Loaded). x .answer) e) ∙ fine);
   }
 
   pub load-judged : {answer : Judged} → r .answer ≡ Fine → numberOf answer ≡ firstNo (asked parents (said (r .region) store))
       → LoadedFrom parents s (record { answer = answer; region = r .region }) store
-  unfolding readAsked
   load-judged {answer} is judged =
       let file = from .held is parents in
       record {
-        number = judged ∙ file .asks ∙ none-refused (readAsked s) (asked parents (regionOf s)) refl (sym (ap numberOf is) ∙ from .number);
+        number = judged ∙ file .asks ∙ none-refused (askedOfFile s) (asked parents (regionOf s)) refl (sym (ap numberOf is) ∙ from .number);
         says = λ fine. file .says (sym (judged ∙ file .asks) ∙ ap numberOf fine);
         wide = λ fine. from .wide is;
       }

@@ -1,6 +1,8 @@
 -- What is read and loaded of a file.
-use Rattle.definitions.specs.Basics.{ℕ, Bool, true, _≡_, List, [], _∷_, _++_, length}
-use Rattle.definitions.specs.Questions.{Asked, shortEnough, laidOut, countsTrue, sumTrue, firstNo, regionOf, askedByCheck, checkOf}
+use mathlib.Core.Path.{ap, _∙_}
+use mathlib.Core.Bool.{and-true}
+use Rattle.definitions.specs.Basics.{ℕ, Bool, true, false, _≡_, List, _++_, length}
+use Rattle.definitions.specs.Questions.{Asked, patientsWithin, parentsSmaller, firstNo, regionOf, askedOfFile, askedToNine, askedByCheck, checkOf}
 use Rattle.held_region.specs.declared.Region.{Region}
 use Rattle.held_region.specs.declared.Refusal.{Refusal}
 use Rattle.held_region.specs.declared.Judged.the-variants.{Fine, Refused}
@@ -10,16 +12,13 @@ use Rattle.held_region.specs.StandsFor.{StandsFor}
 use Rattle.reader.specs.declared.Loaded.{Loaded}
 use Rattle.layout.specs.declared.Laid.{Laid}
 
--- Questions 1 to 4 of a file; and all up to 10, with or without those of parents.
-unfoldable pub readAsked : List ℕ → Asked
-readAsked s = (1, shortEnough s) ∷ (2, laidOut s) ∷ (3, countsTrue (regionOf s)) ∷ (4, sumTrue s (regionOf s)) ∷ []
-
+-- Questions 1 to 10 of a file, with or without those of parents.
 abbrev pub loadAsked : Bool → List ℕ → Asked
-loadAsked parents s = readAsked s ++ asked parents (regionOf s)
+loadAsked parents s = askedOfFile s ++ asked parents (regionOf s)
 
 -- The first no of questions 1 to 4; and where there is none, what is held stands for what the file says, and the store is as long as it was.
 pub record FileRead (s : List ℕ) (r : Loaded) (store : List ℕ) : Type 0 where
-  pub number : numberOf (r .answer) ≡ firstNo (readAsked s)
+  pub number : numberOf (r .answer) ≡ firstNo (askedOfFile s)
   pub held : r .answer ≡ Fine → (parents : Bool) → StandsFor parents (said (r .region) store) (regionOf s)
   pub wide : r .answer ≡ Fine → length store ≡ 4096
 
@@ -38,5 +37,11 @@ regionHeld laid = record { v = laid .v; t = laid .t; m = laid .m; patients = lai
 
 -- With those of parents they are the questions of check.
 pub checks : {s : List ℕ} {r : Loaded} {store : List ℕ} → LoadedFrom true s r store → numberOf (r .answer) ≡ checkOf s
-unfolding checkOf askedByCheck readAsked asked lastAsked
+unfolding checkOf askedByCheck asked lastAsked
 checks from = from .number
+
+-- Without them, they are those that #107 asks.
+pub checks-nine : {s : List ℕ} {r : Loaded} {store : List ℕ} → LoadedFrom false s r store
+    → numberOf (r .answer) ≡ firstNo (askedOfFile s ++ askedToNine (regionOf s) (patientsWithin (regionOf s)))
+unfolding asked lastAsked
+checks-nine {s} from = from .number ∙ ap (λ six. firstNo (askedOfFile s ++ askedToNine (regionOf s) six)) (and-true (patientsWithin (regionOf s)))
