@@ -115,6 +115,12 @@ empty-size w = go (members w)
     go [] = refl
     go (x ∷ m) = sym (eqb·suc-zero (length m))
 
+pub size-some : (w : ℕ) {n : ℕ} → n ≡ length (members w) → 0 < n → isEmpty (members w) ≡ false
+size-some w e h = empty-size w ∙ ne-eqb (length (members w)) 0 (λ z. omega arith)
+
+pub size-none : (w : ℕ) {n : ℕ} → n ≡ length (members w) → n ≤ 0 → isEmpty (members w) ≡ true
+size-none w e h = empty-size w ∙ eq-eqb (length (members w)) 0 (omega arith)
+
 -- A set has at most 32 patients.
 pub size-most : (w : ℕ) → length (members w) ≤ 32
 unfolding members

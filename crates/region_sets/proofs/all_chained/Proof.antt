@@ -3,11 +3,10 @@ use mathlib.Core.Path.{_≡_, refl}
 use native.Mathlib.Omega.{arith}
 use Rattle.definitions.specs.Basics.{ltb, length, every, keep}
 use Rattle.patient_set.specs.Sets.{members}
-use Rattle.patient_set.specs.Laws.{lowest-patient, lowest-and-rest, rest-smaller}
+use Rattle.patient_set.specs.Laws.{size-some, size-none, lowest-patient, lowest-and-rest, rest-smaller}
 use Rattle.held_region.specs.Related.{setIn, chained}
 use Rattle.held_region.specs.Sets.{walk-no, walk-yes, walk-done}
 use Rattle.lists.specs.Tests.{answered-no, answered-yes}
-use Rattle.region_sets.proofs.Sizes.{size-some, size-none}
 use Rattle.region_sets.proofs.all_chained.Statement.{statement}
 use Rattle.region_sets.proofs.all_chained.Tie as tie
 

@@ -1,0 +1,7 @@
+-- Request #107: what is proved of parents made from the graph of shared tables.
+pub mod Chains
+pub mod Made
+pub mod Chosen
+pub mod Accepted
+pub mod Least
+pub mod Same
