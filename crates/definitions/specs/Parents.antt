@@ -2,7 +2,7 @@
 use Rattle.definitions.specs.Basics.{ℕ, zero, suc, _&&_, Option, none, some, List, [], _∷_, _++_, map, length, getD, below, any, keep, contains}
 use Rattle.definitions.specs.Syntax.{Patient, Table, Region, patientNumbers, patientAt}
 use Rattle.definitions.specs.Spelling.{spell}
-use Rattle.definitions.specs.Questions.{patientsWithin, regionOf, askedOfFile, askedToNine, Asks, entryAsks}
+use Rattle.definitions.specs.Questions.{patientsWithin, regionOf, Asked, askedOfFile, askedToNine, Asks, entryAsks}
 use Rattle.definitions.specs.Writer.{regionFrom, roomForFile, madeBy, WriteOutcome, writeOutcomeOf}
 
 -- A graph is given by groups of patients, all neighbours of each other. At first each table's members are a group.
@@ -40,11 +40,11 @@ unfoldable pub parentsFile : List ℕ → List ℕ
 parentsFile file = let r = regionOf file in spell (withParents r (parentsMade r))
 
 -- It asks 1 to 9, of 6 not the parents' half, since a parent out of order is no fault here; then 15.
+abbrev pub askedToMake : List ℕ → Asked
+askedToMake file = askedOfFile file ++ askedToNine (regionOf file) (patientsWithin (regionOf file))
+
 unfoldable pub askedByParents : List ℕ → List ℕ → Asks
-askedByParents file output = record {
-  first = askedOfFile file ++ askedToNine (regionOf file) (patientsWithin (regionOf file));
-  later = (15, roomForFile (parentsFile file) output) ∷ [];
-}
+askedByParents file output = record { first = askedToMake file; later = (15, roomForFile (parentsFile file) output) ∷ [] }
 
 unfoldable pub parentsOutcome : List ℕ → List ℕ → WriteOutcome
 parentsOutcome file output = writeOutcomeOf (madeBy (entryAsks (askedByParents file output)) (parentsFile file)) output

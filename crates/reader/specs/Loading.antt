@@ -3,6 +3,7 @@ use mathlib.Core.Path.{ap, _∙_}
 use mathlib.Core.Bool.{and-true}
 use Rattle.definitions.specs.Basics.{ℕ, Bool, true, false, _≡_, List, _++_, length}
 use Rattle.definitions.specs.Questions.{Asked, patientsWithin, parentsSmaller, firstNo, regionOf, askedOfFile, askedToNine, askedByCheck, checkOf}
+use Rattle.definitions.specs.Parents.{askedToMake}
 use Rattle.held_region.specs.declared.Region.{Region}
 use Rattle.held_region.specs.declared.Refusal.{Refusal}
 use Rattle.held_region.specs.declared.Judged.the-variants.{Fine, Refused}
@@ -40,8 +41,7 @@ pub checks : {s : List ℕ} {r : Loaded} {store : List ℕ} → LoadedFrom true 
 unfolding checkOf askedByCheck asked lastAsked
 checks from = from .number
 
--- Without them, they are those that #107 asks.
-pub checks-nine : {s : List ℕ} {r : Loaded} {store : List ℕ} → LoadedFrom false s r store
-    → numberOf (r .answer) ≡ firstNo (askedOfFile s ++ askedToNine (regionOf s) (patientsWithin (regionOf s)))
+-- Without them, they are those that are asked to make parents.
+pub checks-nine : {s : List ℕ} {r : Loaded} {store : List ℕ} → LoadedFrom false s r store → numberOf (r .answer) ≡ firstNo (askedToMake s)
 unfolding asked lastAsked
 checks-nine {s} from = from .number ∙ ap (λ six. firstNo (askedOfFile s ++ askedToNine (regionOf s) six)) (and-true (patientsWithin (regionOf s)))

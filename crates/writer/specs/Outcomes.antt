@@ -49,6 +49,10 @@ module _ (file output : List ℕ) where
       let last : Asked = (15, roomForFile file output) ∷ [] in
       made-with (early ++ last) file output (yes-then early last all) ∙ sym (made-with last file output refl)
 
+  -- What is placed, by its case.
+  pub placed-case : {placed : Placed} (case : Placed) {after : List ℕ} → placed ≡ case → placedOutcome placed after ≡ placing file output → placedOutcome case after ≡ placing file output
+  placed-case case {after} is e = ap (λ p. placedOutcome p after) (sym is) ∙ e
+
   placed-short : length output < length file → placedOutcome Short output ≡ placing file output
   unfolding placing roomForFile
   placed-short l = sym (made-with ((15, roomForFile file output) ∷ []) file output (ap (λ b. firstNo ((15, b) ∷ [])) (lt-leb _ _ l)))
@@ -103,9 +107,6 @@ module _ (h : Region) (store output : List ℕ) where
   pub write-accepted : 0 ≡ firstNo (asked true (said h store)) → Accepted (said h store)
   write-accepted e = rw (said-held h store) at (passes-accepted (said h store) (rw (said-held h store) (sym judged ∙ sym e)))
 
-  -- Then the file is placed, and both cases of that are write's.
-  pub write-placed : {placed : Placed} (case : Placed) {after : List ℕ} → Accepted (said h store) → placed ≡ case → placedOutcome placed after ≡ placing file output
-      → placedOutcome case after ≡ writeOutcome (said h store) output
-  write-placed case {after} a is e =
-      ap (λ p. placedOutcome p after) (sym is) ∙ e
-      ∙ sym (then-placed file output (askedOfRegion (said h store)) (accepted-asked (said h store) a)) ∙ asked-outcome
+  -- Then the file is placed.
+  pub write-placed : Accepted (said h store) → placing file output ≡ writeOutcome (said h store) output
+  write-placed a = sym (then-placed file output (askedOfRegion (said h store)) (accepted-asked (said h store) a)) ∙ asked-outcome

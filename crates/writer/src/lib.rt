@@ -49,15 +49,23 @@ pub fn place_file(region: Region, store: &[u32; 4096], output: &mut [u8]) -> Pla
     Placed::Bytes(n)
 }
 
+// The same as write answers it.
+pub fn write_accepted(region: Region, store: &[u32; 4096], output: &mut [u8]) -> Written
+    requires { ⌜ Accepted (said region (now store)) ⌝ }
+    ensures { λ r. ⌜ writtenOutcome r (now (output .exit)) ≡ placing (spell (said region (now (store .entry)))) (now (output .entry)) ⌝ }
+{
+    match place_file(region, store, output) {
+        Placed::Short => Written::Short,
+        Placed::Bytes(n) => Written::Bytes(n),
+    }
+}
+
 // Questions 5 to 10 of a held region, whatever it says, then 15, then the file.
 pub fn write(region: Region, store: &[u32; 4096], output: &mut [u8]) -> Written
     ensures { λ r. ⌜ writtenOutcome r (now (output .exit)) ≡ writeOutcome (said region (now (store .entry))) (now (output .entry)) ⌝ }
 {
     match judge(region, store, true) {
         Judged::Refused(refusal) => Written::Refused(refusal),
-        Judged::Fine => match place_file(region, store, output) {
-            Placed::Short => Written::Short,
-            Placed::Bytes(n) => Written::Bytes(n),
-        },
+        Judged::Fine => write_accepted(region, store, output),
     }
 }
