@@ -6,23 +6,11 @@ use Rattle.definitions.specs.Questions.{Asked, firstNo, askedOfRegion, Asks, ca
 use Rattle.definitions.specs.Writer.{regionFrom, asHeld, writtenFile, roomForFile, askedByWrite, madeBy, WriteOutcome, writeOutcomeOf, writeOutcome}
 use Rattle.definitions.specs.Boundary.{roomForNumbers, resultAfter, lentRegion, lentWhole, askedByLentWrite, WriteCall, writeCallOf, writeCall}
 use Rattle.theorems.specs.Answers.{no-then}
-use Rattle.theorems.specs.Writer.{outcomeWith, made-with}
+use Rattle.theorems.specs.Writer.{made-with}
 use Rattle.held_region.specs.Refusals.{asked, lastAsked}
 use Rattle.held_region.specs.StandsFor.{StandsFor}
-use Rattle.answers.specs.Rooms as rooms
 use Rattle.answers.specs.Rooms.{orTwelve}
-
-abbrev pub nothingWritten : ℕ → List ℕ → WriteOutcome
-nothingWritten number output = record { number = number; count = 0; output = output }
-
-nothing-written : (file output : List ℕ) (n : ℕ) → outcomeWith file output (orTwelve n) ≡ nothingWritten (orTwelve n) output
-nothing-written file output zero = refl
-nothing-written file output (suc q) = refl
-
--- Values that are given back, and what they are.
-pub given-values : {given number counted count : ℕ} (output : List ℕ) → given ≡ number → counted ≡ count
-    → _≡_ {A = WriteOutcome} (record { number = given; count = counted; output = output }) (record { number = number; count = count; output = output })
-given-values output e f = λ i. record { number = e i; count = f i; output = output }
+use Rattle.writer.specs.Calls.{nothingWritten, calledOutcome, with-room, without-room, called}
 
 -- A region that stands for another is written as the other would be.
 module _ (held region : Said.Region) (output : List ℕ) (stands : StandsFor true held region) (as-held : asHeld held ≡ held) (as-said : asHeld region ≡ region) where
@@ -49,8 +37,8 @@ module _ (patients tables entries : List ℕ) (m : ℕ) (output : List ℕ) wher
   abbrev lentAsks : Asks
   lentAsks = askedByLentWrite patients tables entries m output
 
-  unfoldable pub lentOutcome : Bool → WriteOutcome
-  lentOutcome room = writeOutcomeOf (madeBy (callAsks lentAsks room) (writtenFile region)) output
+  abbrev pub lentOutcome : Bool → WriteOutcome
+  lentOutcome room = calledOutcome lentAsks (writtenFile region) output room
 
   -- A lent region is as it is held.
   lent-held : asHeld region ≡ region
@@ -59,7 +47,7 @@ module _ (patients tables entries : List ℕ) (m : ℕ) (output : List ℕ) wher
 
   -- Question 2 is answered no.
   pub not-whole : (room : Bool) → lentWhole patients tables entries ≡ false → nothingWritten 2 output ≡ lentOutcome room
-  unfolding lentOutcome askedByLentWrite
+  unfolding calledOutcome askedByLentWrite
   not-whole room no-two =
       sym (made-with (callAsks lentAsks room) (writtenFile region) output (ap (λ b. firstNo ((2, b) ∷ early ++ (12, room) ∷ later)) no-two))
     where
@@ -78,23 +66,25 @@ module _ (patients tables entries : List ℕ) (m : ℕ) (output : List ℕ) wher
     later = (15, roomForFile (writtenFile region) output) ∷ []
 
     -- With room for the result, the writer answers.
-    pub with-room : writeOutcome held output ≡ lentOutcome true
-    unfolding lentOutcome writeOutcome writeOutcomeOf askedByLentWrite askedByWrite
-    with-room =
+    pub answered : writeOutcome held output ≡ lentOutcome true
+    unfolding writeOutcome askedByLentWrite askedByWrite
+    answered =
         stands-outcome held region output stands as-held lent-held
-        ∙ sym (made-with (callAsks lentAsks true) (writtenFile region) output (rooms.with-room lentAsks ∙ ap (λ b. firstNo ((2, b) ∷ early ++ later)) whole))
+        ∙ made-with (early ++ later) (writtenFile region) output refl
+        ∙ sym (made-with ((2, lentWhole patients tables entries) ∷ early ++ later) (writtenFile region) output (ap (λ b. firstNo ((2, b) ∷ early ++ later)) whole))
+        ∙ with-room lentAsks (writtenFile region) output
 
     -- Without it, nothing is written.
-    pub without-room : nothingWritten (orTwelve (firstNo (asked true held))) output ≡ lentOutcome false
-    unfolding lentOutcome askedByLentWrite askedByWrite
-    without-room =
-        let number : firstNo (callAsks lentAsks false) ≡ orTwelve (firstNo early) = rooms.without-room lentAsks tt ∙ ap (λ b. orTwelve (firstNo ((2, b) ∷ early))) whole in
-        ap (λ n. nothingWritten (orTwelve n) output) (same-asked held region output stands as-held lent-held ∙ sym (ap (λ r. firstNo (askedOfRegion r)) lent-held))
-        ∙ sym (made-with (callAsks lentAsks false) (writtenFile region) output number ∙ nothing-written (writtenFile region) output (firstNo early))
+    pub unanswered : nothingWritten (orTwelve (firstNo (asked true held))) output ≡ lentOutcome false
+    unfolding askedByLentWrite askedByWrite
+    unanswered =
+        ap (λ n. nothingWritten (orTwelve n) output)
+        (same-asked held region output stands as-held lent-held ∙ sym (ap (λ r. firstNo (askedOfRegion r)) lent-held) ∙ sym (ap (λ b. firstNo ((2, b) ∷ early)) whole))
+        ∙ without-room lentAsks (writtenFile region) output tt
 
   -- With the result area, it is the call.
-  pub called : {number count : ℕ} {after left : List ℕ} (result : List ℕ)
+  pub call-answered : {number count : ℕ} {after left : List ℕ} (result : List ℕ)
       → _≡_ {A = WriteOutcome} (record { number = number; count = count; output = after }) (lentOutcome (roomForNumbers 1 result)) → left ≡ resultAfter (count ∷ []) result
       → _≡_ {A = WriteCall} (record { number = number; output = after; result = left }) (writeCall patients tables entries m output result)
-  unfolding lentOutcome writeOutcomeOf writeCall writeCallOf
-  called result e f = λ i. record { number = e i .number; output = e i .output; result = (f ∙ ap (λ (o : WriteOutcome). resultAfter (o .count ∷ []) result) e) i }
+  unfolding writeCall
+  call-answered = called lentAsks (writtenFile region) output

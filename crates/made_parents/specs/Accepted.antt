@@ -63,13 +63,10 @@ module _ (r : Region) (n : PassesNine r) where
   abbrev made : Region
   made = withParents r (parentsMade r)
 
-  patients-counted : length (r .patients) ≡ r .patientCount
+  -- V and T are true.
+  counts : (length (r .patients) ≡ r .patientCount) × (length (r .tables) ≡ r .tableCount)
   unfolding countsTrue
-  patients-counted = eqb-true _ _ (both (eqb (length (r .patients)) (r .patientCount)) (n .counted) .0)
-
-  tables-counted : length (r .tables) ≡ r .tableCount
-  unfolding countsTrue
-  tables-counted = eqb-true _ _ (both (eqb (length (r .patients)) (r .patientCount)) (n .counted) .1)
+  counts = let (v, t) = both (eqb (length (r .patients)) (r .patientCount)) (n .counted) in (eqb-true _ _ v, eqb-true _ _ t)
 
   -- The tables are the same.
   tables-fit : (f : Table → Bool) → ((t : Table) → t ∈ r .tables → f t ≡ true) → every f (made .tables) ≡ true
@@ -80,7 +77,7 @@ module _ (r : Region) (n : PassesNine r) where
   unfolding countsWithin
   counts-fit =
       let same = chosen-alike r (parentsMade r) in
-      rw (chosen-patient-count r (parentsMade r), chosen-table-count r (parentsMade r), same .plansWanted, patients-counted, tables-counted) (n .countsFit)
+      rw (chosen-patient-count r (parentsMade r), chosen-table-count r (parentsMade r), same .plansWanted, counts .0, counts .1) (n .countsFit)
 
   -- 6: nothing else of a patient changes.
   patients-fit : patientsWithin made ≡ true
@@ -90,7 +87,7 @@ module _ (r : Region) (n : PassesNine r) where
   -- 7: the members are as they were, and V too.
   members-fit : membersRight made ≡ true
   unfolding membersRight
-  members-fit = rw (chosen-alike r (parentsMade r) .tables, chosen-patient-count r (parentsMade r), patients-counted) (n .membersFit)
+  members-fit = rw (chosen-alike r (parentsMade r) .tables, chosen-patient-count r (parentsMade r), counts .0) (n .membersFit)
 
   -- 8: the members' bed counts are as they were.
   entry-counts-fit : entryCountsRight made ≡ true
@@ -113,7 +110,7 @@ module _ (r : Region) (n : PassesNine r) where
       let known = both (within memberCount (length (t .members))) two .1 in
       let related : (a b : ℕ) → a ∈ t .members → b ∈ t .members → a < b → a ∈ ancestors made b =
       λ a b i j h. made-related made (made-parents-smaller r) (sharedTables r) (length (r .patients)) (chosen-parent r (parentsMade r)) (t .members) (in-map (λ t. t .members) k) a b i j h
-      (omega (arith, patients-counted, ltb-true b (r .patientCount) (every-in _ (t .members) known j))) in
+      (omega (arith, counts .0, ltb-true b (r .patientCount) (every-in _ (t .members) known j))) in
       two-all _ (t .members) rising (λ a b i j h. ap (λ c. contains (ancestors made a) b || c) (contains-in (ancestors made b) (related a b i j h)) ∙ or-true (contains (ancestors made a) b)))
 
 -- With the parents made, the region is accepted.

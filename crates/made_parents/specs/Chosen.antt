@@ -26,11 +26,11 @@ withParent p parent = record { clinic = p .clinic; bedCount = p .bedCount; paren
 
 module _ (r : Region) (choice : List (Option ℕ)) where
   -- What it holds, with true counts and the true sum.
-  pub chosen-patients : withParents r choice .patients ≡ map (λ s. withParent (patientAt r s) (getD choice s none)) (patientNumbers r)
+  chosen-patients : withParents r choice .patients ≡ map (λ s. withParent (patientAt r s) (getD choice s none)) (patientNumbers r)
   unfolding withParents regionFrom
   chosen-patients = refl
 
-  pub chosen-many : length (withParents r choice .patients) ≡ length (r .patients)
+  chosen-many : length (withParents r choice .patients) ≡ length (r .patients)
   chosen-many = ap length chosen-patients ∙ length-by-places _ 0 (length (r .patients))
 
   pub chosen-patient-count : withParents r choice .patientCount ≡ length (r .patients)
@@ -41,10 +41,6 @@ module _ (r : Region) (choice : List (Option ℕ)) where
   unfolding withParents regionFrom
   chosen-table-count = refl
 
-  pub chosen-tables : withParents r choice .tables ≡ r .tables
-  unfolding withParents regionFrom
-  chosen-tables = refl
-
   pub chosen-held : asHeld (withParents r choice) ≡ withParents r choice
   unfolding asHeld withParents regionFrom
   chosen-held = refl
@@ -53,7 +49,7 @@ module _ (r : Region) (choice : List (Option ℕ)) where
   chosen-counted = rw (← chosen-held) (held-counts (withParents r choice))
 
   -- Who has which number in it.
-  pub chosen-patient : (s : ℕ) → s < length (r .patients) → patientAt (withParents r choice) s ≡ withParent (patientAt r s) (getD choice s none)
+  chosen-patient : (s : ℕ) → s < length (r .patients) → patientAt (withParents r choice) s ≡ withParent (patientAt r s) (getD choice s none)
   unfolding patientAt withParents regionFrom
   chosen-patient s h = at-place (λ q. withParent (patientAt r q) (getD choice q none)) _ (length (r .patients)) s h
 

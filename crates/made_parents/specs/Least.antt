@@ -1,4 +1,4 @@
--- No choice of parents that passes questions 6 and 10 has fewer ancestors than those made, and none of a region's own is lost as a choice.
+-- Every choice of parents that passes questions 6 and 10 has at least the ancestors that are made, and a region's own parents are a choice.
 use mathlib.Core.Path.{_≡_, refl, sym, ap, _∙_, subst}
 use mathlib.Core.Logic.{inl, inr}
 use mathlib.Core.Bool.{or-comm}
@@ -16,7 +16,7 @@ use Rattle.theorems.specs.Accepted.{parent-below}
 use Rattle.theorems.specs.Ancestors.{no-later}
 use Rattle.made_parents.specs.Chains.{ancestor-cases, ancestor-through}
 use Rattle.made_parents.specs.Made.{Related, made-above}
-use Rattle.made_parents.specs.Chosen.{withParent, chosen-tables, parent-chosen}
+use Rattle.made_parents.specs.Chosen.{withParent, chosen-alike, parent-chosen}
 use Rattle.made_parents.specs.Accepted.{made-parents-smaller}
 
 -- Of two members that question 10 finds related, the smaller is an ancestor of the larger.
@@ -31,7 +31,7 @@ module _ (r : Region) (choice : List (Option ℕ)) (smaller : parentsSmaller (wi
   unfolding membersRelated
   tables-related group i a b j k h =
       let (t, m, is) = in-map-cases (λ (t : Table). t .members) (r .tables) i in
-      let pairs = every-in _ (chosen .tables) related (subst (λ l. t ∈ l) (sym (chosen-tables r choice)) m) in
+      let pairs = every-in _ (chosen .tables) related (subst (λ l. t ∈ l) (sym (chosen-alike r choice .tables)) m) in
       elim (every-two-in _ (t .members) pairs (rw (← is) at j) (rw (← is) at k)) [
         | inl e ↦ absurd (omega arith)
         | inr e ↦ elim e [

@@ -5,3 +5,4 @@ pub mod Chosen
 pub mod Accepted
 pub mod Least
 pub mod Same
+pub mod Promises

@@ -22,7 +22,7 @@ use Rattle.made_parents.specs.Chains.{parent-in, above-parent, ancestors
 -- ---- the last of a list
 
 -- It is in the list, and none of a rising list is above it.
-pub last-in : (l : List ℕ) {p : ℕ} → last l ≡ some p → p ∈ l
+last-in : (l : List ℕ) {p : ℕ} → last l ≡ some p → p ∈ l
 last-in [] {p} e = absurd (Option·none-ne-some p e)
 last-in (q ∷ []) {p} e = here (sym (Option·some-injective q p e))
 last-in (q ∷ x ∷ l) e = there (last-in (x ∷ l) e)
@@ -50,18 +50,18 @@ module _ (groups : List (List ℕ)) (s : ℕ) where
   earlier-rise = everyTwo-keep ltb _ (below s) (numbers-rise 0 s)
 
   -- They are smaller, and in a group with the patient.
-  pub earlier-smaller : {q : ℕ} → q ∈ earlierNeighbours groups s → q < s
+  earlier-smaller : {q : ℕ} → q ∈ earlierNeighbours groups s → q < s
   unfolding earlierNeighbours
   earlier-smaller {q} k = below-out s q (keep-out _ (below s) k .0)
 
-  pub earlier-shared : {q : ℕ} → q ∈ earlierNeighbours groups s → (group : List ℕ) × (group ∈ groups) × (s ∈ group) × (q ∈ group)
+  earlier-shared : {q : ℕ} → q ∈ earlierNeighbours groups s → (group : List ℕ) × (group ∈ groups) × (s ∈ group) × (q ∈ group)
   unfolding earlierNeighbours
   earlier-shared {q} k =
       let (group, i, e) = any-out _ groups (keep-out _ (below s) k .1) in
       let (first, second) = both _ e in
       (group, i, contains-out group s first, contains-out group q second)
 
-  pub earlier-in : (group : List ℕ) → group ∈ groups → s ∈ group → {q : ℕ} → q ∈ group → q < s → q ∈ earlierNeighbours groups s
+  earlier-in : (group : List ℕ) → group ∈ groups → s ∈ group → {q : ℕ} → q ∈ group → q < s → q ∈ earlierNeighbours groups s
   unfolding earlierNeighbours
   earlier-in group i k j h = keep-in _ (below s) (below-in s h) (any-in _ groups i (join (contains-in group k) (contains-in group j)))
 
@@ -90,7 +90,7 @@ module _ (groups : List (List ℕ)) (s : ℕ) where
       List·getD-append rest _ none q (omega (arith, parents-long (earlierNeighbours groups s ∷ groups) s))
 
 -- So each parent is the highest earlier neighbour in groups to which some were added.
-pub made-at : (P : List (List ℕ) → Type 0) → ((groups : List (List ℕ)) (s : ℕ) → P groups → P (earlierNeighbours groups s ∷ groups))
+made-at : (P : List (List ℕ) → Type 0) → ((groups : List (List ℕ)) (s : ℕ) → P groups → P (earlierNeighbours groups s ∷ groups))
     → (groups : List (List ℕ)) (n : ℕ) → P groups → (s p : ℕ) → getD (parentsFrom groups n) s none ≡ some p
     → (more : List (List ℕ)) × P more × (p ∈ earlierNeighbours more s)
 unfolding parentsFrom
@@ -109,9 +109,12 @@ made-smaller groups n s p e = let (more, holds, k) = made-at (λ groups. Unit {0
 
 -- ---- a tree over the groups
 
--- Of any two members of a group the smaller is an ancestor of the larger.
+-- Of any two members of a group the smaller is an ancestor of the larger; the same where the larger is below n.
 abbrev pub Related : Region → List (List ℕ) → Type 0
 Related r groups = (group : List ℕ) → group ∈ groups → (a b : ℕ) → a ∈ group → b ∈ group → a < b → a ∈ ancestors r b
+
+abbrev pub RelatedBelow : Region → List (List ℕ) → ℕ → Type 0
+RelatedBelow r groups n = (group : List ℕ) → group ∈ groups → (a b : ℕ) → a ∈ group → b ∈ group → a < b → b < n → a ∈ ancestors r b
 
 module _ (r : Region) (smaller : parentsSmaller r ≡ true) where
   -- It stays so when earlier neighbours, who are ancestors of one patient, become a group.
@@ -132,13 +135,11 @@ module _ (r : Region) (smaller : parentsSmaller r ≡ true) where
       still shared m p s other own (earlier-smaller more s k)
 
   -- Where the parents are those that the groups make, the members are related.
-  pub made-related : (groups : List (List ℕ)) (n : ℕ) → ((s : ℕ) → s < n → patientAt r s .parent ≡ getD (parentsFrom groups n) s none)
-      → (group : List ℕ) → group ∈ groups → (a b : ℕ) → a ∈ group → b ∈ group → a < b → b < n → a ∈ ancestors r b
+  pub made-related : (groups : List (List ℕ)) (n : ℕ) → ((s : ℕ) → s < n → patientAt r s .parent ≡ getD (parentsFrom groups n) s none) → RelatedBelow r groups n
   made-related groups zero made group i a b j k h l = absurd (omega arith)
   made-related groups (suc s) made group i a b j k h l =
       let earlier = earlierNeighbours groups s in
-      let below : (group : List ℕ) → group ∈ (earlier ∷ groups) → (a b : ℕ) → a ∈ group → b ∈ group → a < b → b < s → a ∈ ancestors r b =
-      made-related (earlier ∷ groups) s (λ q m. made q (omega arith) ∙ parent-before groups s q m) in
+      let below = made-related (earlier ∷ groups) s (λ q m. made q (omega arith) ∙ parent-before groups s q m) in
       elim (ℕ-discrete b s) [
         | yes e ↦ (
             let own : s ∈ group = rw e at k in

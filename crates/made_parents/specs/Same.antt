@@ -6,7 +6,8 @@ use Rattle.definitions.specs.Syntax.{Patient, Table, Region, patientNumbers, pa
 use Rattle.definitions.specs.Plans.{Plan, bedOf, plansFor, plans, place, entryFor, costOver, fixing, constraints, total, Row, compareRows, listOf}
 use Rattle.definitions.specs.Sheets.{part, lowest, ownTables, ownCost, ownRow, sameBeds, sheetOf}
 use Rattle.definitions.specs.Questions.{clinicPresent, planAllowed}
-use Rattle.definitions.specs.Parents.{withParents}
+use Rattle.definitions.specs.Writer.{regionFrom}
+use Rattle.definitions.specs.Parents.{parentsFrom, parentsMade, withParents}
 use Rattle.lists.specs.Below.{by-number}
 use Rattle.theorems.specs.Clinics.{present-asked}
 use Rattle.made_parents.specs.Chosen.{Alike, chosen-alike}
@@ -70,3 +71,15 @@ module _ (r : Region) (choice : List (Option ℕ)) where
 
   pub parents-total : (plan : Plan) → total (withParents r choice) plan ≡ total r plan
   parents-total = alike-total (chosen-alike r choice)
+
+-- The parents that are made read no parents.
+pub alike-made : {r s : Region} → Alike r s → withParents r (parentsMade r) ≡ withParents s (parentsMade s)
+unfolding withParents
+alike-made same = λ i.
+    let parents = parentsFrom (map (λ t. t .members) (same .tables i)) (same .many i) in
+    regionFrom (same .plansWanted i) (map (λ q. record {
+      clinic = same .clinic q i;
+      bedCount = same .bedCount q i;
+      parent = getD parents q none;
+      fixedBed = same .fixedBed q i;
+    }) (below (same .many i))) (same .tables i)

@@ -1,2 +1,3 @@
 -- What write gives back.
 pub mod Outcomes
+pub mod Calls

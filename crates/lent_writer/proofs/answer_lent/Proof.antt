@@ -5,7 +5,8 @@ use borrow.Author.Tests.{not-true, not-false}
 use Rattle.lists.specs.Tests.{answered-no, answered-yes}
 use Rattle.held_region.specs.AsHeld.{said-held}
 use Rattle.answers.specs.Rooms.{orTwelve}
-use Rattle.lent_writer.specs.Answered.{lentOutcome, given-values, not-whole, with-room, without-room}
+use Rattle.writer.specs.Calls.{given-values}
+use Rattle.lent_writer.specs.Answered.{lentOutcome, not-whole, answered, unanswered}
 use Rattle.lent_writer.proofs.answer_lent.Statement.{statement}
 use Rattle.lent_writer.proofs.answer_lent.Tie as tie
 
@@ -49,7 +50,7 @@ returns-2 c =
     let whole = answered-yes (asked .areas-whole .ensures) (held .before .before .if1 .left) in
     let number = numbered .or-twelve .ensures ∙ ap orTwelve (checked .checked-number .ensures ∙ judged .judge .ensures) in
     given-values _ (c .not-written2 .ensures .0 ∙ number) (c .not-written2 .ensures .1)
-    ∙ without-room (now (a .patients)) (now (a .tables)) (now (a .entries)) (a .m) (now (a .output)) whole _ (held .region-lent .ensures) (said-held _ _)
+    ∙ unanswered (now (a .patients)) (now (a .tables)) (now (a .entries)) (a .m) (now (a .output)) whole _ (held .region-lent .ensures) (said-held _ _)
     ∙ ap (lentOutcome _ _ _ _ _) (sym (not-true (a .room) (short .if2 .taken)))
 
 write-requires : tie.Need-write-requires
@@ -70,7 +71,7 @@ returns-3 c =
     let a = asked .before .before .before .before .before .args in
     let whole = answered-yes (asked .areas-whole .ensures) (held .before .before .if1 .left) in
     given-values _ (c .write-values .ensures .0) (c .write-values .ensures .1) ∙ wrote .write .ensures
-    ∙ with-room (now (a .patients)) (now (a .tables)) (now (a .entries)) (a .m) (now (a .output)) whole _ (held .region-lent .ensures) (said-held _ _)
+    ∙ answered (now (a .patients)) (now (a .tables)) (now (a .entries)) (a .m) (now (a .output)) whole _ (held .region-lent .ensures) (said-held _ _)
     ∙ ap (lentOutcome _ _ _ _ _) (sym (not-false (a .room) (long .if2 .left)))
 
 pub answer-lent-spec : {M : Type 1} → statement M

@@ -1,6 +1,6 @@
 use borrow.Author.Needs.{needs}
 use denote.Ref.{now}
-use Rattle.lent_writer.specs.Answered.{called}
+use Rattle.lent_writer.specs.Answered.{call-answered}
 use Rattle.lent_writer.proofs.write_lent.Statement.{statement}
 use Rattle.lent_writer.proofs.write_lent.Tie as tie
 
@@ -21,7 +21,7 @@ returns c =
     let stored = c .before .before in
     let answered = stored .before .before .before .before in
     let a = answered .before .before .before .before .before .before .before .args in
-    called (now (a .patients)) (now (a .tables)) (now (a .entries)) (a .m) (now (a .output)) (now (a .result)) (answered .answer-lent .ensures) (stored .store-count .ensures)
+    call-answered (now (a .patients)) (now (a .tables)) (now (a .entries)) (a .m) (now (a .output)) (now (a .result)) (answered .answer-lent .ensures) (stored .store-count .ensures)
 
 pub write-lent-spec : {M : Type 1} → statement M
 write-lent-spec =
