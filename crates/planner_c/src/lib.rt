@@ -1,11 +1,12 @@
 // The calls from C: the proved entries on numbers and byte areas.
 ghost use mathlib.Core.Path.{_≡_};
-ghost use Rattle.definitions.specs.Boundary.{checkCall, listCall, sheetCall, priceCall, writeCall, lineCall, joinCall};
+ghost use Rattle.definitions.specs.Boundary.{checkCall, listCall, sheetCall, priceCall, writeCall, lineCall, joinCall, parentsCall};
 use answers::checked_number;
 use lent_writer::write_lent;
 use pair_calls::join_call;
 use pair_calls::line_call;
 use pair_calls::price_call;
+use parent_maker::parents_call;
 use planner::check;
 use row_calls::list_call;
 use row_calls::sheet_call;
@@ -87,4 +88,12 @@ pub extern "C" fn rigbasen_join(
     ensures { λ n. ⌜ record { number = n; output = now (output .exit); result = now (result .exit) } ≡ joinCall (now (first .entry)) (now (second .entry)) (now (output .entry)) (now (result .entry)) ⌝ }
 {
     join_call(first, second, output, result)
+}
+
+// The same file with the parents that its tables make. The result area holds one number: the byte count.
+#[no_mangle]
+pub extern "C" fn rigbasen_parents(file: &[u8], output: &mut [u8], result: &mut [u8]) -> u64
+    ensures { λ n. ⌜ record { number = n; output = now (output .exit); result = now (result .exit) } ≡ parentsCall (now (file .entry)) (now (output .entry)) (now (result .entry)) ⌝ }
+{
+    parents_call(file, output, result)
 }

@@ -19,7 +19,7 @@ use Rattle.held_region.specs.declared.Region.{Region}
 use Rattle.held_region.specs.Meaning.{noPatient, patientOf, patientIn, tableSaid, said}
 use Rattle.held_region.specs.Asked.{patients-said, patient-said, tables-said}
 use Rattle.held_region.specs.Related.{setIn}
-use Rattle.made_parents.specs.Chosen.{withParent, chosen-patients}
+use Rattle.made_parents.specs.Chosen.{withParent}
 use Rattle.made_parents.specs.Made.{parent-last, parent-before}
 use Rattle.region_parents.specs.Neighbours.{Near, Gathered, tablesHeld, tables-held, near-more, earlier-members}
 
@@ -91,10 +91,10 @@ module _ (h : Region) (patients : List Patient) (all : PatientsMade h patients) 
   parents-held q = ap₂ (λ groups n. getD (parentsFrom groups n) q none) (tables-held h store) (patients-said h store)
 
   patients-made : own ≡ withParents r (parentsMade r) .patients
+  unfolding withParents regionFrom
   patients-made =
       below-same _ _ (h .v) (λ q l. all .made q l ∙ sym (ap₂ withParent (patient-said h store q l) (parents-held q)))
       ∙ ap (λ n. map (λ s. withParent (patientAt r s) (getD (parentsMade r) s none)) (below n)) (sym (patients-said h store))
-      ∙ sym (chosen-patients r (parentsMade r))
 
   pub made-said : said (record { v = h .v; t = h .t; m = h .m; patients = patients; tables = h .tables }) store ≡ withParents r (parentsMade r)
   unfolding said withParents regionFrom

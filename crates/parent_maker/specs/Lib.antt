@@ -1,0 +1,2 @@
+-- What parents gives back.
+pub mod Outcomes
