@@ -66,9 +66,11 @@ loop-again : tie.Need-loop-again Inv-loop μ-loop
 loop-again c =
     let low = c .before .before .before .before in
     let turn = low .before .before .before in
-    let some = size-some _ (low .before .before .size .ensures) (low .before .if1 .taken) in
-    (simp length-set (turn .loop .inv .0), walked-more (turn .before .args .before) (turn .loop .near) _ (low .lowest .result) _ _ _ (turn .loop .inv .1) (lowest-and-rest _ _ _ _ some (low .lowest .ensures) (c .before .one .ensures) (c .minus .ensures))
-    (omega (arith, low .lowest .ensures, turn .loop .inv .0, lowest-patient _ some)) (c .before .before .join .ensures))
+    let some = size-some _ (low .before .before .size .ensures) (low .before .if1 .taken) in (
+      simp length-set (turn .loop .inv .0),
+      walked-more (turn .before .args .before) (turn .loop .near) _ (low .lowest .result) _ _ _ (turn .loop .inv .1) (lowest-and-rest _ _ _ _ some (low .lowest .ensures) (c .before .one .ensures) (c .minus .ensures))
+          (omega (arith, low .lowest .ensures, turn .loop .inv .0, lowest-patient _ some)) (c .before .before .join .ensures),
+    )
 
 returns : tie.Need-returns Inv-loop μ-loop
 returns c =

@@ -63,9 +63,11 @@ loop-again c =
     let among = c .before .before .before in
     let met = among .before in
     let test = met .before .before .before in
-    let turn = test .before in
-    (omega (arith, turn .loop .inv .0), underway-next (turn .loop .s) (turn .loop .inv .1) (test .loop-test .taken) (omega (arith, turn .loop .inv .0, turn .before .pre .0 .places .patients)) (met .meet .result .0) (search needs)
-    (λ q. met .meet .ensures q ∙ ap (λ b. setIn (turn .loop .near) (turn .loop .s - 1) q && b) (met .before .below .ensures q)) _ _ (c .before .with-parent .ensures) (among .parent-among .ensures) (c .gather .ensures))
+    let turn = test .before in (
+      omega (arith, turn .loop .inv .0),
+      underway-next (turn .loop .s) (turn .loop .inv .1) (test .loop-test .taken) (omega (arith, turn .loop .inv .0, turn .before .pre .0 .places .patients)) (met .meet .result .0) (search needs)
+          (λ q. met .meet .ensures q ∙ ap (λ b. setIn (turn .loop .near) (turn .loop .s - 1) q && b) (met .before .below .ensures q)) _ _ (c .before .with-parent .ensures) (among .parent-among .ensures) (c .gather .ensures),
+    )
 
 returns : tie.Need-returns Inv-loop μ-loop
 returns c = underway-all (c .before .loop .inv .1) (c .loop-test .left)
