@@ -3,8 +3,8 @@ use mathlib.Core.Path.{_≡_, refl, sym, ap, _∙_}
 use Rattle.definitions.specs.Basics.{ℕ, zero, suc, Bool, true, false, List, [], _∷_, _++_}
 use Rattle.definitions.specs.Syntax as Said
 use Rattle.definitions.specs.Questions.{Asked, firstNo, askedOfRegion, Asks, callAsks}
-use Rattle.definitions.specs.Writer.{regionFrom, asHeld, writtenFile, roomForFile, askedByWrite, madeBy, WriteOutcome, writeOutcomeOf, writeOutcome}
-use Rattle.definitions.specs.Boundary.{roomForNumbers, resultAfter, lentRegion, lentWhole, askedByLentWrite, WriteCall, writeCallOf, writeCall}
+use Rattle.definitions.specs.Writer.{regionFrom, asHeld, writtenFile, roomForFile, askedByWrite, WriteOutcome, writeOutcome}
+use Rattle.definitions.specs.Boundary.{roomForNumbers, resultAfter, lentRegion, lentWhole, askedByLentWrite, WriteCall, writeCall}
 use Rattle.theorems.specs.Answers.{no-then}
 use Rattle.theorems.specs.Writer.{made-with}
 use Rattle.held_region.specs.Refusals.{asked, lastAsked}

@@ -9,3 +9,4 @@ pub mod Rising
 pub mod Loops
 pub mod Filling
 pub mod Rows
+pub mod Last

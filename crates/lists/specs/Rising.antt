@@ -6,9 +6,10 @@ use native.Mathlib.Omega.{arith}
 use borrow.Author.Tests.{ltb-true, lt-ltb, le-ltb, le-leb, leb-true, eq-eqb, ne-eqb}
 use Rattle.definitions.specs.Basics.{ℕ, zero, suc, _+_, _<_, Bool, true, false, not, _&&_, _||_, cond, List, [], _∷_, eqb, leb, ltb, every, everyTwo, keep, contains, numbersFrom, below}
 use Rattle.lists.specs.Tests.{both, join}
-use Rattle.lists.specs.Every.{every-in, every-both, every-weaken, every-same, every-contains}
+use Rattle.lists.specs.Members.{_∈_, here, there}
+use Rattle.lists.specs.Every.{every-in, every-all, every-both, every-weaken, every-same, every-contains}
 use Rattle.lists.specs.Keep.{keep-all}
-use Rattle.lists.specs.Below.{same-keep}
+use Rattle.lists.specs.Below.{numbers-enumerate, same-keep}
 
 module _ (g : ℕ → ℕ → Bool) where
   -- Of a rising list: a test of any two is a test of each with all that are lower.
@@ -96,3 +97,15 @@ keep-rest x l r = rw (eq-eqb x x refl) (keep-all (λ q. not (eqb q x)) l (every-
   where
     other : (q : ℕ) → ltb x q ≡ true → not (eqb q x) ≡ true
     other q h = ap not (ne-eqb q x (λ e. omega (arith, ltb-true x q h)))
+
+-- A test of any two members of a rising list, where each two pass it.
+pub two-all : (f : ℕ → ℕ → Bool) (l : List ℕ) → everyTwo ltb l ≡ true → ((a b : ℕ) → a ∈ l → b ∈ l → a < b → f a b ≡ true) → everyTwo f l ≡ true
+two-all f [] up each = refl
+two-all f (x ∷ l) up each =
+    let (now, later) = both (every (ltb x) l) up in
+    join (every-all (f x) l (λ y k. each x y (here refl) (there k) (ltb-true x y (every-in (ltb x) l now k)))) (two-all f l later (λ a b i k. each a b (there i) (there k)))
+
+-- The numbers from a on rise.
+pub numbers-rise : (a n : ℕ) → everyTwo ltb (numbersFrom a n) ≡ true
+numbers-rise a zero = refl
+numbers-rise a (suc n) = join (every-all (ltb a) (numbersFrom (suc a) n) (λ q k. lt-ltb a q (numbers-enumerate (suc a) n .only q k .0))) (numbers-rise (suc a) n)

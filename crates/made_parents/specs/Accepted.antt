@@ -2,21 +2,22 @@
 use mathlib.Core.Path.{_≡_, refl, sym, ap, _∙_}
 use mathlib.Core.Bool.{or-true}
 use native.Mathlib.Omega.{arith}
-use borrow.Author.Tests.{lt-ltb, ltb-true, eqb-true}
-use Rattle.definitions.specs.Basics.{ℕ, _<_, Bool, true, _&&_, _||_, List, [], _∷_, _++_, length, eqb, ltb, product, every, everyTwo, contains}
+use borrow.Author.Tests.{lt-ltb, ltb-true}
+use Rattle.definitions.specs.Basics.{ℕ, _<_, Bool, true, _&&_, _||_, List, length, eqb, ltb, product, every, contains}
 use Rattle.definitions.specs.Limits.{patientCount, tableCount, plansWanted, memberCount, entryCount, within}
 use Rattle.definitions.specs.Syntax.{Table, Region, patientNumbers, patientAt, bedCounts}
 use Rattle.definitions.specs.Questions.{shortEnough, laidOut, countsTrue, sumTrue, countsWithin, patientsWithin, parentsSmaller, membersRight, entriesOf, entryCountsRight, entriesWithin, ancestors, membersRelated}
-use Rattle.definitions.specs.Questions.{regionOf, askedOfFile, askedToNine}
+use Rattle.definitions.specs.Questions.{regionOf}
 use Rattle.definitions.specs.Writer.{regionFrom}
-use Rattle.definitions.specs.Parents.{sharedTables, parentsMade, withParents}
+use Rattle.definitions.specs.Parents.{sharedTables, parentsMade, withParents, askedToMake}
 use Rattle.lists.specs.Tests.{both, join}
-use Rattle.lists.specs.Members.{_∈_, here, there, in-map}
+use Rattle.lists.specs.Members.{_∈_, in-map}
 use Rattle.lists.specs.Every.{every-in, every-all, every-map, contains-in}
 use Rattle.lists.specs.Maps.{map-same}
+use Rattle.lists.specs.Rising.{two-all}
 use Rattle.lists.specs.Below.{every-by-places}
 use Rattle.theorems.specs.Answers.{allYes}
-use Rattle.theorems.specs.Accepted.{Accepted}
+use Rattle.theorems.specs.Accepted.{Accepted, counts-true}
 use Rattle.theorems.specs.Writer.{none-or}
 use Rattle.made_parents.specs.Made.{made-smaller, made-related}
 use Rattle.made_parents.specs.Chosen.{chosen-patient-count, chosen-table-count, chosen-counted, chosen-alike, chosen-parent, parent-chosen}
@@ -31,7 +32,7 @@ pub record PassesNine (r : Region) : Type 0 where
   pub entriesFit : entriesWithin r ≡ true
 
 -- What the file's questions say.
-pub asked-nine : (file : List ℕ) → allYes (askedOfFile file ++ askedToNine (regionOf file) (patientsWithin (regionOf file))) ≡ true → PassesNine (regionOf file)
+pub asked-nine : (file : List ℕ) → allYes (askedToMake file) ≡ true → PassesNine (regionOf file)
 asked-nine file all =
     let r = regionOf file in
     let (q1, r1) = both (shortEnough file) all in
@@ -43,13 +44,6 @@ asked-nine file all =
     let (q7, r7) = both (membersRight r) r6 in
     let (q8, r8) = both (entryCountsRight r) r7 in
     record { counted = q3; countsFit = q5; patientsFit = q6; membersFit = q7; entryCountsFit = q8; entriesFit = both (entriesWithin r) r8 .0 }
-
--- A test of any two members of a rising list, where each two pass it.
-two-all : (f : ℕ → ℕ → Bool) (l : List ℕ) → everyTwo ltb l ≡ true → ((a b : ℕ) → a ∈ l → b ∈ l → a < b → f a b ≡ true) → everyTwo f l ≡ true
-two-all f [] up each = refl
-two-all f (x ∷ l) up each =
-    let (now, later) = both (every (ltb x) l) up in
-    join (every-all (f x) l (λ y k. each x y (here refl) (there k) (ltb-true x y (every-in (ltb x) l now k)))) (two-all f l later (λ a b i k. each a b (there i) (there k)))
 
 -- 6, the parents' half, of any region: a made parent is smaller.
 pub made-parents-smaller : (r : Region) → parentsSmaller (withParents r (parentsMade r)) ≡ true
@@ -63,10 +57,8 @@ module _ (r : Region) (n : PassesNine r) where
   abbrev made : Region
   made = withParents r (parentsMade r)
 
-  -- V and T are true.
   counts : (length (r .patients) ≡ r .patientCount) × (length (r .tables) ≡ r .tableCount)
-  unfolding countsTrue
-  counts = let (v, t) = both (eqb (length (r .patients)) (r .patientCount)) (n .counted) in (eqb-true _ _ v, eqb-true _ _ t)
+  counts = counts-true r (n .counted)
 
   -- The tables are the same.
   tables-fit : (f : Table → Bool) → ((t : Table) → t ∈ r .tables → f t ≡ true) → every f (made .tables) ≡ true

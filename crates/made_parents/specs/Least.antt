@@ -14,7 +14,7 @@ use Rattle.lists.specs.Maps.{map-at}
 use Rattle.lists.specs.Below.{by-places}
 use Rattle.theorems.specs.Accepted.{parent-below}
 use Rattle.theorems.specs.Ancestors.{no-later}
-use Rattle.made_parents.specs.Chains.{ancestor-cases, ancestor-through}
+use Rattle.theorems.specs.Ancestors.{ancestor-cases, ancestor-through}
 use Rattle.made_parents.specs.Made.{Related, made-above}
 use Rattle.made_parents.specs.Chosen.{withParent, chosen-alike, parent-chosen}
 use Rattle.made_parents.specs.Accepted.{made-parents-smaller}

@@ -1,5 +1,4 @@
 -- Request #107: what is proved of parents made from the graph of shared tables.
-pub mod Chains
 pub mod Made
 pub mod Chosen
 pub mod Accepted

@@ -1,48 +1,25 @@
 -- The parents that a graph makes: how the list of them reads, that each is smaller than its patient, and that members of one group are related by them.
 use mathlib.Core.Path.{_≡_, refl, sym, ap, _∙_}
 use mathlib.Core.Logic.{inl, inr}
-use mathlib.Core.Option.{Option·none-ne-some, Option·some-injective}
+use mathlib.Core.Option.{Option·none-ne-some}
 use native.Mathlib.Decide.{decLt, ℕ-discrete}
 use native.Mathlib.Omega.{arith}
-use Prim.Native.Nat.{_≤_}
-use borrow.Author.Tests.{lt-ltb, ltb-true}
 use lib.ListN.{length-append, List·getD-append, List·getD-eq-default}
 use lib.Seq.{getD-append-seam}
-use Rattle.definitions.specs.Basics.{ℕ, zero, suc, _<_, true, none, some, List, [], _∷_, _++_, length, getD, ltb, every, everyTwo, numbersFrom, below}
+use Rattle.definitions.specs.Basics.{ℕ, zero, suc, _<_, true, none, some, List, [], _∷_, _++_, length, getD, ltb, everyTwo, below}
 use Rattle.definitions.specs.Syntax.{Region, patientAt}
 use Rattle.definitions.specs.Questions.{parentsSmaller, ancestors}
 use Rattle.definitions.specs.Parents.{earlierNeighbours, last, parentsFrom}
 use Rattle.lists.specs.Tests.{both, join}
-use Rattle.lists.specs.Members.{_∈_, here, there, here-or-there, none-in-nil}
-use Rattle.lists.specs.Every.{every-in, every-all, any-in, any-out, contains-in, contains-out}
+use Rattle.lists.specs.Members.{_∈_, here, there, here-or-there}
+use Rattle.lists.specs.Every.{any-in, any-out, contains-in, contains-out}
 use Rattle.lists.specs.Keep.{keep-in, keep-out, everyTwo-keep}
-use Rattle.lists.specs.Below.{numbers-enumerate, below-in, below-out}
-use Rattle.made_parents.specs.Chains.{parent-in, above-parent, ancestors-chain}
-
--- ---- the last of a list
-
--- It is in the list, and none of a rising list is above it.
-last-in : (l : List ℕ) {p : ℕ} → last l ≡ some p → p ∈ l
-last-in [] {p} e = absurd (Option·none-ne-some p e)
-last-in (q ∷ []) {p} e = here (sym (Option·some-injective q p e))
-last-in (q ∷ x ∷ l) e = there (last-in (x ∷ l) e)
-
-last-most : (l : List ℕ) → everyTwo ltb l ≡ true → {a : ℕ} → a ∈ l → (p : ℕ) × (last l ≡ some p) × (a ≤ p)
-last-most [] up k = absurd (none-in-nil k)
-last-most (q ∷ []) up k = (q, refl, elim (here-or-there k) [ inl e ↦ omega arith | inr t ↦ absurd (none-in-nil t) ])
-last-most (q ∷ x ∷ l) up {a} k = elim (here-or-there k) [
-  | inl e ↦ (let (p, is, most) = last-most (x ∷ l) (both (every (ltb q) (x ∷ l)) up .1) (here refl) in (p, is, omega (arith, first)))
-  | inr t ↦ last-most (x ∷ l) (both (every (ltb q) (x ∷ l)) up .1) t
-]
-  where
-    first : q < x
-    first = ltb-true q x (every-in (ltb q) (x ∷ l) (both (every (ltb q) (x ∷ l)) up .0) (here refl))
+use Rattle.lists.specs.Below.{below-in, below-out}
+use Rattle.lists.specs.Rising.{numbers-rise}
+use Rattle.lists.specs.Last.{last-in, last-most}
+use Rattle.theorems.specs.Ancestors.{parent-in, above-parent, ancestors-chain}
 
 -- ---- earlier neighbours
-
-numbers-rise : (a n : ℕ) → everyTwo ltb (numbersFrom a n) ≡ true
-numbers-rise a zero = refl
-numbers-rise a (suc n) = join (every-all (ltb a) (numbersFrom (suc a) n) (λ q k. lt-ltb a q (numbers-enumerate (suc a) n .only q k .0))) (numbers-rise (suc a) n)
 
 module _ (groups : List (List ℕ)) (s : ℕ) where
   earlier-rise : everyTwo ltb (earlierNeighbours groups s) ≡ true

@@ -1,14 +1,13 @@
 -- What parents gives back, by the answers to questions 1 to 9 and to 15.
-use mathlib.Core.Path.{_≡_, refl, sym, ap, _∙_}
+use mathlib.Core.Path.{_≡_, sym, ap, _∙_}
 use Prim.Native.Nat.{_≤_}
-use native.Mathlib.Omega.{arith}
 use borrow.Author.Tests.{le-leb, lt-leb}
-use Rattle.definitions.specs.Basics.{ℕ, _<_, _-_, true, false, List, [], _∷_, length}
+use Rattle.definitions.specs.Basics.{ℕ, _<_, _-_, false, List, [], _∷_, length}
 use Rattle.definitions.specs.Spelling.{spell}
 use Rattle.definitions.specs.Questions.{firstNo, entryAsks}
 use Rattle.definitions.specs.Writer.{roomForFile, WriteOutcome}
 use Rattle.definitions.specs.Parents.{parentsMade, withParents, parentsFile, askedToMake, askedByParents, parentsOutcome}
-use Rattle.definitions.specs.Boundary.{roomForNumbers, resultAfter, WriteCall, parentsCall}
+use Rattle.definitions.specs.Boundary.{resultAfter, WriteCall, parentsCall}
 use Rattle.theorems.specs.Answers.{says, no-then}
 use Rattle.theorems.specs.Accepted.{Accepted}
 use Rattle.made_parents.specs.Accepted.{PassesNine, asked-nine, made-accepted}
@@ -25,7 +24,7 @@ use Rattle.byte_areas.specs.Results.{result-short}
 use Rattle.reader.specs.declared.Loaded.{Loaded}
 use Rattle.reader.specs.Loading.{LoadedFrom, checks-nine}
 use Rattle.writer.specs.Outcomes.{placing, then-placed, refused-with}
-use Rattle.writer.specs.Calls.{nothingWritten, calledOutcome, with-room, without-room, called}
+use Rattle.writer.specs.Calls.{calledOutcome, with-room, without-room, called}
 
 -- ---- a file that passes questions 1 to 9, but for parents
 

@@ -37,8 +37,8 @@ fn number_without_room(file: &[u8]) -> u64
     ensures { λ n. ⌜ n ≡ orTwelve (firstNo (askedToMake (now (file .entry)))) ⌝ }
 {
     let mut store = [FORBIDDEN; 4096];
-    let read = load(file, &mut store, false);
-    let answer = read.answer;
+    let asked = load(file, &mut store, false);
+    let answer = asked.answer;
     or_twelve(checked_number(answer))
 }
 

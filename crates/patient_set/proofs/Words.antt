@@ -17,6 +17,7 @@ use Rattle.definitions.specs.Basics.{isEmpty, keep, numbersFrom, below}
 use Rattle.definitions.specs.Parents.{last}
 use Rattle.lists.specs.Keep.{keep-append}
 use Rattle.lists.specs.Below.{below-next}
+use Rattle.lists.specs.Last.{last-is, last-none}
 use Rattle.patient_set.specs.Sets.{inSet, members, first}
 use Rattle.patient_set.specs.Laws.{bit, last-bit, half-at, half-lt, outside, members-below, empty-word}
 
@@ -152,12 +153,6 @@ pub lowest-is : (w : ℕ) → trailingZeros 32 w ≡ first 32 (members w)
 unfolding members
 lowest-is w = ap (λ x. trailingZeros 32 x) (sym (div-one w)) ∙ sym (add-zero (trailingZeros 32 (w / 1))) ∙ zeros-from w 0 32
 
--- The last of a list that ends so.
-last-is : (l : List ℕ) (x : ℕ) → last (l ++ x ∷ []) ≡ some x
-last-is [] x = refl
-last-is (y ∷ []) x = refl
-last-is (y ∷ z ∷ l) x = last-is (z ∷ l) x
-
 -- Where 2 ^ j is the highest one of a word, j is the highest patient.
 top-last : (w j : ℕ) → j < 32 → 2 ^ j ≤ w → w < 2 ^ suc j → last (members w) ≡ some j
 top-last w j h low high =
@@ -184,11 +179,7 @@ highest-is w h filled =
 
 -- No patient has no highest.
 pub highest-none : (w : ℕ) → isEmpty (members w) ≡ true → 32 ≡ Option·getD (last (members w)) 32
-highest-none w empty = go (members w) empty
-  where
-    go : (l : List ℕ) → isEmpty l ≡ true → 32 ≡ Option·getD (last l) 32
-    go [] e = refl
-    go (x ∷ l) e = absurd (false≢true e)
+highest-none w empty = sym (ap (λ o. Option·getD o 32) (last-none (members w) empty))
 
 pub size-is : (w : ℕ) → w < 2 ^ 32 → ones w ≡ length (members w)
 unfolding members

@@ -2,7 +2,7 @@
 use mathlib.Core.Path.{ap, _∙_}
 use mathlib.Core.Bool.{and-true}
 use Rattle.definitions.specs.Basics.{ℕ, Bool, true, false, _≡_, List, _++_, length}
-use Rattle.definitions.specs.Questions.{Asked, patientsWithin, parentsSmaller, firstNo, regionOf, askedOfFile, askedToNine, askedByCheck, checkOf}
+use Rattle.definitions.specs.Questions.{Asked, patientsWithin, firstNo, regionOf, askedOfFile, askedToNine, askedByCheck, checkOf}
 use Rattle.definitions.specs.Parents.{askedToMake}
 use Rattle.held_region.specs.declared.Region.{Region}
 use Rattle.held_region.specs.declared.Refusal.{Refusal}

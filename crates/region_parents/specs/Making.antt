@@ -16,7 +16,7 @@ use Rattle.patient_set.specs.Sets.{inSet, members}
 use Rattle.patient_set.specs.Laws.{member}
 use Rattle.held_region.specs.declared.Patient.{Patient}
 use Rattle.held_region.specs.declared.Region.{Region}
-use Rattle.held_region.specs.Meaning.{noPatient, patientOf, patientIn, tableSaid, said}
+use Rattle.held_region.specs.Meaning.{noPatient, patientOf, patientIn, said}
 use Rattle.held_region.specs.Asked.{patients-said, patient-said, tables-said}
 use Rattle.held_region.specs.Related.{setIn}
 use Rattle.made_parents.specs.Chosen.{withParent}

@@ -8,8 +8,8 @@ use native.Mathlib.Omega.{arith}
 use lib.ListN.{set, replicate, getD-replicate}
 use lib.Seq.{getD-set-same, getD-set-other}
 use borrow.Author.Tests.{le-ltb, lt-ltb, eq-eqb, ne-eqb}
-use Rattle.definitions.specs.Basics.{ℕ, _+_, _-_, _<_, _^_, Bool, true, false, _&&_, _||_, none, some, Option·getD, List, [], _∷_, map, length, getD, eqb, ltb, isEmpty, below, any, keep, contains}
-use Rattle.definitions.specs.Parents.{sharedTables, earlierNeighbours, last}
+use Rattle.definitions.specs.Basics.{ℕ, _+_, _-_, _<_, _^_, Bool, true, false, _&&_, _||_, List, [], _∷_, map, length, getD, ltb, isEmpty, below, any, contains}
+use Rattle.definitions.specs.Parents.{sharedTables, earlierNeighbours}
 use Rattle.lists.specs.Below.{same-keep}
 use Rattle.lists.specs.Loops.{placesFrom, places-all, places-next, places-done}
 use Rattle.patient_set.specs.declared.PatientSet.{PatientSet}
@@ -115,20 +115,3 @@ walked-all before near w rest so-far done wide = record { wide = wide; are = λ 
     none : (l : List ℕ) (s : ℕ) → isEmpty l ≡ true → contains l s ≡ false
     none [] s e = refl
     none (x ∷ l) s e = absurd (false≢true e)
-
--- ---- the parent: the last of nobody, and of some
-
-pub last-none : (w : ℕ) → isEmpty (members w) ≡ true → none ≡ last (members w)
-last-none w empty = go (members w) empty
-  where
-    go : (l : List ℕ) → isEmpty l ≡ true → none ≡ last l
-    go [] e = refl
-    go (x ∷ l) e = absurd (false≢true e)
-
-pub last-some : (w p : ℕ) → isEmpty (members w) ≡ false → p ≡ Option·getD (last (members w)) 32 → some p ≡ last (members w)
-last-some w p filled is = go (members w) filled is
-  where
-    go : (l : List ℕ) → isEmpty l ≡ false → p ≡ Option·getD (last l) 32 → some p ≡ last l
-    go [] e is = absurd (false≢true (sym e))
-    go (x ∷ []) e is = ap some is
-    go (x ∷ y ∷ l) e is = go (y ∷ l) refl is

@@ -47,6 +47,11 @@ pub record AcceptedFile (file : List ℕ) : Type 0 where
   pub summed : sumTrue file (regionOf file) ≡ true
   pub region : Accepted (regionOf file)
 
+-- What question 3 says.
+pub counts-true : (r : Region) → countsTrue r ≡ true → (length (r .patients) ≡ r .patientCount) × (length (r .tables) ≡ r .tableCount)
+unfolding countsTrue
+counts-true r counted = let (v, t) = both (eqb (length (r .patients)) (r .patientCount)) counted in (eqb-true _ _ v, eqb-true _ _ t)
+
 -- Questions 5 to 10 of a region whose counts are true are answered yes: it is accepted.
 pub asked-accepted : (r : Region) → countsTrue r ≡ true → allYes (askedOfRegion r) ≡ true → Accepted r
 asked-accepted r counted all =
@@ -148,12 +153,10 @@ parent-below r smaller s p e = elim (decLt s (length (r .patients))) [
 module _ (r : Region) (a : Accepted r) where
   -- There are as many patients and tables as the first line says.
   pub patients-counted : length (r .patients) ≡ r .patientCount
-  unfolding countsTrue
-  patients-counted = eqb-true _ _ (both (eqb (length (r .patients)) (r .patientCount)) (a .counted) .0)
+  patients-counted = counts-true r (a .counted) .0
 
   pub tables-counted : length (r .tables) ≡ r .tableCount
-  unfolding countsTrue
-  tables-counted = eqb-true _ _ (both (eqb (length (r .patients)) (r .patientCount)) (a .counted) .1)
+  tables-counted = counts-true r (a .counted) .1
 
   pub counts-within : (within patientCount (r .patientCount) ≡ true) × (within tableCount (r .tableCount) ≡ true) × (within plansWanted (r .plansWanted) ≡ true)
   unfolding countsWithin

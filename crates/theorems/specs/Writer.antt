@@ -7,7 +7,7 @@ use lib.ListN.{drop}
 use lib.Seq.{sets-eq}
 use borrow.Author.Tests.{lt-ltb, ltb-true, le-leb, leb-true, eqb-true, eq-eqb}
 use Rattle.definitions.specs.Basics.{ℕ, suc, _+_, _<_, Bool, true, _&&_, not, Option, none, some, noneOr, List, [], _∷_, _++_, length, take}
-use Rattle.definitions.specs.Basics.{leb, eqb, every, isEmpty, isSome, sets}
+use Rattle.definitions.specs.Basics.{leb, every, isEmpty, isSome, sets}
 use Rattle.definitions.specs.Limits.{Field, patientCount, tableCount, plansWanted, clinic, bedCount, entry, limits, within}
 use Rattle.definitions.specs.Syntax.{Patient, Table, Region}
 use Rattle.definitions.specs.Layout.{layout}
@@ -23,7 +23,7 @@ use Rattle.theorems.specs.Answers.{allYes, Says, says, no-no}
 use Rattle.theorems.specs.Refusals.{ResultZeroed, result-zeroed}
 use Rattle.theorems.specs.Refused.{Refused}
 use Rattle.theorems.specs.Cuts.{cut-refused}
-use Rattle.theorems.specs.Accepted.{Accepted, asked-accepted, accepted-asked, accepted, at-most, patient-right, counts-within, patients-few, parent-known, entries-some, table-right, region-said}
+use Rattle.theorems.specs.Accepted.{Accepted, counts-true, asked-accepted, accepted-asked, accepted, at-most, patient-right, counts-within, patients-few, parent-known, entries-some, table-right, region-said}
 use Rattle.theorems.specs.Spelling.{layout-spelling, laid-out-spelt, body-spelt}
 use Rattle.theorems.specs.Lengths.{mostWritten, spelling-most}
 
@@ -44,10 +44,10 @@ held-sum r = refl
 
 -- A region with true counts and its true sum is as it is held.
 pub as-held : (r : Region) → countsTrue r ≡ true → r .statedSum ≡ checksum (spellBody r) → asHeld r ≡ r
-unfolding countsTrue asHeld regionFrom spellBody
+unfolding asHeld regionFrom spellBody
 as-held r counted summed =
-    let (v, t) = both (eqb (length (r .patients)) (r .patientCount)) counted in
-    ap₂ (λ p q. from p q (checksum (spellBody (from p q 0)))) (eqb-true (length (r .patients)) (r .patientCount) v) (eqb-true (length (r .tables)) (r .tableCount) t)
+    let (v, t) = counts-true r counted in
+    ap₂ (λ p q. from p q (checksum (spellBody (from p q 0)))) v t
     ∙ ap (from (r .patientCount) (r .tableCount)) (sym summed)
   where
     from : ℕ → ℕ → ℕ → Region
