@@ -9,7 +9,7 @@ use Rattle.definitions.specs.Syntax.{Patient, Region}
 use Rattle.definitions.specs.Spelling.{decimal, spell}
 use Rattle.definitions.specs.Plans.{Plan, bedOf, total, listOf}
 use Rattle.definitions.specs.Sheets.{sheetOf}
-use Rattle.definitions.specs.Questions.{parentsSmaller, ancestors, membersRelated, clinicPresent, roomForRows, workSize, areasLongEnough, planAllowed, planFits, regionOf}
+use Rattle.definitions.specs.Questions.{ancestors, clinicPresent, roomForRows, workSize, areasLongEnough, planAllowed, planFits, regionOf}
 use Rattle.definitions.specs.Questions.{Asked, firstNo, askedByCheck, checkOf, entryAsks, callAsks, askedByList, askedBySheet, askedByPrice}
 use Rattle.definitions.specs.Outcomes.{unlessRefused, listFound, sheetFound, outcomeOf, listOutcome, sheetOutcome, priced, priceFound, priceOutcome}
 use Rattle.definitions.specs.Output.{printedRows, clinicsPresent, printedAnswer, printed}
@@ -27,7 +27,7 @@ use Rattle.theorems.specs.Lengths.{mostWritten}
 use Rattle.theorems.specs.Writer.{written-short, written-region, written-accepted, read-held, Wrote, Unwritten, made-wrote, made-refused}
 use Rattle.made_parents.specs.Chosen.{Alike, chosen-held, chosen-alike}
 use Rattle.made_parents.specs.Accepted.{PassesNine, asked-nine, made-accepted}
-use Rattle.made_parents.specs.Least.{parents-least, parents-choice}
+use Rattle.made_parents.specs.Least.{Passing, Within, parents-least, only-parents, parents-choice}
 use Rattle.made_parents.specs.Same.{alike-total, alike-list, alike-patients, alike-sheet, alike-present, alike-allowed, alike-made, parents-list, parents-sheet, parents-total}
 
 -- ---- the file with made parents
@@ -37,9 +37,10 @@ pub record MadeFile (file : List ℕ) : Type 0 where
   pub says : regionOf (parentsFile file) ≡ withParents (regionOf file) (parentsMade (regionOf file))
   pub checked : checkOf (parentsFile file) ≡ 0
   pub short : length (parentsFile file) ≤ mostWritten
-  -- Least: every choice of parents for the same patient numbers that passes 6 and 10 has at least these ancestors.
-  pub least : (choice : List (Option ℕ)) → parentsSmaller (withParents (regionOf file) choice) ≡ true → membersRelated (withParents (regionOf file) choice) ≡ true
-      → (s a : ℕ) → a ∈ ancestors (regionOf (parentsFile file)) s → a ∈ ancestors (withParents (regionOf file) choice) s
+  -- Every choice of parents for the same patient numbers that passes 6 and 10 has, for each patient, at least these ancestors; no other choice has so few.
+  pub least : (choice : List (Option ℕ)) → Passing (regionOf file) choice → (s a : ℕ) → a ∈ ancestors (regionOf (parentsFile file)) s → a ∈ ancestors (withParents (regionOf file) choice) s
+  pub only : (choice : List (Option ℕ)) → Passing (regionOf file) choice → ((other : List (Option ℕ)) → Passing (regionOf file) other → Within (regionOf file) choice other)
+      → withParents (regionOf file) choice ≡ regionOf (parentsFile file)
   -- The list, each sheet and each price are those of the file read.
   pub rows : listOf (regionOf (parentsFile file)) ≡ listOf (regionOf file)
   pub sheets : (c : ℕ) → sheetOf (regionOf (parentsFile file)) c ≡ sheetOf (regionOf file) c
@@ -72,7 +73,8 @@ module _ (file : List ℕ) (n : PassesNine (regionOf file)) where
     says = file-says;
     checked = ap checkOf written ∙ written-accepted made held;
     short = subst (λ f. length f ≤ mostWritten) (sym written) (written-short made held);
-    least = λ choice smaller related s a k. parents-least r choice smaller related s a (subst (λ x. a ∈ ancestors x s) file-says k);
+    least = λ choice passing s a k. parents-least r choice passing s a (subst (λ x. a ∈ ancestors x s) file-says k);
+    only = λ choice passing fewest. only-parents r n choice passing fewest ∙ sym file-says;
     rows = ap listOf file-says ∙ parents-list r (parentsMade r);
     sheets = λ c. ap (λ x. sheetOf x c) file-says ∙ parents-sheet r (parentsMade r) c;
     prices = λ plan. ap (λ x. total x plan) file-says ∙ parents-total r (parentsMade r) plan;
@@ -161,7 +163,7 @@ module _ (file : List ℕ) (fine : checkOf file ≡ 0) where
       let region = accepted file fine .region in
       let own = parents-choice (regionOf file) ∙ read-held file fine in
       subst (λ x. a ∈ ancestors x s) own (made-file file accepted-nine .least (map (λ (p : Patient). p .parent) (regionOf file .patients))
-      (rw own (region .parentsFit)) (rw own (region .related)) s a k)
+      (record { smaller = rw own (region .parentsFit); related = rw own (region .related) }) s a k)
 
 -- ---- what is answered of two files whose regions differ only in parents
 

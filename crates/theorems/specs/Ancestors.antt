@@ -105,3 +105,23 @@ module _ (r : Region) (smaller : parentsSmaller r ≡ true) where
   -- Of two ancestors the smaller is an ancestor of the larger.
   pub ancestors-chain : (s b : ℕ) {a : ℕ} → a ∈ ancestors r s → b ∈ ancestors r s → a < b → a ∈ ancestors r b
   ancestors-chain s b i k l = chain-below (suc s) s b (omega arith) i k l
+
+-- The parent is the highest ancestor, so regions with the same ancestors have the same parents.
+pub same-parents : (r s : Region) → parentsSmaller r ≡ true → parentsSmaller s ≡ true → ((q a : ℕ) → a ∈ ancestors r q → a ∈ ancestors s q)
+    → ((q a : ℕ) → a ∈ ancestors s q → a ∈ ancestors r q) → (q : ℕ) → patientAt r q .parent ≡ patientAt s q .parent
+same-parents r s smaller-r smaller-s there-too back q = go (patientAt r q .parent) (patientAt s q .parent) refl refl
+  where
+    highest : (t : Region) → parentsSmaller t ≡ true → (p a : ℕ) → patientAt t q .parent ≡ some p → a ∈ ancestors t q → a ≤ p
+    highest t smaller p a e k = elim (here-or-there (subst (λ (l : List ℕ). a ∈ l) (ancestors-next t smaller q p e) k)) [
+      | inl same ↦ omega arith
+      | inr above ↦ omega (arith, ancestor-smaller t smaller p above)
+    ]
+
+    go : (m n : Option ℕ) → patientAt r q .parent ≡ m → patientAt s q .parent ≡ n → m ≡ n
+    go none none e f = refl
+    go none (some p) e f = absurd (none-in-nil (subst (λ (l : List ℕ). p ∈ l) (ancestors-root r smaller-r q e) (back q p (parent-in s smaller-s q p f))))
+    go (some p) none e f = absurd (none-in-nil (subst (λ (l : List ℕ). p ∈ l) (ancestors-root s smaller-s q f) (there-too q p (parent-in r smaller-r q p e))))
+    go (some p) (some o) e f =
+        let low = highest s smaller-s o p f (there-too q p (parent-in r smaller-r q p e)) in
+        let high = highest r smaller-r p o e (back q o (parent-in s smaller-s q o f)) in
+        ap some (omega arith)
