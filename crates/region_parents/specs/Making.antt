@@ -27,6 +27,7 @@ use Rattle.region_parents.specs.Neighbours.{Near, Gathered, tablesHeld, 
 abbrev pub parentHeld : Region → ℕ → Option ℕ
 parentHeld h q = getD (parentsFrom (tablesHeld h) (h .v)) q none
 
+-- The patient at a place is the held one with that parent; so is each.
 abbrev madeAt : Region → List Patient → ℕ → Type 0
 madeAt h patients q = patientOf (getD patients q noPatient) ≡ withParent (patientOf (patientIn h q)) (parentHeld h q)
 
