@@ -1,8 +1,6 @@
--- The number and values of every case of every enum answer.
+-- The number and values of every case of every enum answer about a file. (Those of entries that write one stand in `file_answers`.)
 use Rattle.definitions.specs.Basics.{ℕ, true, false, List}
 use Rattle.definitions.specs.Outcomes.{ListOutcome, PriceOutcome}
-use Rattle.definitions.specs.Writer.{WriteOutcome}
-use Rattle.definitions.specs.Joining.{WhichFile, neitherFile, firstFile, secondFile, JoinOutcome}
 use Rattle.held_region.specs.declared.Refusal.{Refusal}
 use Rattle.held_region.specs.declared.Judged.{Judged}
 use Rattle.held_region.specs.Refusals.{questionOf, numberOf}
@@ -15,12 +13,6 @@ use Rattle.answers.specs.declared.Sheeted.the-variants.{Absent}
 use Rattle.answers.specs.declared.PriceValues.{PriceValues}
 use Rattle.answers.specs.declared.Priced.{Priced}
 use Rattle.answers.specs.declared.Priced.the-variants.{Refused, Misfit, Forbidden, Allowed}
-use Rattle.answers.specs.declared.Written.{Written}
-use Rattle.answers.specs.declared.Written.the-variants as Writes
-use Rattle.answers.specs.declared.Written.the-variants.{Bytes}
-use Rattle.answers.specs.declared.Joined.{Joined}
-use Rattle.answers.specs.declared.Joined.the-variants as Joins
-use Rattle.answers.specs.declared.Joined.the-variants.{RefusedFirst, RefusedSecond, Shared, TooMany}
 
 -- A refusal, by the question answered no.
 abbrev pub refusalNumber : Refusal → ℕ
@@ -76,45 +68,3 @@ pricedOutcome (Allowed t) = record { number = 0; allowed = true; total = t }
 
 abbrev pub valuesOf : PriceValues → PriceOutcome
 valuesOf values = record { number = values .number; allowed = values .allowed; total = values .total }
-
--- Write's answer: the number and the byte count, beside the output area as it is afterwards.
-abbrev pub writtenNumber : Written → ℕ
-writtenNumber (Writes.Refused refusal) = refusalNumber refusal
-writtenNumber Writes.Short = 15
-writtenNumber (Bytes n) = 0
-
-abbrev pub writtenCount : Written → ℕ
-writtenCount (Writes.Refused refusal) = 0
-writtenCount Writes.Short = 0
-writtenCount (Bytes n) = n
-
-abbrev pub writtenOutcome : Written → List ℕ → WriteOutcome
-writtenOutcome answer output = record { number = writtenNumber answer; count = writtenCount answer; output = output }
-
--- Join's answer: the number, which file it is about, and the byte count, beside the output area as it is afterwards.
-abbrev pub joinedNumber : Joined → ℕ
-joinedNumber (RefusedFirst refusal) = refusalNumber refusal
-joinedNumber (RefusedSecond refusal) = refusalNumber refusal
-joinedNumber Shared = 16
-joinedNumber TooMany = 17
-joinedNumber Joins.Short = 15
-joinedNumber (Joins.Bytes n) = 0
-
-abbrev pub joinedWhich : Joined → WhichFile
-joinedWhich (RefusedFirst refusal) = firstFile
-joinedWhich (RefusedSecond refusal) = secondFile
-joinedWhich Shared = neitherFile
-joinedWhich TooMany = neitherFile
-joinedWhich Joins.Short = neitherFile
-joinedWhich (Joins.Bytes n) = neitherFile
-
-abbrev pub joinedCount : Joined → ℕ
-joinedCount (RefusedFirst refusal) = 0
-joinedCount (RefusedSecond refusal) = 0
-joinedCount Shared = 0
-joinedCount TooMany = 0
-joinedCount Joins.Short = 0
-joinedCount (Joins.Bytes n) = n
-
-abbrev pub joinedOutcome : Joined → List ℕ → JoinOutcome
-joinedOutcome answer output = record { number = joinedNumber answer; which = joinedWhich answer; count = joinedCount answer; output = output }

@@ -15,9 +15,10 @@ use Rattle.theorems.specs.Answers.{no-then}
 use Rattle.theorems.specs.Refusals.{after-check, refused-before}
 use Rattle.theorems.specs.Writer.{made-with}
 use Rattle.held_region.specs.declared.Refusal.{Refusal}
-use Rattle.answers.specs.declared.Joined.the-variants as Joins
-use Rattle.answers.specs.declared.Joined.the-variants.{RefusedFirst, RefusedSecond, Shared, TooMany}
-use Rattle.answers.specs.Answers.{refusalNumber, joinedOutcome}
+use Rattle.file_answers.specs.declared.Joined.the-variants as Joins
+use Rattle.file_answers.specs.declared.Joined.the-variants.{RefusedFirst, RefusedSecond, Shared, TooMany}
+use Rattle.answers.specs.Answers.{refusalNumber}
+use Rattle.file_answers.specs.Answers.{joinedOutcome}
 use Rattle.answers.specs.Numbers.{refusal-number}
 use Rattle.writer.specs.declared.Placed.{Placed}
 use Rattle.writer.specs.Outcomes.{placedOutcome, placing, then-placed, refused-with}

@@ -1,5 +1,5 @@
 // Join: two region files put together into one.
-use answers::Joined;
+use file_answers::Joined;
 use held_region::FORBIDDEN;
 use held_region::Judged;
 use held_region::Region;
@@ -14,7 +14,7 @@ ghost use lib.ListN.{length};
 ghost use Rattle.definitions.specs.Joining.{joinOutcome};
 ghost use Rattle.theorems.specs.Accepted.{Accepted};
 ghost use Rattle.held_region.specs.Meaning.{said};
-ghost use Rattle.answers.specs.Answers.{joinedOutcome};
+ghost use Rattle.file_answers.specs.Answers.{joinedOutcome};
 ghost use Rattle.joiner.specs.Outcomes.{onceAccepted, onceBoth};
 
 // Questions 16, 17 and 15 of two accepted regions, then the joined file. The second's entries go into the first's store.

@@ -2,12 +2,12 @@
 ghost use mathlib.Core.Path.{_≡_};
 ghost use Rattle.definitions.specs.Boundary.{writeCall};
 ghost use Rattle.lent_writer.specs.Answered.{lentOutcome};
-use answers::WriteValues;
 use answers::checked_number;
-use answers::not_written;
 use answers::or_twelve;
-use answers::write_values;
 use byte_areas::store_count;
+use file_answers::WriteValues;
+use file_answers::not_written;
+use file_answers::write_values;
 use held_region::FORBIDDEN;
 use lent_region::areas_whole;
 use lent_region::region_lent;

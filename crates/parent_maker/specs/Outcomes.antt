@@ -16,8 +16,9 @@ use Rattle.held_region.specs.declared.Judged.the-variants.{Fine}
 use Rattle.held_region.specs.Meaning.{said}
 use Rattle.held_region.specs.Refusals.{numberOf}
 use Rattle.held_region.specs.Sound.{Sound, has-places}
-use Rattle.answers.specs.declared.Written.the-variants.{Refused}
-use Rattle.answers.specs.Answers.{refusalNumber, writtenOutcome}
+use Rattle.file_answers.specs.declared.Written.the-variants.{Refused}
+use Rattle.answers.specs.Answers.{refusalNumber}
+use Rattle.file_answers.specs.Answers.{writtenOutcome}
 use Rattle.answers.specs.Numbers.{refusal-number}
 use Rattle.answers.specs.Rooms.{orTwelve}
 use Rattle.byte_areas.specs.Results.{result-short}

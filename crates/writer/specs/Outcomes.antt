@@ -15,8 +15,9 @@ use Rattle.held_region.specs.declared.Refusal.{Refusal}
 use Rattle.held_region.specs.declared.Region.{Region}
 use Rattle.held_region.specs.Meaning.{said}
 use Rattle.held_region.specs.Refusals.{asked, lastAsked}
-use Rattle.answers.specs.declared.Written.the-variants.{Refused}
-use Rattle.answers.specs.Answers.{refusalNumber, writtenOutcome}
+use Rattle.file_answers.specs.declared.Written.the-variants.{Refused}
+use Rattle.answers.specs.Answers.{refusalNumber}
+use Rattle.file_answers.specs.Answers.{writtenOutcome}
 use Rattle.answers.specs.Numbers.{refusal-number}
 use Rattle.text_writer.specs.Wrote.{Room, Wrote, taken-back}
 use Rattle.held_region.specs.AsHeld.{said-held, file-said}

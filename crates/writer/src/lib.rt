@@ -1,5 +1,5 @@
 // The writer: a held region as its file.
-use answers::Written;
+use file_answers::Written;
 use held_region::Judged;
 use held_region::Region;
 use line_reader::checksum_of;
@@ -12,7 +12,7 @@ ghost use Rattle.definitions.specs.Spelling.{spell};
 ghost use Rattle.definitions.specs.Writer.{writeOutcome};
 ghost use Rattle.theorems.specs.Accepted.{Accepted};
 ghost use Rattle.held_region.specs.Meaning.{said};
-ghost use Rattle.answers.specs.Answers.{writtenOutcome};
+ghost use Rattle.file_answers.specs.Answers.{writtenOutcome};
 ghost use Rattle.text_writer.specs.Wrote.{Room, Wrote};
 ghost use Rattle.writer.specs.Outcomes.{placedOutcome, placing};
 
