@@ -89,7 +89,7 @@ pub fn length_near(needed: usize, random: &mut Random) -> usize {
     }
 }
 
-/// The areas that write and join write.
+/// The areas that write, join and parents write.
 #[derive(Clone, PartialEq)]
 pub struct Outputs {
     pub output: Area,

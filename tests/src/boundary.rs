@@ -73,6 +73,15 @@ extern "C" {
         result_length: usize,
     ) -> u64;
 
+    fn rigbasen_parents(
+        file: *const u8,
+        file_length: usize,
+        output: *mut u8,
+        output_length: usize,
+        result: *mut u8,
+        result_length: usize,
+    ) -> u64;
+
     /// Of the trial's archive: line's entry in Rattle, which hands back a part of the file. The trial passes it on to `pwrite`.
     fn rigbasen_trial_line(file: *const u8, file_length: usize, typed: *const u8, typed_length: usize) -> u64;
 }
@@ -191,6 +200,22 @@ pub fn join(first: &[u8], second: &[u8], areas: &mut Outputs) -> u64 {
             first.len(),
             second.as_ptr(),
             second.len(),
+            output.as_mut_ptr(),
+            output.len(),
+            result.as_mut_ptr(),
+            result.len(),
+        )
+    }
+}
+
+/// Parents' number; the result area has one number, the byte count.
+pub fn parents(file: &[u8], areas: &mut Outputs) -> u64 {
+    let (output, result) = (areas.output.lent(), areas.result.lent());
+    // Each pointer and length are those of one slice, and the slices do not overlap.
+    unsafe {
+        rigbasen_parents(
+            file.as_ptr(),
+            file.len(),
             output.as_mut_ptr(),
             output.len(),
             result.as_mut_ptr(),

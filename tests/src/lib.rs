@@ -10,6 +10,7 @@ pub mod generate;
 pub mod joining;
 pub mod lent;
 pub mod limits;
+pub mod made_parents;
 pub mod numbers;
 pub mod outcomes;
 pub mod plans;

@@ -3,7 +3,7 @@
 /// Every number that a call gives: 0, or the first question that is answered "no".
 pub const ALL: &[u64] = &[0, 1, 2, 3, 4, 5, 6, 7, 8, 9, 10, 11, 12, 13, 14, 15, 16, 17, 21];
 
-/// The questions that every call puts to the file.
+/// The questions that every call puts to a file, but that parents asks nothing of parents.
 pub const OF_FILES: &[u64] = &[1, 2, 3, 4, 5, 6, 7, 8, 9, 10];
 
 /// The questions that are put to a region, whether a file or a caller's areas say it.

@@ -16,6 +16,20 @@ type Question = fn(&Region) -> bool;
 
 /// The region of a file, or the number of the first question answered "no".
 pub fn read(file: &[u8]) -> Result<Region, u64> {
+    let region = summed(file)?;
+    judge(&region)?;
+    Ok(region)
+}
+
+/// The region of a file whose parents may be any that the layout allows; or the first "no" of questions 1 to 9.
+pub fn read_whatever_parents(file: &[u8]) -> Result<Region, u64> {
+    let region = summed(file)?;
+    judge_whatever_parents(&region)?;
+    Ok(region)
+}
+
+/// Questions 1 to 4, then what the lines say.
+fn summed(file: &[u8]) -> Result<Region, u64> {
     if file.len() > 65_535 {
         return Err(1);
     }
@@ -26,7 +40,6 @@ pub fn read(file: &[u8]) -> Result<Region, u64> {
     if lines.end != lines.true_sum {
         return Err(4);
     }
-    judge(&lines.region)?;
     Ok(lines.region)
 }
 
@@ -42,13 +55,25 @@ pub fn typed_members(typed: &[u8]) -> Option<Vec<u64>> {
 
 /// Questions 5 to 10 of a region, V and T being what it has; the number of the first answered "no".
 pub fn judge(region: &Region) -> Result<(), u64> {
-    let questions: [(u64, Question); 6] = [
+    judge_to_nine(region, |region| patients_in_limits(region) && parents_in_order(region))?;
+    match region.tables.iter().all(|table| on_one_path(region, &table.members)) {
+        true => Ok(()),
+        false => Err(10),
+    }
+}
+
+/// Questions 5 to 9, of 6 all but what it asks of parents.
+pub fn judge_whatever_parents(region: &Region) -> Result<(), u64> {
+    judge_to_nine(region, patients_in_limits)
+}
+
+fn judge_to_nine(region: &Region, question_6: Question) -> Result<(), u64> {
+    let questions: [(u64, Question); 5] = [
         (5, counts_in_limits),
-        (6, patients_in_limits),
+        (6, question_6),
         (7, |region| region.tables.iter().all(|table| members_in_order(&table.members, region.patients.len() as u64))),
         (8, entries_counted),
         (9, |region| region.tables.iter().all(|table| table.entries.iter().flatten().all(|e| *e <= HIGHEST_ENTRY))),
-        (10, |region| region.tables.iter().all(|table| on_one_path(region, &table.members))),
     ];
     match questions.into_iter().find(|(_, answer)| !answer(region)) {
         Some((number, _)) => Err(number),
@@ -61,14 +86,16 @@ fn counts_in_limits(region: &Region) -> bool {
     (1..=32).contains(&region.patients.len()) && region.tables.len() <= 64 && (1..=64).contains(&region.m)
 }
 
-/// Question 6.
+/// Question 6 without parents.
 fn patients_in_limits(region: &Region) -> bool {
-    region.patients.iter().enumerate().all(|(number, patient)| {
-        patient.clinic <= 15
-            && (1..=16).contains(&patient.beds)
-            && patient.parent.is_none_or(|parent| parent < number as u64)
-            && patient.fixed.is_none_or(|bed| bed < patient.beds)
+    region.patients.iter().all(|patient| {
+        patient.clinic <= 15 && (1..=16).contains(&patient.beds) && patient.fixed.is_none_or(|bed| bed < patient.beds)
     })
+}
+
+/// What question 6 asks of parents.
+fn parents_in_order(region: &Region) -> bool {
+    (0..).zip(&region.patients).all(|(number, patient)| patient.parent.is_none_or(|parent| parent < number))
 }
 
 /// Question 7, of one table.

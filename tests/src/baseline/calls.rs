@@ -1,4 +1,5 @@
-//! The five calls of a file over the baseline reader and search; write is in `writer`, join in `joiner`.
+//! The five calls of a file over the baseline reader and search; write is in `writer`, join in `joiner`, parents in
+//! `parent_maker`.
 
 use crate::areas::Areas;
 use crate::baseline::held::{Held, Patient, Table, HYPHEN};

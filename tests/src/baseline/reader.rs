@@ -18,6 +18,17 @@ pub fn check(file: &[u8]) -> u64 {
 
 /// Reads a file into a blank region, or gives the number of the first question answered "no".
 pub fn read(file: &[u8], held: &mut Held) -> Result<(), u64> {
+    read_to_five(file, held)?;
+    questions_6_to_10(held)
+}
+
+/// The same of a file whose parents may be any that the layout allows: questions 1 to 9.
+pub fn read_whatever_parents(file: &[u8], held: &mut Held) -> Result<(), u64> {
+    read_to_five(file, held)?;
+    questions_6_to_9(held, |_, _| true)
+}
+
+fn read_to_five(file: &[u8], held: &mut Held) -> Result<(), u64> {
     if file.len() > 65_535 {
         return Err(1);
     }
@@ -37,7 +48,7 @@ pub fn read(file: &[u8], held: &mut Held) -> Result<(), u64> {
         return Err(5);
     }
     held.m = stated.m as usize;
-    questions_6_to_10(held)
+    Ok(())
 }
 
 /// Question 2. Also gives how many bytes the end line has.
@@ -138,10 +149,20 @@ fn entries(cursor: &mut Cursor, store: &mut [u32]) -> Option<usize> {
 }
 
 pub fn questions_6_to_10(held: &Held) -> Result<(), u64> {
+    questions_6_to_9(held, |number, patient| patient.parent == HYPHEN || (patient.parent as usize) < number)?;
+    if !on_one_path(held) {
+        return Err(10);
+    }
+    Ok(())
+}
+
+/// What question 6 asks of a parent is given.
+#[inline]
+fn questions_6_to_9(held: &Held, parent_fits: impl Fn(usize, &Patient) -> bool) -> Result<(), u64> {
     let patient_fits = |(number, patient): (usize, &Patient)| {
         patient.clinic <= 15
             && (1..=16).contains(&patient.beds)
-            && (patient.parent == HYPHEN || (patient.parent as usize) < number)
+            && parent_fits(number, patient)
             && (patient.fixed == HYPHEN || patient.fixed < patient.beds)
     };
     if !held.patients().iter().enumerate().all(patient_fits) {
@@ -162,9 +183,6 @@ pub fn questions_6_to_10(held: &Held) -> Result<(), u64> {
     }
     if held.store[..held.entry_count].iter().any(|entry| *entry > 1_000_000 && *entry != HYPHEN) {
         return Err(9);
-    }
-    if !on_one_path(held) {
-        return Err(10);
     }
     Ok(())
 }

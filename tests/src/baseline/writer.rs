@@ -10,22 +10,26 @@ const MOST_BYTES: usize = 35_038;
 
 /// Write: one result number, the byte count.
 pub fn write(lent: &Lent, areas: &mut Outputs) -> u64 {
-    let answer = written(lent, areas);
+    let mut held = Held::blank();
+    let judged = hold(lent, &mut held).and_then(|()| questions_6_to_10(&held));
+    answered(judged.and_then(|()| written(&held, areas)), areas)
+}
+
+/// Writes the byte count, or 0 on a refusal, and gives the number.
+pub fn answered(answer: Result<u64, u64>, areas: &mut Outputs) -> u64 {
     if let Some(count) = areas.result.lent().get_mut(..8) {
         count.copy_from_slice(&u64::to_le_bytes(answer.unwrap_or(0)));
     }
     answer.err().unwrap_or(0)
 }
 
-/// The byte count, the file being in the output area; or the first "no", the area being as it was.
-fn written(lent: &Lent, areas: &mut Outputs) -> Result<u64, u64> {
-    let mut held = Held::blank();
-    hold(lent, &mut held)?;
-    questions_6_to_10(&held)?;
+/// Questions 12 and 15 of a region that was judged. The byte count, the file being in the output area; or the first "no", the area
+/// being as it was.
+pub fn written(held: &Held, areas: &mut Outputs) -> Result<u64, u64> {
     if areas.result.contents().len() < 8 {
         return Err(12);
     }
-    let file = spelled(&held);
+    let file = spelled(held);
     areas.output.lent().get_mut(..file.len()).ok_or(15u64)?.copy_from_slice(&file);
     Ok(file.len() as u64)
 }

@@ -15,6 +15,7 @@ pub const BARE: Calls = Calls {
     sheet: Tested { name: "few, sheet", call: sheet },
     write: Tested { name: "few, write", call: write },
     join: Tested { name: "few, join", call: join },
+    parents: Tested { name: "few, parents", call: parents },
 };
 
 /// Its comparison lends such blocks itself.
@@ -74,6 +75,13 @@ fn write(lent: &Lent, areas: &mut Outputs) -> u64 {
 fn join(first: &[u8], second: &[u8], areas: &mut Outputs) -> u64 {
     let mut blocks = areas.bare();
     let number = lending(first, |first| lending(second, |second| boundary::join(first, second, &mut blocks)));
+    areas.take(&blocks);
+    number
+}
+
+fn parents(file: &[u8], areas: &mut Outputs) -> u64 {
+    let mut blocks = areas.bare();
+    let number = lending(file, |file| boundary::parents(file, &mut blocks));
     areas.take(&blocks);
     number
 }

@@ -1,12 +1,13 @@
-//! One file through the five calls of a file, and through join before and behind another. Cut, changed and damaged files: every call refuses what check refuses.
+//! One file through the five calls of a file, through parents, and through join before and behind another. Cut, changed and damaged
+//! files: every call refuses what check refuses, but that parents asks nothing of parents.
 
 use crate::areas::{Area, Areas, Lengths};
 use crate::compare::report::{Difference, Tally};
-use crate::compare::{check, join, line, list, paper, price, sheet, Calls};
+use crate::compare::{check, join, line, list, paper, parents, price, sheet, Calls};
 use crate::generate::{clinics, damage, small, spelling, typed};
 use crate::outcomes::Outcomes;
 use crate::random::Random;
-use crate::reader;
+use crate::{made_parents, reader};
 
 /// How many bytes are lent with a file that has no region.
 const SOME: Lengths = Lengths { beds: 40, costs: 64, result: 8 };
@@ -21,7 +22,7 @@ pub fn run(calls: Calls, seed: u64, count: usize) -> Result<Vec<Tally>, Differen
     ])
 }
 
-/// Check, list, sheet, price, line and join of one file, in every byte that they leave.
+/// Check, list, sheet, price, line, join and parents of one file, in every byte that they leave.
 pub fn compare(tally: &mut Tally, calls: Calls, file: &[u8], random: &mut Random) -> Result<Outcomes, Difference> {
     let outcomes = Outcomes::of(file);
     let region = outcomes.region();
@@ -38,12 +39,15 @@ pub fn compare(tally: &mut Tally, calls: Calls, file: &[u8], random: &mut Random
     let result = Area::patterned(random.pick(&[0, 15, 16, 16, 16, 17]), random.number());
     line::compare(tally, calls.line, (file, &outcomes.lines(file)), &typed::any(region, random), result)?;
     join::compare_with_partner(tally, calls.join, (file, region), random)?;
+    let given = parents::Given::of(file.to_vec());
+    parents::compare(tally, calls.parents, &given, given.near(random), None)?;
     Ok(outcomes)
 }
 
-/// A file that every call must refuse.
+/// A file that every call must refuse, parents by one of the questions that come before those of patients.
 fn compare_refused(tally: &mut Tally, calls: Calls, file: &[u8], random: &mut Random) -> Result<(), Difference> {
-    if compare(tally, calls, file, random)?.region().is_none() {
+    let accepted = compare(tally, calls, file, random)?.region().is_some();
+    if !accepted && made_parents::file(file).is_err_and(|number| number <= 4) {
         return Ok(());
     }
     let answers = vec![("all".to_string(), "accepted, though a good file was cut or changed".to_string())];

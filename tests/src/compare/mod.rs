@@ -9,6 +9,7 @@ pub mod large;
 pub mod line;
 pub mod list;
 pub mod paper;
+pub mod parents;
 pub mod part;
 pub mod price;
 pub mod printing;
@@ -42,11 +43,12 @@ pub type ListCall = fn(&[u8], &mut Areas) -> u64;
 pub type SheetCall = fn(&[u8], u64, &mut Areas) -> u64;
 pub type WriteCall = fn(&Lent, &mut Outputs) -> u64;
 pub type JoinCall = fn(&[u8], &[u8], &mut Outputs) -> u64;
+pub type ParentsCall = fn(&[u8], &mut Outputs) -> u64;
 
 /// Line's entry in Rattle: its number, and the part that it hands back.
 pub type PartCall = fn(&[u8], &[u8]) -> (u64, Option<Part>);
 
-/// The seven calls of one program.
+/// The eight calls of one program.
 #[derive(Clone, Copy)]
 pub struct Calls {
     pub name: &'static str,
@@ -57,6 +59,7 @@ pub struct Calls {
     pub sheet: Tested<SheetCall>,
     pub write: Tested<WriteCall>,
     pub join: Tested<JoinCall>,
+    pub parents: Tested<ParentsCall>,
 }
 
 pub const LIBRARY: Calls = Calls {
@@ -68,6 +71,7 @@ pub const LIBRARY: Calls = Calls {
     sheet: Tested { name: "sheet", call: boundary::sheet },
     write: Tested { name: "write", call: boundary::write },
     join: Tested { name: "join", call: boundary::join },
+    parents: Tested { name: "parents", call: boundary::parents },
 };
 
 /// What line's entry hands back to a caller in Rattle.
@@ -82,6 +86,7 @@ pub const BASELINE: Calls = Calls {
     sheet: Tested { name: "baseline sheet", call: baseline::calls::sheet },
     write: Tested { name: "baseline write", call: baseline::writer::write },
     join: Tested { name: "baseline join", call: baseline::joiner::join },
+    parents: Tested { name: "baseline parents", call: baseline::parent_maker::parents },
 };
 
 /// Runs every comparison up to the first difference: the library's, each line printed as soon as it
@@ -121,7 +126,7 @@ fn run_beside(seed: u64, count: usize, printer: Option<&Path>) -> Result<Vec<Tal
     Ok(tallies)
 }
 
-/// Every comparison of the seven calls of one program.
+/// Every comparison of the eight calls of one program.
 fn run_calls(calls: Calls, seed: u64, count: usize, done: fn(&Tally)) -> Result<Vec<Tally>, Difference> {
     let mut all = Vec::new();
     let mut add = |tallies: Vec<Tally>| {
@@ -139,10 +144,11 @@ fn run_calls(calls: Calls, seed: u64, count: usize, done: fn(&Tally)) -> Result<
     add(clinic_pairs::run(calls.sheet, seed, count)?);
     add(write::run(calls.write, seed, count)?);
     add(join::run(calls.join, seed, count)?);
+    add(parents::run(calls.parents, seed, count)?);
     Ok(all)
 }
 
-/// Some dozens of regions and files through all seven calls, for a run under a memory checker.
+/// Some dozens of regions and files through all eight calls, for a run under a memory checker.
 pub fn run_few(seed: u64) -> Result<(), Difference> {
     paper::run(BARE)?.print();
     print_all(check::run(BARE.check, seed, 20)?);
@@ -162,7 +168,8 @@ pub fn run_few(seed: u64) -> Result<(), Difference> {
     large::lists(BARE.list, seed, 4)?.print();
     large::sheets(BARE.sheet, seed, 2)?.print();
     run_few_writes(seed)?;
-    run_few_joins(seed)
+    run_few_joins(seed)?;
+    run_few_parents(seed)
 }
 
 /// Some of the comparisons of line; those of all changes of a typed text have thousands of cases.
@@ -202,6 +209,19 @@ fn run_few_joins(seed: u64) -> Result<(), Difference> {
     join::lists::small_pairs(BARE.join, seed, 12)?.print();
     join::lists::large_pairs(BARE.join, seed, 2)?.print();
     join::lists::sheets(BARE.join, seed, 6)?.print();
+    Ok(())
+}
+
+/// Some of the comparisons of parents; those of all lengths and all choices have thousands of cases.
+fn run_few_parents(seed: u64) -> Result<(), Difference> {
+    parents::by_hand::run(BARE.parents, seed, 1)?.print();
+    parents::written::good_files(BARE.parents, seed, 12)?.print();
+    parents::refusals::one_fault(BARE.parents, seed, 4)?.print();
+    parents::refusals::two_faults(BARE.parents, seed, 1)?.print();
+    parents::refusals::parents_alone(BARE.parents, seed, 2)?.print();
+    parents::refusals::parent_fields(BARE.parents, seed, 1)?.print();
+    parents::answers::accepted_files(BARE.parents, seed, 6)?.print();
+    parents::answers::refused_files(BARE.parents, seed, 12)?.print();
     Ok(())
 }
 

@@ -125,7 +125,7 @@ pub fn areas_text(areas: &Areas) -> String {
     format!("\n  beds   {}\n  costs  {}\n  result {}", area_text(beds), area_text(costs), area_text(result))
 }
 
-/// The areas of a write or join call, one to a line.
+/// The areas of a call that writes a file, one to a line.
 pub fn outputs_text(areas: &Outputs) -> String {
     format!("\n  output {}\n  result {}", area_text(&areas.output), area_text(&areas.result))
 }

@@ -4,8 +4,8 @@ use crate::files::describe::{chain, child, flat_table, paper, region, root, tabl
 use crate::files::mersenne::Mersenne;
 use crate::files::Made;
 use crate::generate::spelling::file_of;
-use crate::limits::HIGHEST_ENTRY;
-use crate::region::{Region, Table};
+use crate::limits::{HIGHEST_ENTRY, HIGHEST_NUMBER};
+use crate::region::{Patient, Region, Table};
 
 pub const DIRECTORY: &str = "examples";
 
@@ -23,6 +23,9 @@ pub fn made() -> Vec<Made> {
         ("north", north()),
         ("south", south()),
         ("north_and_south", north_and_south()),
+        ("wrong_parents", wrong_parents()),
+        ("parents_made", parents_made()),
+        ("chained", chained()),
     ];
     all.map(|(name, region)| Made { path: format!("{DIRECTORY}/{name}.region"), bytes: file_of(&region) }).into()
 }
@@ -135,4 +138,55 @@ fn north_and_south() -> Region {
         table(&[3, 4], "9 0 0 2 - 2"),
     ];
     region(4, patients, tables)
+}
+
+/// A later patient, the highest number, the patient itself, none, one whom no table joins, an earlier one of another clinic.
+fn wrong_parents() -> Region {
+    let patients = [
+        child(0, 2, 3),
+        child(0, 2, HIGHEST_NUMBER),
+        child(1, 2, 2),
+        root(0, 2),
+        child(1, 3, 1).staying_in(2),
+        child(0, 2, 4),
+    ];
+    region(4, patients, tables_for_parents())
+}
+
+/// The same with its parents made, by hand: nothing here makes them.
+fn parents_made() -> Region {
+    let patients =
+        [root(0, 2), child(0, 2, 0), root(1, 2), child(0, 2, 1), child(1, 3, 2).staying_in(2), child(0, 2, 1)];
+    region(4, patients, tables_for_parents())
+}
+
+fn tables_for_parents() -> [Table; 5] {
+    [
+        table(&[0, 3], "0 1 2 -"),
+        table(&[1, 3], "1 0 - 3"),
+        table(&[1, 5], "0 4 1 0"),
+        table(&[2], "2 0"),
+        table(&[2, 4], "5 - 1 0 3 2"),
+    ]
+}
+
+/// Eight clinics of three patients with four beds, dealt in turn. No table joins two clinics, but the parents make one tree of all.
+fn chained() -> Region {
+    const CLINICS: u64 = 8;
+    const BEDS: u64 = 4;
+    let patients: Vec<Patient> = (0..3 * CLINICS).map(|n| Patient::of(n % CLINICS, BEDS, n.checked_sub(1))).collect();
+    let mut drawn = Mersenne::of(107);
+    let mut tables = Vec::new();
+    for clinic in 0..CLINICS {
+        let [one, two, three] = [0, 1, 2].map(|round| clinic + round * CLINICS);
+        for patient in [one, two, three] {
+            let entries = (0..BEDS).map(|_| Some(drawn.up_to(9).into())).collect();
+            tables.push(Table { members: vec![patient], entries });
+        }
+        for members in [[one, two], [one, three], [two, three]] {
+            let entries = (0..BEDS * BEDS).map(|place| (place % (BEDS + 1) != 0).then(|| drawn.up_to(9).into()));
+            tables.push(Table { members: members.to_vec(), entries: entries.collect() });
+        }
+    }
+    region(10, patients, tables)
 }

@@ -1,6 +1,7 @@
 //! Files whose first "no" is a known one of the questions 3 to 10, and files longer than question 1 allows.
 
 use crate::generate::full_size;
+use crate::generate::parents;
 use crate::generate::small;
 use crate::generate::spelling::{lines_of, sum_of, with_stated_end, Draft};
 use crate::limits::{HIGHEST_ENTRY, HIGHEST_NUMBER};
@@ -29,6 +30,23 @@ pub fn file_with_fault(question: u64, random: &mut Random) -> Vec<u8> {
 pub fn file_with_faults(one: u64, other: u64, random: &mut Random) -> Vec<u8> {
     let draft = with_faults(&[one, other], random);
     written(one == 4 || other == 4, &draft, random)
+}
+
+/// A file with faults of these questions, 3 to 9, and any parents: the smallest is its answer whether or not parents are asked for.
+/// A fault of question 6 is in another field.
+pub fn file_with_any_parents(questions: &[u64], random: &mut Random) -> Vec<u8> {
+    let others: Vec<u64> = questions.iter().copied().filter(|question| *question != 6).collect();
+    let mut draft = with_faults(&others, random);
+    let region = &mut draft.region;
+    if questions.contains(&6) && !region.patients.is_empty() {
+        let place = random.below(region.patients.len());
+        let kind = random.below(6);
+        out_of_limits(&mut region.patients[place], kind, random);
+    }
+    for (number, patient) in (0..).zip(&mut region.patients) {
+        patient.parent = parents::any_parent(number, random);
+    }
+    written(questions.contains(&4), &draft, random)
 }
 
 /// A region with faults of these questions, as far as they are 5 to 10; the smallest is its answer.
@@ -145,13 +163,20 @@ fn wrong_patient(region: &mut Region, random: &mut Random) {
     let number = random.below(region.patients.len());
     let patient = &mut region.patients[number];
     match random.below(8) {
+        6 => patient.parent = Some(number as u64),
+        7 => patient.parent = Some(number as u64 + random.pick(&[1, 2, 32, 256, HIGHEST_NUMBER - 999])),
+        kind => out_of_limits(patient, kind, random),
+    }
+}
+
+/// Question 6, by a field other than the parent, in one of six ways.
+fn out_of_limits(patient: &mut Patient, kind: usize, random: &mut Random) {
+    match kind {
         0 => patient.clinic = random.pick(&[16, 17, 32, 256, HIGHEST_NUMBER]),
         1 => patient.beds = 0,
         2 => patient.beds = random.pick(&[17, 18, 256, HIGHEST_NUMBER]),
-        3 => patient.parent = Some(number as u64),
-        4 => patient.parent = Some(number as u64 + random.pick(&[1, 2, 32, 256, HIGHEST_NUMBER - 999])),
-        5 => patient.fixed = Some(patient.beds),
-        6 => patient.fixed = Some(patient.beds + random.pick(&[1, 2, 16, 32, 256, HIGHEST_NUMBER - 999])),
+        3 => patient.fixed = Some(patient.beds),
+        4 => patient.fixed = Some(patient.beds + random.pick(&[1, 2, 16, 32, 256, HIGHEST_NUMBER - 999])),
         _ => *patient = Patient { beds: 1, fixed: Some(1), ..patient.clone() },
     }
 }

@@ -6,6 +6,7 @@ pub mod faults;
 pub mod faulty;
 pub mod fixed_beds;
 pub mod full_size;
+pub mod graphs;
 pub mod joins;
 pub mod large;
 pub mod layout_faults;

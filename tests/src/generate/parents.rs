@@ -1,5 +1,6 @@
-//! Parents for tables that are already chosen.
+//! Parents for tables that are already chosen, right ones and others.
 
+use crate::limits::HIGHEST_NUMBER;
 use crate::random::Random;
 use crate::region::{Region, Table};
 
@@ -51,4 +52,70 @@ pub fn chained(region: &Region) -> Region {
         patient.parent = (number as u64).checked_sub(1);
     }
     chained
+}
+
+/// What may stand in the parent fields of a file.
+#[derive(Clone, Copy, Debug, PartialEq)]
+pub enum Filled {
+    /// As they are made.
+    Rightly,
+    /// As they are made, and some roots have a parent too.
+    WithMoreAncestors,
+    Chained,
+    NotAtAll,
+    /// Any earlier patient or none: question 6 is answered yes, 10 mostly not.
+    Earlier,
+    Themselves,
+    Later,
+    /// The highest number that a file can have.
+    Highest,
+    /// As they are made but for one patient.
+    OneWrong,
+    Anyhow,
+}
+
+pub const FILLED: [Filled; 10] = [
+    Filled::Rightly,
+    Filled::WithMoreAncestors,
+    Filled::Chained,
+    Filled::NotAtAll,
+    Filled::Earlier,
+    Filled::Themselves,
+    Filled::Later,
+    Filled::Highest,
+    Filled::OneWrong,
+    Filled::Anyhow,
+];
+
+/// Fills in the parents of a region, whatever they were.
+pub fn fill(region: &mut Region, filled: Filled, random: &mut Random) {
+    set_parents(region);
+    let one = random.below(region.patients.len());
+    if filled == Filled::WithMoreAncestors {
+        return join_some_roots(region, 50, random);
+    }
+    for (number, patient) in region.patients.iter_mut().enumerate() {
+        let itself = number as u64;
+        patient.parent = match filled {
+            Filled::Rightly | Filled::WithMoreAncestors => patient.parent,
+            Filled::Chained => itself.checked_sub(1),
+            Filled::NotAtAll => None,
+            Filled::Earlier => random.below(number + 1).checked_sub(1).map(|parent| parent as u64),
+            Filled::Themselves => Some(itself),
+            Filled::Later => Some(itself + random.between(1, 33)),
+            Filled::Highest => Some(HIGHEST_NUMBER),
+            Filled::OneWrong if number != one => patient.parent,
+            Filled::OneWrong | Filled::Anyhow => any_parent(itself, random),
+        };
+    }
+}
+
+/// Any parent that the layout allows a patient, most of them near a limit.
+pub fn any_parent(itself: u64, random: &mut Random) -> Option<u64> {
+    let numbers = [0, 1, itself, itself + 1, 15, 16, 31, 32, 33, 255, 256, 65_536, HIGHEST_NUMBER];
+    match random.below(3) {
+        0 => None,
+        1 => Some(random.between(0, itself)),
+        _ => Some(random.pick(&numbers)),
+    }
 }

@@ -6,6 +6,7 @@ mod fixed_beds;
 mod joins;
 mod lines;
 mod lists;
+mod parents;
 mod parts;
 mod prices;
 mod sheets;
@@ -23,7 +24,7 @@ use crate::generate::small::{Kind, KINDS};
 /// A comparison of one call, with a seed and a count.
 type Comparison<Call> = fn(Tested<Call>, u64, usize) -> Result<Tally, Difference>;
 
-/// A comparison of the calls of a file, join among them.
+/// A comparison of the calls of a file, join and parents among them.
 type ComparisonOfAll = fn(Calls, u64, usize) -> Result<Tally, Difference>;
 
 /// A printing program's text of a file.
@@ -60,7 +61,10 @@ pub fn run() -> Result<Tally, Difference> {
     for (name, comparison, call) in joins::all() {
         found(&mut tally, name, comparison(Tested { name, call }, SEED, COUNT))?;
     }
-    for (name, comparison, calls) in wrong_calls().into_iter().chain(joins::among_all()) {
+    for (name, comparison, call) in parents::all() {
+        found(&mut tally, name, comparison(Tested { name, call }, SEED, COUNT))?;
+    }
+    for (name, comparison, calls) in wrong_calls().into_iter().chain(joins::among_all()).chain(parents::among_all()) {
         found(&mut tally, name, comparison(calls, SEED, COUNT))?;
     }
     for (name, text) in wrong_texts() {
