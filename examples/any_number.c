@@ -65,3 +65,11 @@ uint64_t rigbasen_join(const uint8_t *first, size_t first_length, const uint8_t 
     result[RIGBASEN_NUMBER_BYTES] = (uint8_t)(which == NULL ? 0 : atoi(which));
     return number();
 }
+
+uint64_t rigbasen_parents(const uint8_t *file, size_t file_length, uint8_t *output, size_t output_length,
+                          uint8_t *result, size_t result_length)
+{
+    (void)file, (void)file_length, (void)output, (void)output_length;
+    memset(result, 0, result_length);
+    return number();
+}

@@ -1,9 +1,11 @@
 /*
  * The calls that the checklist makes.
- *     cuts FILE            lends every cut of the file, short of the whole, to the five calls of a file, and to join with the whole
+ *     cuts FILE            lends every cut of the file, short of the whole, to the five calls of a file, to parents, and to join with
+ *                          the whole
  *     print FILE           the list and the clinics' sheets by the calls, in the printing program's form
  *     price FILE BED ..    what the plan costs
  *     join FIRST SECOND    the two files joined
+ *     parents FILE         the file with its parents made
  *     seal                 standard input with its end line put behind it
  */
 #include <inttypes.h>
@@ -69,19 +71,42 @@ static int named_clean(const struct region_file *first, const struct region_file
         && number_at(result) == 0 && number_at(result + RIGBASEN_NUMBER_BYTES) == named;
 }
 
+/* Does parents refuse the file itself, and write nothing? */
+static int unmade_clean(const struct region_file *file)
+{
+    uint8_t output[512];
+    uint8_t result[RIGBASEN_PARENTS_RESULT_BYTES];
+    memset(output, PATTERN, sizeof output);
+    memset(result, PATTERN, sizeof result);
+    uint64_t number = rigbasen_parents(file->bytes, file->length, output, sizeof output, result, sizeof result);
+    return number != RIGBASEN_FINE && number != RIGBASEN_SHORT_OUTPUT && all(output, sizeof output, PATTERN)
+        && all(result, sizeof result, 0);
+}
+
+/* Is the whole file a good one, or one of which only the parents are wrong? */
+static int good_but_for_parents(const struct region_file *file, uint64_t check)
+{
+    static struct region_file made;
+    int for_parents = check == RIGBASEN_PATIENTS || check == RIGBASEN_ANCESTORS;
+    return make_parents(file, &made) == RIGBASEN_FINE && (check == RIGBASEN_FINE || for_parents);
+}
+
 static int try_cuts(const struct region_file *file)
 {
     static const uint8_t plan[RIGBASEN_MOST_PATIENTS] = {0};
     static struct region_file cut;
     size_t patients = patients_of_region(file);
-    if (rigbasen_check(file->bytes, file->length) != RIGBASEN_FINE) {
+    uint64_t check = rigbasen_check(file->bytes, file->length);
+    /* Join names a whole file that is refused for its parents before it looks at what is behind. */
+    uint64_t named_behind = check == RIGBASEN_FINE ? RIGBASEN_SECOND_FILE : RIGBASEN_FIRST_FILE;
+    if (!good_but_for_parents(file, check)) {
         printf("the whole file is refused\n");
         return 1;
     }
     cut = *file;
     for (cut.length = 0; cut.length < file->length; cut.length++) {
-        int joined_refused = named_clean(&cut, file, RIGBASEN_FIRST_FILE) && named_clean(file, &cut, RIGBASEN_SECOND_FILE);
-        if (!joined_refused || !cut_refused(&cut, plan, patients)) {
+        int joined_refused = named_clean(&cut, file, RIGBASEN_FIRST_FILE) && named_clean(file, &cut, named_behind);
+        if (!joined_refused || !unmade_clean(&cut) || !cut_refused(&cut, plan, patients)) {
             printf("the first %zu bytes are not refused\n", cut.length);
             return 1;
         }
@@ -163,6 +188,17 @@ static int print_joined(const char *first_name, const char *second_name)
     return fwrite(joined.bytes, 1, joined.length, stdout) == joined.length ? 0 : 2;
 }
 
+static int print_made(const struct region_file *file)
+{
+    static struct region_file made;
+    uint64_t number = make_parents(file, &made);
+    if (number != RIGBASEN_FINE) {
+        printf("refused %" PRIu64 "\n", number);
+        return 1;
+    }
+    return fwrite(made.bytes, 1, made.length, stdout) == made.length ? 0 : 2;
+}
+
 static int seal(void)
 {
     unsigned long sum = 0;
@@ -188,6 +224,10 @@ static int carry_out(const char *command, int count, char **behind)
     if (strcmp(command, "join") == 0 && count == 2) {
         return print_joined(behind[0], behind[1]);
     }
+    if (strcmp(command, "parents") == 0 && count == 1) {
+        read_region(behind[0], &file);
+        return print_made(&file);
+    }
     if (strcmp(command, "cuts") == 0 && count == 1) {
         read_region(behind[0], &file);
         return try_cuts(&file);
@@ -196,7 +236,7 @@ static int carry_out(const char *command, int count, char **behind)
         read_region(behind[0], &file);
         return print_answers(&file);
     }
-    fprintf(stderr, "checklist_calls cuts FILE, print FILE, price FILE BED .., join FIRST SECOND, or seal\n");
+    fprintf(stderr, "checklist_calls cuts FILE, print FILE, price FILE BED .., join FIRST SECOND, parents FILE, or seal\n");
     return 2;
 }
 

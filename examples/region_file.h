@@ -105,6 +105,15 @@ static inline uint64_t join_files(const struct region_file *first, const struct 
     return number;
 }
 
+/* A file with its parents made, into another. On a refusal that one has no bytes. */
+static inline uint64_t make_parents(const struct region_file *file, struct region_file *made)
+{
+    uint8_t result[RIGBASEN_PARENTS_RESULT_BYTES];
+    uint64_t number = rigbasen_parents(file->bytes, file->length, made->bytes, RIGBASEN_WRITTEN_BYTES, result, sizeof result);
+    made->length = (size_t)number_at(result);
+    return number;
+}
+
 /* A whole number of an argument, at most so large; or ends the program. */
 static inline uint64_t read_number(const char *argument, uint64_t most)
 {

@@ -106,6 +106,12 @@ static void *run_join(void *unused)
     return unused;
 }
 
+static void *run_parents(void *unused)
+{
+    make_parents(&file, &written);
+    return unused;
+}
+
 /* How many bytes of its stack a thread changed that runs this. */
 static size_t stack_of(void *(*run)(void *))
 {
@@ -130,8 +136,8 @@ static size_t stack_of(void *(*run)(void *))
 
 int main(int count, char **arguments)
 {
-    static const char *const names[] = {"check", "list", "sheet", "price", "line", "write", "join"};
-    static void *(*const calls[])(void *) = {run_check, run_list, run_sheet, run_price, run_line, run_write, run_join};
+    static const char *const names[] = {"check", "list", "sheet", "price", "line", "write", "join", "parents"};
+    static void *(*const calls[])(void *) = {run_check, run_list, run_sheet, run_price, run_line, run_write, run_join, run_parents};
     enum { CALLS = sizeof calls / sizeof calls[0] };
     size_t most[CALLS] = {0};
     int over = 0;

@@ -1,5 +1,6 @@
 /*
- * Rigbasen: the bed plans of a region. Five calls over one region file, a sixth that makes such a file, and a seventh that joins two.
+ * Rigbasen: the bed plans of a region. Five calls over one region file, a sixth that makes such a file, a seventh that joins two, and
+ * an eighth that fills in parents.
  *
  *     rigbasen_check   is the file a good one?
  *     rigbasen_list    its m cheapest plans
@@ -8,6 +9,7 @@
  *     rigbasen_line    the line of the table over some members
  *     rigbasen_write   the file of a region that the caller holds
  *     rigbasen_join    the file of two regions together
+ *     rigbasen_parents the same file with its parents made
  *
  * Each call gives RIGBASEN_FINE or the number of the first question that is answered "no".
  * Link with libplanner_c.a, on x86-64. C99 or later, and C++.
@@ -41,9 +43,10 @@ extern "C" {
 #define RIGBASEN_ROWS_RESULT_BYTES RIGBASEN_NUMBER_BYTES        /* list and sheet: the row count */
 #define RIGBASEN_PRICE_RESULT_BYTES (2 * RIGBASEN_NUMBER_BYTES) /* price: allowed, then the total */
 #define RIGBASEN_LINE_RESULT_BYTES (2 * RIGBASEN_NUMBER_BYTES)  /* line: where it starts in the file, then its length */
-#define RIGBASEN_WRITTEN_BYTES 35038                            /* write and join: the output area */
+#define RIGBASEN_WRITTEN_BYTES 35038                            /* write, join and parents: the output area */
 #define RIGBASEN_WRITE_RESULT_BYTES RIGBASEN_NUMBER_BYTES       /* write: the byte count */
 #define RIGBASEN_JOIN_RESULT_BYTES (2 * RIGBASEN_NUMBER_BYTES)  /* join: the byte count, then which file is refused */
+#define RIGBASEN_PARENTS_RESULT_BYTES RIGBASEN_NUMBER_BYTES     /* parents: the byte count */
 
 /* Stack that is enough for every call. */
 #define RIGBASEN_STACK_BYTES (128 * 1024)
@@ -58,16 +61,16 @@ enum rigbasen_number {
     RIGBASEN_SUM = 4,            /* is the end line's number the true sum? */
     RIGBASEN_LIMITS = 5,         /* is V 1 to 32, T 0 to 64, m 1 to 64? */
     RIGBASEN_PATIENTS = 6,       /* is each clinic 0 to 15, each bed count 1 to 16, each parent - or a smaller number than the patient's own,
-                                    each fixed bed - or below the bed count? */
+                                    each fixed bed - or below the bed count? parents: the same of all but the parents */
     RIGBASEN_MEMBERS = 7,        /* has each table 1 to 4 members, all below V, strictly rising? */
     RIGBASEN_ENTRY_COUNTS = 8,   /* has each table the entries that its members' beds ask for, at most 4,096 in all? */
     RIGBASEN_ENTRIES = 9,        /* is each entry that is a number at most 1,000,000? */
     RIGBASEN_ANCESTORS = 10,     /* of any two members of a table, is one an ancestor of the other? */
     RIGBASEN_NO_SUCH_CLINIC = 11, /* sheet: has the clinic asked for a patient in the file? */
-    RIGBASEN_SHORT_AREA = 12,    /* list, sheet, price: are the lent areas long enough? line, write, join: is the result area? */
+    RIGBASEN_SHORT_AREA = 12,    /* list, sheet, price: are the lent areas long enough? line, write, join, parents: is the result area? */
     RIGBASEN_NO_PLAN = 13,       /* list, sheet: is there an allowed plan? */
     RIGBASEN_PLAN_MISFIT = 14,   /* price: are there exactly V beds, each below its patient's count? */
-    RIGBASEN_SHORT_OUTPUT = 15,  /* write, join: is the output area long enough? */
+    RIGBASEN_SHORT_OUTPUT = 15,  /* write, join, parents: is the output area long enough? */
     RIGBASEN_COMMON_CLINIC = 16, /* join: have the two files no clinic in common? */
     RIGBASEN_JOINED_SIZE = 17,   /* join: have both together at most 32 patients, 64 tables and 4,096 entries? */
     RIGBASEN_TYPED_MEMBERS = 21  /* line: do the typed members have the layout of a member list? */
@@ -207,6 +210,26 @@ uint64_t rigbasen_join(const uint8_t *first, size_t first_length,
                        uint8_t *result, size_t result_length);
 
 /*
+ * Fills in the parents of a file, whatever stands there, and writes it: check then finds it good. Questions 1 to 9, 12, 15.
+ *
+ * A file's own parents are not looked at, but for their layout: `-`, or any number of 1 to 7 digits. So of question 6 all but the
+ * parents is asked, and 10 is not. Two patients are neighbours where a table has both as members. From the last patient to the first,
+ * the parent is the highest-numbered earlier neighbour, `-` where there is none, and all earlier neighbours become neighbours of each
+ * other. Any other parents that check accepts for these tables and patient numbers give each patient the same ancestors and perhaps
+ * more. The parents do not depend on m, clinics, beds, fixed beds or entries, and all of these stay; the end line has the true sum.
+ *
+ * Parents change no plan and no cost: for a file that check accepts, list, sheet and price answer the same before and after. They
+ * change how long list and sheet take, see "Time" below. Given its own output, the call writes the same bytes.
+ *
+ * The file stands at the beginning of output, and its byte count in the first 8 bytes of result. Question 12 asks for 8 bytes of
+ * result, and 15 for as many bytes of output as the written file has: it may be longer than the one read, and RIGBASEN_WRITTEN_BYTES
+ * always suffice.
+ */
+uint64_t rigbasen_parents(const uint8_t *file, size_t file_length,
+                          uint8_t *output, size_t output_length,
+                          uint8_t *result, size_t result_length);
+
+/*
  * What is proved, for every file, clinic number, plan, typed text, lent region and areas of any length:
  * the call comes back, its number is the first "no", and every byte of every lent area afterwards is the one described here.
  * On a refusal beds, costs and output are untouched, and a result area that is long enough gets zeros, but for which file join refuses;
@@ -219,8 +242,11 @@ uint64_t rigbasen_join(const uint8_t *first, size_t first_length,
  * - The areas that a call writes overlap none of its other areas, and nobody else writes to any of them meanwhile.
  *   (The library has no variables of its own, so threads may call at once, each with its own areas.)
  * - RIGBASEN_STACK_BYTES of stack are free: the work area is there. By measure, check and line take about 38,000 bytes,
- *   price 47,000, write 63,000, join 93,000, list up to 113,000 and sheet up to 120,000, the most where 32 patients are one tree.
- * - Time. A call always ends, but where one tree holds many patients under many tables it can take very long.
+ *   price 47,000, write 63,000, parents 64,000, join 93,000, list up to 113,000 and sheet up to 120,000, the most where
+ *   32 patients are one tree.
+ * - Time. A call always ends, but where one tree holds many patients under many tables, list and sheet can take very long.
+ *   Parents that join patients whom no table joins make such a tree for nothing: list can then take hours, and with the parents of
+ *   rigbasen_parents milliseconds. Call it first, and give list its output.
  */
 
 #ifdef __cplusplus
