@@ -26,15 +26,13 @@ parentsFrom groups (suc s) = let earlier = earlierNeighbours groups s in parents
 abbrev pub parentsMade : Region → List (Option ℕ)
 parentsMade r = parentsFrom (sharedTables r) (length (r .patients))
 
--- A region with other parents, by patient number; the file that is written.
+-- A patient with another parent; a region with other parents, by patient number; the file that is written.
+abbrev pub withParent : Patient → Option ℕ → Patient
+withParent p parent = record { clinic = p .clinic; bedCount = p .bedCount; parent = parent; fixedBed = p .fixedBed }
+
 unfoldable pub withParents : Region → List (Option ℕ) → Region
 withParents r parents =
-    regionFrom (r .plansWanted) (map (λ s. let p = patientAt r s in record {
-      clinic = p .clinic;
-      bedCount = p .bedCount;
-      parent = getD parents s none;
-      fixedBed = p .fixedBed;
-    }) (patientNumbers r)) (r .tables)
+    regionFrom (r .plansWanted) (map (λ s. withParent (patientAt r s) (getD parents s none)) (patientNumbers r)) (r .tables)
 
 unfoldable pub parentsFile : List ℕ → List ℕ
 parentsFile file = let r = regionOf file in spell (withParents r (parentsMade r))

@@ -8,7 +8,7 @@ use Rattle.definitions.specs.Basics.{ℕ, _<_, true, Option, none, some, List, 
 use Rattle.definitions.specs.Syntax.{Patient, Region, patientNumbers, patientAt}
 use Rattle.definitions.specs.Questions.{countsTrue}
 use Rattle.definitions.specs.Writer.{regionFrom, asHeld}
-use Rattle.definitions.specs.Parents.{withParents}
+use Rattle.definitions.specs.Parents.{withParent, withParents}
 use Rattle.lists.specs.Below.{at-place, length-by-places}
 use Rattle.theorems.specs.Writer.{held-counts}
 
@@ -20,9 +20,6 @@ pub record Alike (r s : Region) : Type 0 where
   pub clinic : (q : ℕ) → patientAt r q .clinic ≡ patientAt s q .clinic
   pub bedCount : (q : ℕ) → patientAt r q .bedCount ≡ patientAt s q .bedCount
   pub fixedBed : (q : ℕ) → patientAt r q .fixedBed ≡ patientAt s q .fixedBed
-
-abbrev pub withParent : Patient → Option ℕ → Patient
-withParent p parent = record { clinic = p .clinic; bedCount = p .bedCount; parent = parent; fixedBed = p .fixedBed }
 
 module _ (r : Region) (choice : List (Option ℕ)) where
   -- What it holds, with true counts and the true sum.

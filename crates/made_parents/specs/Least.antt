@@ -7,7 +7,7 @@ use Rattle.definitions.specs.Basics.{ℕ, zero, suc, _<_, true, _||_, Option, n
 use Rattle.definitions.specs.Syntax.{Patient, Table, Region, patientAt}
 use Rattle.definitions.specs.Questions.{parentsSmaller, ancestors, membersRelated}
 use Rattle.definitions.specs.Writer.{regionFrom, asHeld}
-use Rattle.definitions.specs.Parents.{sharedTables, parentsMade, withParents}
+use Rattle.definitions.specs.Parents.{sharedTables, parentsMade, withParent, withParents}
 use Rattle.lists.specs.Members.{_∈_, in-map-cases}
 use Rattle.lists.specs.Every.{every-in, every-two-in, contains-out}
 use Rattle.lists.specs.Maps.{map-at}
@@ -15,7 +15,7 @@ use Rattle.lists.specs.Below.{by-places, below-same}
 use Rattle.theorems.specs.Accepted.{parent-below}
 use Rattle.theorems.specs.Ancestors.{no-later, ancestor-cases, ancestor-through, same-parents}
 use Rattle.made_parents.specs.Made.{Related, made-above}
-use Rattle.made_parents.specs.Chosen.{withParent, chosen-alike, chosen-parent, parent-chosen}
+use Rattle.made_parents.specs.Chosen.{chosen-alike, chosen-parent, parent-chosen}
 use Rattle.made_parents.specs.Accepted.{PassesNine, made-parents-smaller, made-accepted}
 
 -- A choice of parents for the same patient numbers that passes questions 6 and 10.

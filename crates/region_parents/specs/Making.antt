@@ -9,7 +9,7 @@ use Rattle.definitions.specs.Basics.{ℕ, zero, suc, _-_, _<_, _^_, _&&_, Optio
 use Rattle.definitions.specs.Syntax as Said
 use Rattle.definitions.specs.Syntax.{patientAt}
 use Rattle.definitions.specs.Writer.{regionFrom, withSum}
-use Rattle.definitions.specs.Parents.{earlierNeighbours, last, parentsFrom, parentsMade, withParents}
+use Rattle.definitions.specs.Parents.{earlierNeighbours, last, parentsFrom, parentsMade, withParent, withParents}
 use Rattle.lists.specs.Below.{below-same, length-by-places}
 use Rattle.patient_set.specs.declared.PatientSet.{PatientSet}
 use Rattle.patient_set.specs.Sets.{inSet, members}
@@ -19,7 +19,6 @@ use Rattle.held_region.specs.declared.Region.{Region}
 use Rattle.held_region.specs.Meaning.{noPatient, patientOf, patientIn, said}
 use Rattle.held_region.specs.Asked.{patients-said, patient-said, tables-said}
 use Rattle.held_region.specs.Related.{setIn}
-use Rattle.made_parents.specs.Chosen.{withParent}
 use Rattle.made_parents.specs.Made.{parent-last, parent-before}
 use Rattle.region_parents.specs.Neighbours.{Near, Gathered, tablesHeld, tables-held, near-more, earlier-members}
 

@@ -9,11 +9,10 @@ ghost use mathlib.Core.Path.{_≡_};
 ghost use Prim.Native.Nat.{ℕ};
 ghost use lib.ListN.{length};
 ghost use Rattle.definitions.specs.Basics.{List};
-ghost use Rattle.definitions.specs.Parents.{last, parentsMade, withParents};
+ghost use Rattle.definitions.specs.Parents.{last, parentsMade, withParent, withParents};
 ghost use Rattle.patient_set.specs.Sets.{members};
 ghost use Rattle.held_region.specs.Meaning.{optional, patientOf, said};
 ghost use Rattle.held_region.specs.Sound.{Sound};
-ghost use Rattle.made_parents.specs.Chosen.{withParent};
 ghost use Rattle.region_parents.specs.Neighbours.{Near, Gathered, tablesHeld};
 ghost use Rattle.region_parents.specs.Making.{PatientsMade};
 
