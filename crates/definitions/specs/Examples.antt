@@ -6,7 +6,7 @@ use Rattle.definitions.specs.Spelling.{spell}
 use Rattle.definitions.specs.Plans.{Row}
 use Rattle.definitions.specs.Questions.{workSize, checkOf}
 use Rattle.definitions.specs.Outcomes.{ListOutcome, listOutcome, sheetOutcome}
-use Rattle.definitions.specs.Writer.{regionFrom}
+use Rattle.definitions.specs.Writer.{regionFrom, WriteOutcome}
 use Rattle.definitions.specs.Output.{printed}
 use Rattle.definitions.specs.Computing.{everything}
 
@@ -25,11 +25,19 @@ patient c d p = record { clinic = c; bedCount = d; parent = p; fixedBed = none }
 abbrev pub fixed : ℕ → ℕ → Option ℕ → ℕ → Patient
 fixed c d p b = record { clinic = c; bedCount = d; parent = p; fixedBed = some b }
 
+-- Of clinic 0, with one bed and no parent.
+abbrev pub root : Patient
+root = patient 0 1 none
+
 abbrev pub table : List ℕ → List (Option ℕ) → Table
 table ms es = record { members = ms; entries = es }
 
 abbrev pub region : ℕ → List Patient → List Table → ℕ → Region
 region m ps ts n = record { patientCount = length ps; tableCount = length ts; plansWanted = m; patients = ps; tables = ts; statedSum = n }
+
+-- A region to write; its counts and its sum are not the writer's.
+abbrev pub toWrite : ℕ → List Patient → List Table → Region
+toWrite m ps ts = record { patientCount = 7; tableCount = 7; plansWanted = m; patients = ps; tables = ts; statedSum = 7 }
 
 -- The file of m, patients and tables, with the true counts and the true sum.
 abbrev pub fileOf : ℕ → List Patient → List Table → List ℕ
@@ -53,6 +61,10 @@ success rows =
 
 abbrev pub refusal : ℕ → List ℕ → ListOutcome
 refusal q work = record { number = q; rows = 0; beds = lent 64; costs = lent 64; work = work }
+
+-- A file written, and so much of the output area beyond it.
+abbrev pub wrote : List ℕ → ℕ → WriteOutcome
+wrote file beyond = record { number = 0; count = length file; output = file ++ lent beyond }
 
 abbrev pub list : List ℕ → ListOutcome
 list file = listOutcome file (lent 64) (lent 64) (lent workSize)

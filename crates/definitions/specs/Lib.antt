@@ -21,3 +21,4 @@ pub mod Examples
 pub mod Cases
 pub mod Edges
 pub mod Requests
+pub mod ParentCases

@@ -8,30 +8,20 @@ use Rattle.definitions.specs.Plans.{Row, placeIn, stride, entryFor, cons
 use Rattle.definitions.specs.Questions.{planAllowed, regionOf, checkOf}
 use Rattle.definitions.specs.Sheets.{lowest, ownTables, ownCost, sheetOf}
 use Rattle.definitions.specs.Outcomes.{priceOutcome}
-use Rattle.definitions.specs.Writer.{writtenFile, WriteOutcome, writeOutcome}
+use Rattle.definitions.specs.Writer.{writtenFile, writeOutcome}
 use Rattle.definitions.specs.Lookup.{bytesAt, LineOutcome, lineOutcome, partOf}
 use Rattle.definitions.specs.Joining.{joinedRegion, clinicsApart, joinWithin, WhichFile, neitherFile, firstFile, secondFile, JoinOutcome, joinOutcome, firstPairs}
 use Rattle.definitions.specs.Boundary.{bytesOf, lentTableCount, PairCall, WriteCall, writeCall, lineCall, joinCall}
 use Rattle.definitions.specs.Computing.{everything}
-use Rattle.definitions.specs.Examples.{textOf, paperFile, patient, fixed, table, region, fileOf, row, lent, cleared, list, refusal, overOneAndTwo, allForbidden}
+use Rattle.definitions.specs.Examples.{textOf, paperFile, patient, fixed, root, table, region, toWrite, fileOf, row, lent, cleared, list, refusal, wrote, overOneAndTwo, allForbidden}
 use Rattle.definitions.specs.Cases.{paperRegion, eight}
 use Rattle.definitions.specs.Edges.{clinicsJoined, zeros}
 
 -- ---- #101: the writer
 
--- A region to write; its counts and its sum are not the writer's.
-abbrev toWrite : ℕ → List Patient → List Table → Region
-toWrite m ps ts = record { patientCount = 7; tableCount = 7; plansWanted = m; patients = ps; tables = ts; statedSum = 7 }
-
-abbrev wrote : List ℕ → ℕ → WriteOutcome
-wrote file beyond = record { number = 0; count = length file; output = file ++ lent beyond }
-
 -- The number for an area that is long enough.
 abbrev writeNumber : ℕ → List Patient → List Table → ℕ
 writeNumber m ps ts = writeOutcome (toWrite m ps ts) (lent 200) .number
-
-abbrev root : Patient
-root = patient 0 1 none
 
 -- Numbers in an area of eight bytes each; the one that stands for none.
 abbrev area : List ℕ → List ℕ
