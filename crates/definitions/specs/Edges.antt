@@ -8,16 +8,16 @@ use Rattle.definitions.specs.Syntax.{Patient, Table, Region}
 use Rattle.definitions.specs.Layout.{layout}
 use Rattle.definitions.specs.Spelling.{spell, wellFormed}
 use Rattle.definitions.specs.Plans.{Plan, Row, listOf}
-use Rattle.definitions.specs.Questions.{shortEnough, membersRight, entryCountsRight, workSize, regionOf, checkOf}
+use Rattle.definitions.specs.Questions.{shortEnough, sumTrue, countsWithin, membersRight, entryCountsRight, workSize, regionOf, checkOf}
 use Rattle.definitions.specs.Sheets.{sheetOf}
 use Rattle.definitions.specs.Isolation.{yieldNumber, YieldsList, tablesAmong, timesIn, joins, SameClinic, SameBeginning}
 use Rattle.definitions.specs.Outcomes.{ListOutcome, listOutcome, sheetOutcome, PriceOutcome, priceOutcome}
 use Rattle.definitions.specs.Boundary.{listCall, sheetCall, priceCall}
 use Rattle.definitions.specs.Output.{printed}
 use Rattle.definitions.specs.Computing.{everything}
-use Rattle.definitions.specs.Examples.{textOf, paperFile, patient, fixed, table, region, fileOf, row, lent, cleared, twoClinics}
+use Rattle.definitions.specs.Examples.{textOf, paperFile, patient, fixed, table, region, fileOf, row, lent, cleared, twoClinicsRegion}
 use Rattle.definitions.specs.Examples.{overOneAndTwo, allForbidden}
-use Rattle.definitions.specs.Cases.{paperRegion, brackets}
+use Rattle.definitions.specs.Cases.{paperRegion}
 
 -- ---- layout: each of these is the file in the paper with one fault
 
@@ -71,6 +71,10 @@ zeros n = replicate n (some 0)
 -- Three patients with 16 beds and one with 1 bed, each the parent of the next, and tables.
 abbrev sixteen : List Table → Region
 sixteen ts = region 1 (patient 0 16 none ∷ patient 0 16 (some 0) ∷ patient 0 16 (some 1) ∷ patient 0 1 (some 2) ∷ []) ts 0
+
+-- Lines before the end line whose bytes add up to 65,545, which is 65,521 and 24.
+abbrev largeSum : List ℕ
+largeSum = replicate 257 255 ++ text "\n(end 0)\n"
 
 -- One table over members with one entry, in a region of so many patients in a chain.
 abbrev over : ℕ → List ℕ → List ℕ
@@ -130,16 +134,16 @@ largest = replicate 10 9_999_999
 abbrev tooLargeAt : ℕ → Region
 tooLargeAt i = saying (set largest i 10_000_000)
 
--- Two files that differ in m and in a price at clinic 1.
-abbrev twoClinicsRegion : ℕ → ℕ → Region
-twoClinicsRegion m e = regionOf (twoClinics m (some 0 ∷ some e ∷ []))
+-- Two regions that differ in m and in a price at clinic 1.
+abbrev otherPrice : ℕ → ℕ → Region
+otherPrice m e = twoClinicsRegion m (some 0 ∷ some e ∷ [])
 
--- What is no region file, or only just one.
+-- What is no region file, or only just one. (That a file has 65,535 bytes is handed in.)
 pub record Layouts : Type 0 where
   pub faultyPlaces : map checkOf misplaced ≡ replicate (length misplaced) 2
   pub faultySpellings : map checkOf misspelt ≡ replicate (length misspelt) 2
   pub noLines : checkOf (textOf ("(region 0 0 1)" ∷ "(end 976)" ∷ [])) ≡ 5
-  pub longest : shortEnough (brackets 65_535) ≡ true
+  pub longest : (file : List ℕ) → length file ≡ 65_535 → shortEnough file ≡ true
   pub largestFormed : wellFormed (saying largest) ≡ true
   pub largestRead : layout (spell (saying largest)) ≡ some (saying largest)
   pub tooLargeFormed : map (λ i. wellFormed (tooLargeAt i)) (below 10) ≡ replicate 10 false
@@ -149,12 +153,12 @@ pub record Layouts : Type 0 where
   pub noEntriesFormed : wellFormed (region 1 (free 1) (table (0 ∷ []) [] ∷ []) 0) ≡ false
 
 pub layouts : Layouts
-unfolding everything lent cleared brackets zeros
+unfolding everything lent cleared zeros
 layouts = record {
   faultyPlaces = refl;
   faultySpellings = refl;
   noLines = refl;
-  longest = refl;
+  longest = λ file long. simp long;
   largestFormed = refl;
   largestRead = refl;
   tooLargeFormed = refl;
@@ -166,11 +170,11 @@ layouts = record {
 
 -- Questions 3 to 10 on either side of each bound.
 pub record Bounds : Type 0 where
-  pub sumsWrap : checkOf (spell (region 1 (free 70) [] 16920)) ≡ 5
-  pub sumNotReduced : checkOf (spell (region 1 (free 70) [] 82441)) ≡ 4
+  pub sumsWrap : sumTrue largeSum (region 1 [] [] 24) ≡ true
+  pub sumNotReduced : sumTrue largeSum (region 1 [] [] 65_545) ≡ false
   pub counts : map (λ (c : ℕ × ℕ). checkOf (spell (stating (c .0) (c .1)))) ((1, 2) ∷ (3, 2) ∷ (2, 1) ∷ (2, 3) ∷ []) ≡ 3 ∷ 3 ∷ 3 ∷ 3 ∷ []
-  pub patients : map (λ n. checkOf (fileOf 1 (free n) [])) (1 ∷ 32 ∷ 33 ∷ []) ≡ 0 ∷ 0 ∷ 5 ∷ []
-  pub tables : map (λ n. checkOf (fileOf 1 (free 1) (replicate n (table (0 ∷ []) (some 0 ∷ []))))) (64 ∷ 65 ∷ []) ≡ 0 ∷ 5 ∷ []
+  pub patients : map (λ n. countsWithin (region 1 (free n) [] 0)) (0 ∷ 1 ∷ 32 ∷ 33 ∷ []) ≡ false ∷ true ∷ true ∷ false ∷ []
+  pub tables : map (λ n. countsWithin (region 1 (free 1) (replicate n (table (0 ∷ []) (some 0 ∷ []))) 0)) (0 ∷ 64 ∷ 65 ∷ []) ≡ true ∷ true ∷ false ∷ []
   pub wanted : map (λ m. checkOf (fileOf m (free 1) [])) (0 ∷ 1 ∷ 64 ∷ 65 ∷ []) ≡ 5 ∷ 0 ∷ 0 ∷ 5 ∷ []
   pub clinics : map (λ c. checkOf (fileOf 1 (patient c 1 none ∷ []) [])) (15 ∷ 16 ∷ []) ≡ 0 ∷ 6 ∷ []
   pub bedCounts : map (λ d. checkOf (fileOf 1 (patient 0 d none ∷ []) [])) (0 ∷ 1 ∷ 16 ∷ 17 ∷ []) ≡ 6 ∷ 0 ∷ 0 ∷ 6 ∷ []
@@ -200,7 +204,7 @@ pub record Bounds : Type 0 where
       ) ≡ 6 ∷ 6 ∷ 6 ∷ 7 ∷ 8 ∷ 9 ∷ 9 ∷ 10 ∷ []
 
 pub bounds : Bounds
-unfolding everything lent cleared brackets zeros
+unfolding everything lent cleared zeros
 bounds = record {
   sumsWrap = refl;
   sumNotReduced = refl;
@@ -264,7 +268,7 @@ pub record Turns : Type 0 where
   pub emptyText : printed [] ≡ textOf ("(refused 2)" ∷ [])
 
 pub turns : Turns
-unfolding everything lent cleared brackets zeros
+unfolding everything lent cleared zeros
 turns = record {
   askedInOrder = refl;
   sheetTenFirst = refl;
@@ -310,11 +314,11 @@ pub record Rows : Type 0 where
   pub otherEntry : timesIn (table (0 ∷ []) (none ∷ []) ∷ []) (table (0 ∷ []) (some 0 ∷ [])) ≡ 0
   pub paperYields : YieldsList paperFile
   pub yields : map yieldNumber (paperFile ∷ allForbidden ∷ [] ∷ []) ≡ 0 ∷ 13 ∷ 2 ∷ []
-  pub sameClinic : SameClinic 0 (twoClinicsRegion 3 5) (twoClinicsRegion 2 0)
-  pub sameBeginning : SameBeginning (sheetOf (twoClinicsRegion 3 5) 0) (sheetOf (twoClinicsRegion 2 0) 0)
+  pub sameClinic : SameClinic 0 (otherPrice 3 5) (otherPrice 2 0)
+  pub sameBeginning : SameBeginning (sheetOf (otherPrice 3 5) 0) (sheetOf (otherPrice 2 0) 0)
 
 pub rows : Rows
-unfolding everything lent cleared brackets zeros
+unfolding everything lent cleared zeros
 rows = record {
   places = refl;
   joinedList = refl;

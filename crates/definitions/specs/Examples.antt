@@ -6,7 +6,7 @@ use Rattle.definitions.specs.Spelling.{spell}
 use Rattle.definitions.specs.Plans.{Row}
 use Rattle.definitions.specs.Questions.{workSize, checkOf}
 use Rattle.definitions.specs.Outcomes.{ListOutcome, listOutcome, sheetOutcome}
-use Rattle.definitions.specs.Writer.{regionFrom, WriteOutcome}
+use Rattle.definitions.specs.Writer.{regionFrom, writtenFile, WriteOutcome}
 use Rattle.definitions.specs.Output.{printed}
 use Rattle.definitions.specs.Computing.{everything}
 
@@ -73,8 +73,11 @@ abbrev pub sheet : List ℕ → ℕ → ListOutcome
 sheet file clinic = sheetOutcome file clinic (lent 64) (lent 64) (lent workSize)
 
 -- Patient 0 at clinic 0 and patient 1 at clinic 1, both roots, with 2 beds each, entries (1 0) and those given.
+abbrev pub twoClinicsRegion : ℕ → List (Option ℕ) → Region
+twoClinicsRegion m es = region m (patient 0 2 none ∷ patient 1 2 none ∷ []) (table (0 ∷ []) (some 1 ∷ some 0 ∷ []) ∷ table (1 ∷ []) es ∷ []) 0
+
 abbrev pub twoClinics : ℕ → List (Option ℕ) → List ℕ
-twoClinics m es = fileOf m (patient 0 2 none ∷ patient 1 2 none ∷ []) (table (0 ∷ []) (some 1 ∷ some 0 ∷ []) ∷ table (1 ∷ []) es ∷ [])
+twoClinics m es = writtenFile (twoClinicsRegion m es)
 
 -- Patient 1 a child of 0, patient 2 a child of the one given, and a table over (1 2).
 abbrev pub overOneAndTwo : ℕ → List ℕ
