@@ -245,8 +245,8 @@ uint64_t rigbasen_parents(const uint8_t *file, size_t file_length,
  *   price 47,000, write 63,000, parents 64,000, join 93,000, list up to 113,000 and sheet up to 120,000, the most where
  *   32 patients are one tree.
  * - Time. A call always ends, but where one tree holds many patients under many tables, list and sheet can take very long.
- *   Parents that join patients whom no table joins make such a tree for nothing: list can then take hours, and with the parents of
- *   rigbasen_parents milliseconds. Call it first, and give list its output.
+ *   Parents that join patients whom no table joins make such a tree for nothing: list can then take minutes and far longer, and with
+ *   the parents of rigbasen_parents milliseconds. Call it first, and give list its output.
  */
 
 #ifdef __cplusplus

@@ -72,7 +72,8 @@ pub fn region_of(shape: Shape, seed: u64) -> Region {
     clinics::region(Parameters { clinics, patients, beds, density, m }, &mut random)
 }
 
-fn file_of(shape: Shape, seed: u64, chained: bool) -> Vec<u8> {
+/// Its file, with parents as they are made or with every patient's parent the one before it.
+pub fn file_of(shape: Shape, seed: u64, chained: bool) -> Vec<u8> {
     let made = region_of(shape, seed);
     spelling::file_of(&if chained { parents::chained(&made) } else { made })
 }

@@ -7,6 +7,7 @@ mod fixed_times;
 mod join_times;
 mod line_times;
 mod list_times;
+mod parents_times;
 mod small_times;
 mod timing;
 mod write_times;
@@ -46,6 +47,8 @@ fn run(mut arguments: impl Iterator<Item = String>) -> Result<(), String> {
     line_times::print(&given);
     write_times::print(&given);
     join_times::print(&given);
+    parents_times::print(&given);
+    parents_times::print_lists(limit);
     fixed_times::print(limit);
     list_times::print(&given, limit);
     Ok(())

@@ -33,6 +33,11 @@ impl Times {
     pub fn short_text(&self) -> String {
         format!("{:.2} ({:.2})", microseconds(self.median), microseconds(self.least))
     }
+
+    /// In seconds, for calls that take long.
+    pub fn long_text(&self) -> String {
+        format!("{:.2} ({:.2})", self.median.as_secs_f64(), self.least.as_secs_f64())
+    }
 }
 
 pub fn microseconds(time: Duration) -> f64 {
