@@ -8,7 +8,7 @@ use Rattle.definitions.specs.Syntax.{Patient, Table, Region}
 use Rattle.definitions.specs.Layout.{layout}
 use Rattle.definitions.specs.Spelling.{spell, wellFormed}
 use Rattle.definitions.specs.Plans.{Plan, Row, listOf}
-use Rattle.definitions.specs.Questions.{shortEnough, sumTrue, countsWithin, membersRight, entryCountsRight, workSize, regionOf, checkOf}
+use Rattle.definitions.specs.Questions.{shortEnough, sumTrue, countsWithin, membersRight, entryCountsRight, workSize, planAllowed, regionOf, checkOf}
 use Rattle.definitions.specs.Sheets.{sheetOf}
 use Rattle.definitions.specs.Isolation.{yieldNumber, YieldsList, tablesAmong, timesIn, joins, SameClinic, SameBeginning}
 use Rattle.definitions.specs.Outcomes.{ListOutcome, listOutcome, sheetOutcome, PriceOutcome, priceOutcome}
@@ -242,6 +242,7 @@ pub record Turns : Type 0 where
       ∷ fileOf 1 (free 2) (table (0 ∷ 1 ∷ []) (some 1_000_001 ∷ []) ∷ [])
       ∷ fileOf 1 (free 1) (table (0 ∷ []) (some 1_000_001 ∷ []) ∷ table (1 ∷ []) (zeros 1) ∷ []) ∷ []
       ) ≡ 3 ∷ 4 ∷ 5 ∷ 6 ∷ 6 ∷ 7 ∷ 8 ∷ 9 ∷ 7 ∷ []
+  pub listTenFirst : listOutcome (overOneAndTwo 0) [] [] [] .number ≡ 10
   pub sheetTenFirst : sheetOutcome (overOneAndTwo 0) 5 [] [] [] .number ≡ 10
   pub sheetElevenFirst : sheetOutcome paperFile 1 [] [] [] .number ≡ 11
   pub sheetTwelveFirst : sheetOutcome allForbidden 0 [] [] [] .number ≡ 12
@@ -261,6 +262,7 @@ pub record Turns : Type 0 where
       sheetNumber paperFile 6 3 16_384 ∷ sheetNumber paperFile 5 3 16_384 ∷ sheetNumber paperFile 6 2 16_384 ∷ sheetNumber paperFile 6 3 16_383 ∷ [] ≡ 0 ∷ 12 ∷ 12 ∷ 12 ∷ []
   pub sheetCallAreas :
       sheetCallNumber paperFile 6 24 8 ∷ sheetCallNumber paperFile 5 24 8 ∷ sheetCallNumber paperFile 6 23 8 ∷ sheetCallNumber paperFile 6 24 7 ∷ [] ≡ 0 ∷ 12 ∷ 12 ∷ 12 ∷ []
+  pub lastAllowed : planAllowed (region 1 (patient 0 3 none ∷ []) (table (0 ∷ []) (none ∷ none ∷ some 0 ∷ []) ∷ []) 0) ≡ true
   pub longerWork : listOutcome paperFile (lent 6) (lent 3) (lent 16_390) .work ≡ cleared 16_390
   pub planFits :
       map (λ plan. priceOutcome paperFile plan .number) ((0 ∷ []) ∷ (0 ∷ 0 ∷ 0 ∷ []) ∷ (2 ∷ 0 ∷ []) ∷ (1 ∷ 1 ∷ []) ∷ [])
@@ -271,6 +273,7 @@ pub turns : Turns
 unfolding everything lent cleared zeros
 turns = record {
   askedInOrder = refl;
+  listTenFirst = refl;
   sheetTenFirst = refl;
   sheetElevenFirst = refl;
   sheetTwelveFirst = refl;
@@ -284,6 +287,7 @@ turns = record {
   callAreas = refl;
   sheetAreas = refl;
   sheetCallAreas = refl;
+  lastAllowed = refl;
   longerWork = refl;
   planFits = refl;
   emptyText = refl;
