@@ -31,11 +31,11 @@ rightParents = withThese none (some 0)
 abbrev sumGrows : List ℕ
 sumGrows = fileOf 4 (replicate 6 root) (table (0 ∷ 1 ∷ []) (some 500_000 ∷ []) ∷ table (0 ∷ []) (some 0 ∷ []) ∷ [])
 
--- The parents made of patients 1 and 2 that share a table, neither the other's ancestor.
+-- What is made of a file that check refuses with 10.
 abbrev siblingsMade : List ℕ
 siblingsMade = fileOf 1 (root ∷ root ∷ patient 0 1 (some 1) ∷ []) (table (1 ∷ 2 ∷ []) (some 0 ∷ []) ∷ [])
 
--- One patient who is the parent, with so many beds and a fixed one, and tables.
+-- One patient who is the parent of itself, with so many beds and a fixed one, and tables.
 abbrev ownParent : ℕ → ℕ → List Table → List ℕ
 ownParent d b ts = fileOf 1 (fixed 0 d (some 0) b ∷ []) ts
 
