@@ -1,18 +1,19 @@
 /*
- * Rigbasen: the bed plans of a region. Five calls over one region file, a sixth that makes such a file, a seventh that joins two, and
- * an eighth that fills in parents.
+ * Rigbasen: the bed plans of a region. Six calls over one region file, three that make such a file, and one that tells the version.
  *
  *     rigbasen_check   is the file a good one?
  *     rigbasen_list    its m cheapest plans
  *     rigbasen_sheet   one clinic's part of that list
  *     rigbasen_price   what one plan costs
  *     rigbasen_line    the line of the table over some members
- *     rigbasen_write   the file of a region that the caller holds
+ *     rigbasen_read    the patients, tables and entries of the file, in arrays
+ *     rigbasen_write   the file of such arrays
  *     rigbasen_join    the file of two regions together
  *     rigbasen_parents the same file with its parents made
+ *     rigbasen_version which version of the library is linked
  *
- * Each call gives RIGBASEN_FINE or the number of the first question that is answered "no".
- * Link with libplanner_c.a, on x86-64. C99 or later, and C++.
+ * Each but the last gives RIGBASEN_FINE or the number of the first question that is answered "no"; rigbasen_text has it in words.
+ * Link with librigbasen, on x86-64. C99 or later, and C++.
  */
 #ifndef RIGBASEN_H
 #define RIGBASEN_H
@@ -23,6 +24,10 @@
 #ifdef __cplusplus
 extern "C" {
 #endif
+
+/* The version that this header belongs to; rigbasen_version() gives the number of the library's own. */
+#define RIGBASEN_VERSION "1.8.0"
+#define RIGBASEN_VERSION_NUMBER 1008000 /* major * 1,000,000 + minor * 1,000 + patch */
 
 /* The largest region. */
 #define RIGBASEN_MOST_FILE_BYTES 65535
@@ -47,6 +52,10 @@ extern "C" {
 #define RIGBASEN_WRITE_RESULT_BYTES RIGBASEN_NUMBER_BYTES       /* write: the byte count */
 #define RIGBASEN_JOIN_RESULT_BYTES (2 * RIGBASEN_NUMBER_BYTES)  /* join: the byte count, then which file is refused */
 #define RIGBASEN_PARENTS_RESULT_BYTES RIGBASEN_NUMBER_BYTES     /* parents: the byte count */
+#define RIGBASEN_READ_RESULT_BYTES (4 * RIGBASEN_NUMBER_BYTES)  /* read: V, T, m, then how many entries there are */
+#define RIGBASEN_PATIENTS_BYTES (RIGBASEN_MOST_PATIENTS * 4 * RIGBASEN_NUMBER_BYTES) /* read: the three areas */
+#define RIGBASEN_TABLES_BYTES (RIGBASEN_MOST_TABLES * 6 * RIGBASEN_NUMBER_BYTES)
+#define RIGBASEN_ENTRIES_BYTES (RIGBASEN_MOST_ENTRIES * RIGBASEN_NUMBER_BYTES)
 
 /* Stack that is enough for every call. */
 #define RIGBASEN_STACK_BYTES (128 * 1024)
@@ -67,7 +76,7 @@ enum rigbasen_number {
     RIGBASEN_ENTRIES = 9,        /* is each entry that is a number at most 1,000,000? */
     RIGBASEN_ANCESTORS = 10,     /* of any two members of a table, is one an ancestor of the other? */
     RIGBASEN_NO_SUCH_CLINIC = 11, /* sheet: has the clinic asked for a patient in the file? */
-    RIGBASEN_SHORT_AREA = 12,    /* list, sheet, price: are the lent areas long enough? line, write, join, parents: is the result area? */
+    RIGBASEN_SHORT_AREA = 12,    /* list, sheet, price, read: are the lent areas long enough? line, write, join, parents: is the result area? */
     RIGBASEN_NO_PLAN = 13,       /* list, sheet: is there an allowed plan? */
     RIGBASEN_PLAN_MISFIT = 14,   /* price: are there exactly V beds, each below its patient's count? */
     RIGBASEN_SHORT_OUTPUT = 15,  /* write, join, parents: is the output area long enough? */
@@ -144,7 +153,7 @@ uint64_t rigbasen_line(const uint8_t *file, size_t file_length,
 /* Stands for `-`: a patient without a parent, a patient without a fixed bed, a forbidden entry. */
 #define RIGBASEN_NONE UINT64_MAX
 
-/* A patient and a table as they are lent to write: an array of them is such an area. (x86-64 has the lowest byte first.) */
+/* A patient and a table as read leaves them and write takes them: an array of them is such an area. (x86-64 has the lowest byte first.) */
 struct rigbasen_patient {
     uint64_t clinic;
     uint64_t beds;      /* how many there are */
@@ -154,7 +163,7 @@ struct rigbasen_patient {
 
 struct rigbasen_table {
     uint64_t member_count;
-    uint64_t members[RIGBASEN_MOST_MEMBERS]; /* those past the count are ignored */
+    uint64_t members[RIGBASEN_MOST_MEMBERS]; /* those past the count are ignored by write and left 0 by read */
     uint64_t entry_count;
 };
 
@@ -177,6 +186,26 @@ uint64_t rigbasen_write(const uint8_t *patients, size_t patients_length,
                         const uint8_t *entries, size_t entries_length, uint64_t m,
                         uint8_t *output, size_t output_length,
                         uint8_t *result, size_t result_length);
+
+/*
+ * Reads a file into the arrays that write takes: the mirror of rigbasen_write. Questions 1 to 10, 12.
+ *
+ * Patients, tables and entries stand in file order from the beginning of their areas on, a patient as four numbers of 8 bytes, a table
+ * as six, as in the structures above, an entry as one, or RIGBASEN_NONE. The places of a table past its member count are 0. The
+ * first 8 bytes of result are V, then come T, m and N, 8 bytes each: how many patients, tables, plans wanted and entries there are. So a
+ * program knows how wide a row of the list is, V, and how wide one of a clinic's sheet: as many as patients have that clinic.
+ *
+ * Writing what was read gives the file back, byte for byte: rigbasen_write of the first 32 V bytes of patients, the first 48 T of
+ * tables, the first 8 N of entries, and m. Change a field in between, and it writes the changed file.
+ *
+ * Question 12 asks for at least 32 V bytes of patients, 48 T of tables, 8 N of entries and 32 of result; RIGBASEN_PATIENTS_BYTES,
+ * RIGBASEN_TABLES_BYTES and RIGBASEN_ENTRIES_BYTES suffice for every file.
+ */
+uint64_t rigbasen_read(const uint8_t *file, size_t file_length,
+                       uint8_t *patients, size_t patients_length,
+                       uint8_t *tables, size_t tables_length,
+                       uint8_t *entries, size_t entries_length,
+                       uint8_t *result, size_t result_length);
 
 /* Which file a number of 1 to 10 of join is about. */
 #define RIGBASEN_NEITHER_FILE 0
@@ -229,12 +258,73 @@ uint64_t rigbasen_parents(const uint8_t *file, size_t file_length,
                           uint8_t *output, size_t output_length,
                           uint8_t *result, size_t result_length);
 
+/* The library's own version, as RIGBASEN_VERSION_NUMBER: another than the header's means that the two do not belong together. */
+uint64_t rigbasen_version(void);
+
+/* ---- What every caller needs, in C; nothing below is proved. */
+
+/* Number i of a lent area. */
+static inline uint64_t rigbasen_number_at(const uint8_t *area, size_t i)
+{
+    uint64_t number = 0;
+    for (size_t j = RIGBASEN_NUMBER_BYTES; j > 0; j--) {
+        number = number * 256 + area[i * RIGBASEN_NUMBER_BYTES + j - 1];
+    }
+    return number;
+}
+
+/* What a number means, in words for a ward; a null pointer for a number that this header does not know. */
+static inline const char *rigbasen_text(uint64_t number)
+{
+    switch (number) {
+    case RIGBASEN_FINE:
+        return "fine";
+    case RIGBASEN_TOO_LONG:
+        return "the file is longer than 65,535 bytes";
+    case RIGBASEN_LAYOUT:
+        return "the file is not laid out as a region file; it may be cut short, or of the old form without fixed beds";
+    case RIGBASEN_COUNTS:
+        return "the patient lines or table lines are not as many as the first line says";
+    case RIGBASEN_SUM:
+        return "the sum in the end line is wrong; the file was damaged";
+    case RIGBASEN_LIMITS:
+        return "the number of patients, of tables or of plans wanted is out of range";
+    case RIGBASEN_PATIENTS:
+        return "a patient's clinic, bed count, parent or fixed bed is out of range";
+    case RIGBASEN_MEMBERS:
+        return "a table's members are too many, unknown or not in rising order";
+    case RIGBASEN_ENTRY_COUNTS:
+        return "a table has too few or too many entries, or all tables together have more than 4,096";
+    case RIGBASEN_ENTRIES:
+        return "an entry is above 1,000,000";
+    case RIGBASEN_ANCESTORS:
+        return "a table joins two patients of whom neither is an ancestor of the other";
+    case RIGBASEN_NO_SUCH_CLINIC:
+        return "the clinic has no patient in the file";
+    case RIGBASEN_SHORT_AREA:
+        return "a lent area is too short";
+    case RIGBASEN_NO_PLAN:
+        return "there is no allowed plan";
+    case RIGBASEN_PLAN_MISFIT:
+        return "the plan has not one bed for each patient, each below its patient's count";
+    case RIGBASEN_SHORT_OUTPUT:
+        return "the area for the file is too short";
+    case RIGBASEN_COMMON_CLINIC:
+        return "the two files have a clinic in common; in one of them it must get another number first";
+    case RIGBASEN_JOINED_SIZE:
+        return "together the two files have more than 32 patients, 64 tables or 4,096 entries";
+    case RIGBASEN_TYPED_MEMBERS:
+        return "what was typed is no member list; one is typed as it stands in the file, such as (0 1)";
+    }
+    return NULL;
+}
+
 /*
  * What is proved, for every file, clinic number, plan, typed text, lent region and areas of any length:
  * the call comes back, its number is the first "no", and every byte of every lent area afterwards is the one described here.
- * On a refusal beds, costs and output are untouched, and a result area that is long enough gets zeros, but for which file join refuses;
- * a shorter one is untouched.
- * Bytes beyond the rows, the written file and the result's numbers are untouched. No call depends on an earlier one.
+ * On a refusal beds, costs, output and read's three areas are untouched, and a result area that is long enough gets zeros, but for which
+ * file join refuses; a shorter one is untouched.
+ * Bytes beyond the rows, the written file, what is read and the result's numbers are untouched. No call depends on an earlier one.
  *
  * What the caller sees to:
  * - Each pointer points to as many bytes as its length says, readable, and writable where it is not const.
