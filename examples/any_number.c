@@ -1,5 +1,5 @@
 /*
- * Stands in for the library, to see what a program says of a number: every call gives the one in the variable NUMBER,
+ * Stands in for the library, to see what a program says of a number: every call of a file gives the one in the variable NUMBER,
  * and join names the file of the variable WHICH: 1, 2, or neither.
  */
 #include <stdlib.h>
@@ -72,4 +72,19 @@ uint64_t rigbasen_parents(const uint8_t *file, size_t file_length, uint8_t *outp
     (void)file, (void)file_length, (void)output, (void)output_length;
     memset(result, 0, result_length);
     return number();
+}
+
+uint64_t rigbasen_read(const uint8_t *file, size_t file_length, uint8_t *patients, size_t patients_length,
+                       uint8_t *tables, size_t tables_length, uint8_t *entries, size_t entries_length,
+                       uint8_t *result, size_t result_length)
+{
+    (void)file, (void)file_length, (void)patients, (void)patients_length;
+    (void)tables, (void)tables_length, (void)entries, (void)entries_length;
+    memset(result, 0, result_length);
+    return number();
+}
+
+uint64_t rigbasen_version(void)
+{
+    return RIGBASEN_VERSION_NUMBER;
 }

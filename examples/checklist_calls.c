@@ -68,7 +68,7 @@ static int named_clean(const struct region_file *first, const struct region_file
     uint64_t number = rigbasen_join(first->bytes, first->length, second->bytes, second->length,
                                     output, sizeof output, result, sizeof result);
     return number != RIGBASEN_FINE && all(output, sizeof output, PATTERN)
-        && number_at(result) == 0 && number_at(result + RIGBASEN_NUMBER_BYTES) == named;
+        && rigbasen_number_at(result, 0) == 0 && rigbasen_number_at(result, 1) == named;
 }
 
 /* Does parents refuse the file itself, and write nothing? */
@@ -117,10 +117,10 @@ static int try_cuts(const struct region_file *file)
 
 static void print_rows(const struct areas *areas, size_t width)
 {
-    uint64_t rows = number_at(areas->result);
+    uint64_t rows = rigbasen_number_at(areas->result, 0);
     printf("%" PRIu64 ")\n", rows);
     for (uint64_t r = 0; r < rows; r++) {
-        printf("(row %" PRIu64 " (", number_at(areas->costs + r * RIGBASEN_NUMBER_BYTES));
+        printf("(row %" PRIu64 " (", rigbasen_number_at(areas->costs, (size_t)r));
         for (size_t i = 0; i < width; i++) {
             printf(i == 0 ? "%d" : " %d", areas->beds[r * width + i]);
         }
@@ -164,10 +164,10 @@ static int print_price(const struct region_file *file, int count, char **beds)
     uint64_t number = rigbasen_price(file->bytes, file->length, plan, (size_t)count, result, sizeof result);
     if (number != RIGBASEN_FINE) {
         printf("refused %" PRIu64 "\n", number);
-    } else if (number_at(result) == 0) {
+    } else if (rigbasen_number_at(result, 0) == 0) {
         printf("forbidden\n");
     } else {
-        printf("%" PRIu64 "\n", number_at(result + RIGBASEN_NUMBER_BYTES));
+        printf("%" PRIu64 "\n", rigbasen_number_at(result, 1));
     }
     return 0;
 }

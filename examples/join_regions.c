@@ -34,7 +34,7 @@ int main(int count, char **arguments)
     read_region(arguments[2], &files[1]);
     uint64_t number = join_files(&files[0], &files[1], &joined, result);
     if (number != RIGBASEN_FINE) {
-        say_refusal(number, number_at(result + RIGBASEN_NUMBER_BYTES), arguments + 1);
+        say_refusal(number, rigbasen_number_at(result, 1), arguments + 1);
         return 1;
     }
     if (fwrite(joined.bytes, 1, joined.length, stdout) != joined.length || fflush(stdout) != 0) {

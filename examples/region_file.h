@@ -1,4 +1,4 @@
-/* What the programs here share: reading a region file, and what its lines say of rows. */
+/* What the programs here share: reading a region file, its arrays, and the calls with areas of the largest region. */
 #ifndef REGION_FILE_H
 #define REGION_FILE_H
 
@@ -38,42 +38,61 @@ static inline void read_region(const char *name, struct region_file *file)
     fclose(stream);
 }
 
-/* The number in eight bytes, lowest byte first. */
-static inline uint64_t number_at(const uint8_t *bytes)
+/* A region in arrays, long enough for every region, and how much of each is used. */
+struct region_arrays {
+    struct rigbasen_patient patients[RIGBASEN_MOST_PATIENTS];
+    struct rigbasen_table tables[RIGBASEN_MOST_TABLES];
+    uint64_t entries[RIGBASEN_MOST_ENTRIES];
+    size_t patient_count;
+    size_t table_count;
+    size_t entry_count;
+    uint64_t m;
+};
+
+/* A file into arrays. On a refusal all counts are 0. */
+static inline uint64_t read_arrays(const struct region_file *file, struct region_arrays *region)
 {
-    uint64_t number = 0;
-    for (int i = RIGBASEN_NUMBER_BYTES - 1; i >= 0; i--) {
-        number = number * 256 + bytes[i];
-    }
+    uint8_t result[RIGBASEN_READ_RESULT_BYTES];
+    uint64_t number = rigbasen_read(file->bytes, file->length, (uint8_t *)region->patients, sizeof region->patients,
+                                    (uint8_t *)region->tables, sizeof region->tables,
+                                    (uint8_t *)region->entries, sizeof region->entries, result, sizeof result);
+    region->patient_count = (size_t)rigbasen_number_at(result, 0);
+    region->table_count = (size_t)rigbasen_number_at(result, 1);
+    region->m = rigbasen_number_at(result, 2);
+    region->entry_count = (size_t)rigbasen_number_at(result, 3);
     return number;
 }
 
-/* How many lines of a file begin with this text. In an accepted file each line has one spelling. */
-static inline size_t lines_with(const struct region_file *file, const char *text)
+/* Arrays into a file. On a refusal it has no bytes. */
+static inline uint64_t write_arrays(const struct region_arrays *region, struct region_file *file)
 {
-    size_t count = 0;
-    size_t length = strlen(text);
-    for (size_t at = 0; at + length <= file->length; at++) {
-        int starts = at == 0 || file->bytes[at - 1] == '\n';
-        if (starts && memcmp(file->bytes + at, text, length) == 0) {
-            count++;
-        }
-    }
-    return count;
+    uint8_t result[RIGBASEN_WRITE_RESULT_BYTES];
+    uint64_t number = rigbasen_write((const uint8_t *)region->patients, region->patient_count * sizeof region->patients[0],
+                                     (const uint8_t *)region->tables, region->table_count * sizeof region->tables[0],
+                                     (const uint8_t *)region->entries, region->entry_count * sizeof region->entries[0], region->m,
+                                     file->bytes, RIGBASEN_WRITTEN_BYTES, result, sizeof result);
+    file->length = (size_t)rigbasen_number_at(result, 0);
+    return number;
 }
 
-/* V: how many beds a row of the list has. */
+/* V: how many beds a row of the list has. 0 where the file is refused. */
 static inline size_t patients_of_region(const struct region_file *file)
 {
-    return lines_with(file, "(patient ");
+    static struct region_arrays region;
+    read_arrays(file, &region);
+    return region.patient_count;
 }
 
-/* k: how many beds a row of the clinic's sheet has. */
+/* k: how many beds a row of the clinic's sheet has. 0 where the file is refused. */
 static inline size_t patients_of_clinic(const struct region_file *file, uint64_t clinic)
 {
-    char text[40];
-    snprintf(text, sizeof text, "(patient %llu ", (unsigned long long)clinic);
-    return lines_with(file, text);
+    static struct region_arrays region;
+    size_t count = 0;
+    read_arrays(file, &region);
+    for (size_t i = 0; i < region.patient_count; i++) {
+        count += region.patients[i].clinic == clinic;
+    }
+    return count;
 }
 
 /* The calls, with the areas of the largest region. */
@@ -101,7 +120,7 @@ static inline uint64_t join_files(const struct region_file *first, const struct 
 {
     uint64_t number = rigbasen_join(first->bytes, first->length, second->bytes, second->length,
                                     joined->bytes, RIGBASEN_WRITTEN_BYTES, result, RIGBASEN_JOIN_RESULT_BYTES);
-    joined->length = (size_t)number_at(result);
+    joined->length = (size_t)rigbasen_number_at(result, 0);
     return number;
 }
 
@@ -110,7 +129,7 @@ static inline uint64_t make_parents(const struct region_file *file, struct regio
 {
     uint8_t result[RIGBASEN_PARENTS_RESULT_BYTES];
     uint64_t number = rigbasen_parents(file->bytes, file->length, made->bytes, RIGBASEN_WRITTEN_BYTES, result, sizeof result);
-    made->length = (size_t)number_at(result);
+    made->length = (size_t)rigbasen_number_at(result, 0);
     return number;
 }
 

@@ -1,5 +1,6 @@
 /*
  * A settings page in small: it holds a ward in arrays, saves it as a region file, and shows that file and its plans.
+ * It opens the saved file, saves it unchanged, which gives the same bytes, and then with another price.
  * Then it makes mistakes, and says in words why each is not saved. Ends with 1 where a call answers something else.
  */
 #include <inttypes.h>
@@ -35,7 +36,7 @@ static uint64_t save(const struct ward *ward, struct region_file *file, size_t r
                                      (const uint8_t *)ward->tables, sizeof ward->tables,
                                      (const uint8_t *)ward->entries, sizeof ward->entries, ward->m,
                                      file->bytes, room, result, sizeof result);
-    file->length = (size_t)number_at(result);
+    file->length = (size_t)rigbasen_number_at(result, 0);
     return number;
 }
 
@@ -72,21 +73,56 @@ static int show_mistakes(size_t needed)
     return wrong;
 }
 
+/* A file as it was written, and its plans; 1 where it is refused. */
+static int show_file(const struct region_file *file)
+{
+    static struct areas areas;
+    printf("%zu bytes:\n%.*s", file->length, (int)file->length, (const char *)file->bytes);
+    if (rigbasen_check(file->bytes, file->length) != RIGBASEN_FINE || list_region(file, &areas) != RIGBASEN_FINE) {
+        printf("the file is refused\n");
+        return 1;
+    }
+    printf("list: ");
+    show_rows(&areas, patients_of_region(file));
+    return 0;
+}
+
+/* Opens a saved file, changes the first price of its first table, and saves it again; 1 where a call refuses. */
+static int change_price(const struct region_file *file, uint64_t price)
+{
+    static struct region_arrays region;
+    static struct region_file again;
+    uint64_t number = read_arrays(file, &region);
+    if (number != RIGBASEN_FINE) {
+        printf("not opened, %" PRIu64 ": %s\n", number, meaning(number));
+        return 1;
+    }
+    printf("opened: %zu patients, %zu tables, %zu entries, %" PRIu64 " plans wanted\n",
+           region.patient_count, region.table_count, region.entry_count, region.m);
+    if (write_arrays(&region, &again) != RIGBASEN_FINE || again.length != file->length
+        || memcmp(again.bytes, file->bytes, file->length) != 0) {
+        printf("saved unchanged, it is another file\n");
+        return 1;
+    }
+    printf("bed 0 of patient %" PRIu64 " at %" PRIu64 " instead of %" PRIu64 ", saved again, ",
+           region.tables[0].members[0], price, region.entries[0]);
+    region.entries[0] = price;
+    number = write_arrays(&region, &again);
+    if (number != RIGBASEN_FINE) {
+        printf("not saved, %" PRIu64 ": %s\n", number, why(number));
+        return 1;
+    }
+    return show_file(&again);
+}
+
 int main(void)
 {
     static struct region_file file;
-    static struct areas areas;
     uint64_t number = save(&three_patients, &file, RIGBASEN_WRITTEN_BYTES);
     if (number != RIGBASEN_FINE) {
         printf("not saved, %" PRIu64 ": %s\n", number, why(number));
         return 1;
     }
-    printf("saved, %zu bytes:\n%.*s", file.length, (int)file.length, (const char *)file.bytes);
-    if (rigbasen_check(file.bytes, file.length) != RIGBASEN_FINE || list_region(&file, &areas) != RIGBASEN_FINE) {
-        printf("the saved file is refused\n");
-        return 1;
-    }
-    printf("list: ");
-    show_rows(&areas, PATIENTS);
-    return show_mistakes(file.length) == 0 ? 0 : 1;
+    printf("saved, ");
+    return show_file(&file) == 0 && change_price(&file, 0) == 0 && show_mistakes(file.length) == 0 ? 0 : 1;
 }

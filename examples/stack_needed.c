@@ -16,6 +16,8 @@ static struct region_file file;
 static struct region_file halves[2];
 static struct region_file written;
 static struct areas areas;
+static struct region_arrays region; /* what the file holds */
+static struct region_arrays arrays;
 
 static void *run_nothing(void *unused)
 {
@@ -34,14 +36,10 @@ static void *run_list(void *unused)
     return unused;
 }
 
-/* For the first clinic that has patients. */
+/* For the first patient's clinic. */
 static void *run_sheet(void *unused)
 {
-    uint64_t clinic = 0;
-    while (clinic + 1 < RIGBASEN_MOST_CLINICS && patients_of_clinic(&file, clinic) == 0) {
-        clinic++;
-    }
-    sheet_of_clinic(&file, clinic, &areas);
+    sheet_of_clinic(&file, region.patients[0].clinic, &areas);
     return unused;
 }
 
@@ -50,7 +48,7 @@ static void *run_price(void *unused)
 {
     static const uint8_t plan[RIGBASEN_MOST_PATIENTS] = {0};
     static uint8_t result[RIGBASEN_PRICE_RESULT_BYTES];
-    rigbasen_price(file.bytes, file.length, plan, patients_of_region(&file), result, sizeof result);
+    rigbasen_price(file.bytes, file.length, plan, region.patient_count, result, sizeof result);
     return unused;
 }
 
@@ -65,24 +63,20 @@ static void *run_line(void *unused)
 /* Writes a region: patients in a chain, two of a clinic, each with a fixed bed, and tables over two of them with 64 entries each. */
 static void write_chain(uint64_t first_clinic, size_t patient_count, size_t table_count, struct region_file *into)
 {
-    static struct rigbasen_patient patients[RIGBASEN_MOST_PATIENTS];
-    static struct rigbasen_table tables[RIGBASEN_MOST_TABLES];
-    static uint64_t entries[RIGBASEN_MOST_ENTRIES];
-    static uint8_t result[RIGBASEN_WRITE_RESULT_BYTES];
+    static struct region_arrays chain;
     for (uint64_t i = 0; i < patient_count; i++) {
         struct rigbasen_patient patient = {first_clinic + i / 2, 8, i == 0 ? RIGBASEN_NONE : i - 1, i % 8};
-        patients[i] = patient;
+        chain.patients[i] = patient;
     }
     for (uint64_t i = 0; i < table_count; i++) {
         struct rigbasen_table table = {2, {i / 3, i / 3 + 1, 0, 0}, 64};
-        tables[i] = table;
+        chain.tables[i] = table;
     }
-    uint64_t number = rigbasen_write((const uint8_t *)patients, patient_count * sizeof patients[0],
-                                     (const uint8_t *)tables, table_count * sizeof tables[0],
-                                     (const uint8_t *)entries, table_count * 64 * sizeof entries[0], RIGBASEN_MOST_ROWS,
-                                     into->bytes, RIGBASEN_WRITTEN_BYTES, result, sizeof result);
-    into->length = (size_t)number_at(result);
-    if (number != RIGBASEN_FINE) {
+    chain.patient_count = patient_count;
+    chain.table_count = table_count;
+    chain.entry_count = table_count * 64;
+    chain.m = RIGBASEN_MOST_ROWS;
+    if (write_arrays(&chain, into) != RIGBASEN_FINE) {
         fprintf(stderr, "write refused a large region\n");
         exit(2);
     }
@@ -112,6 +106,12 @@ static void *run_parents(void *unused)
     return unused;
 }
 
+static void *run_read(void *unused)
+{
+    read_arrays(&file, &arrays);
+    return unused;
+}
+
 /* How many bytes of its stack a thread changed that runs this. */
 static size_t stack_of(void *(*run)(void *))
 {
@@ -136,8 +136,9 @@ static size_t stack_of(void *(*run)(void *))
 
 int main(int count, char **arguments)
 {
-    static const char *const names[] = {"check", "list", "sheet", "price", "line", "write", "join", "parents"};
-    static void *(*const calls[])(void *) = {run_check, run_list, run_sheet, run_price, run_line, run_write, run_join, run_parents};
+    static const char *const names[] = {"check", "list", "sheet", "price", "line", "write", "join", "parents", "read"};
+    static void *(*const calls[])(void *) = {run_check, run_list, run_sheet, run_price, run_line, run_write, run_join, run_parents,
+                                             run_read};
     enum { CALLS = sizeof calls / sizeof calls[0] };
     size_t most[CALLS] = {0};
     int over = 0;
@@ -150,6 +151,7 @@ int main(int count, char **arguments)
     }
     for (int i = 1; i < count; i++) {
         read_region(arguments[i], &file);
+        read_arrays(&file, &region);
         size_t own = stack_of(run_nothing);
         for (int call = 0; call < CALLS; call++) {
             size_t taken = stack_of(calls[call]) - own;

@@ -58,8 +58,8 @@ static void show_price(const struct region_file *file, const uint8_t *plan, size
     if (refused("price", rigbasen_price(file->bytes, file->length, plan, count, result, sizeof result))) {
         return;
     }
-    if (number_at(result) == 1) {
-        printf("price: %" PRIu64 " for beds", number_at(result + RIGBASEN_NUMBER_BYTES));
+    if (rigbasen_number_at(result, 0) == 1) {
+        printf("price: %" PRIu64 " for beds", rigbasen_number_at(result, 1));
     } else {
         printf("price: not allowed, beds");
     }
@@ -73,8 +73,8 @@ static void show_line(const struct region_file *file, const char *typed)
     if (refused("line", line_over(file, typed, result))) {
         return;
     }
-    const uint8_t *line = file->bytes + number_at(result);
-    uint64_t length = number_at(result + RIGBASEN_NUMBER_BYTES);
+    const uint8_t *line = file->bytes + rigbasen_number_at(result, 0);
+    uint64_t length = rigbasen_number_at(result, 1);
     if (length == 0) {
         printf("line: no table is over %s\n", typed);
     } else {
