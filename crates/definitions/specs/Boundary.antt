@@ -1,10 +1,10 @@
 -- The calls from C: only numbers and byte areas. Each cost, and each result number beyond the first, is eight bytes.
 use Rattle.definitions.specs.Basics.{ℕ, zero, suc, _+_, _-_, _*_, _/_, _%_, _^_, Bool, _&&_, cond, Option, none, some, List, [], _∷_}
-use Rattle.definitions.specs.Basics.{map, length, take, drop, eqb, leb, below, sum}
+use Rattle.definitions.specs.Basics.{_++_, map, flatMap, length, getD, take, drop, eqb, leb, below, sum}
 use Rattle.definitions.specs.Syntax.{Patient, Table, Region}
 use Rattle.definitions.specs.Plans.{Plan}
-use Rattle.definitions.specs.Questions.{Asks, callAsks, regionOf, roomForRows, checkOf, askedByList, askedBySheet, askedByPrice}
-use Rattle.definitions.specs.Outcomes.{Found, listFound, sheetFound, written, bedsAfter, costsAfter, PriceOutcome, priceFound}
+use Rattle.definitions.specs.Questions.{entriesOf, firstNo, Asks, callAsks, regionOf, roomForRows, askedByCheck, checkOf, askedByList, askedBySheet, askedByPrice}
+use Rattle.definitions.specs.Outcomes.{Found, unlessRefused, listFound, sheetFound, written, bedsAfter, costsAfter, PriceOutcome, priceFound}
 use Rattle.definitions.specs.Writer.{regionFrom, writtenFile, askedByWrite, Made, madeBy, outputAfter}
 use Rattle.definitions.specs.Joining.{WhichFile, neitherFile, firstFile, secondFile, refusedFile, askedByJoin, joinMade}
 use Rattle.definitions.specs.Parents.{parentsFile, askedByParents}
@@ -19,9 +19,12 @@ bytesOf (suc k) n = n % 256 ∷ bytesOf k (n / 256)
 abbrev pub roomForNumbers : ℕ → List ℕ → Bool
 roomForNumbers count result = leb (count * 8) (length result)
 
--- A result area after numbers are written to it; a shorter one is untouched.
+-- An area after numbers are written to it, from its beginning on; a result area, which is untouched where it is shorter.
+abbrev pub numbersAfter : List ℕ → List ℕ → List ℕ
+numbersAfter numbers area = written 0 8 (bytesOf 8) numbers area
+
 unfoldable pub resultAfter : List ℕ → List ℕ → List ℕ
-resultAfter numbers result = cond (roomForNumbers (length numbers) result) (written 0 8 (bytesOf 8) numbers result) result
+resultAfter numbers result = cond (roomForNumbers (length numbers) result) (numbersAfter numbers result) result
 
 -- What list and sheet give back: the number, and the lent areas. The result area holds the row count.
 pub record ListCall : Type 0 where
@@ -170,3 +173,61 @@ joinCall f g output result =
 
 unfoldable pub parentsCall : List ℕ → List ℕ → List ℕ → WriteCall
 parentsCall file output result = writeCallOf (madeBy (callAsks (askedByParents file output) (roomForNumbers 1 result)) (parentsFile file)) [] output result
+
+-- ---- the call of read: what a file says, in the three areas that the writer's call takes
+
+-- A number or none, as one number; the four numbers of a patient; the six of a table, with 0 where there is no member; those of its entries.
+abbrev pub optionNumber : Option ℕ → ℕ
+optionNumber none = 2 ^ 64 - 1
+optionNumber (some n) = n
+
+abbrev pub numbersOfPatient : Patient → List ℕ
+numbersOfPatient p = p .clinic ∷ p .bedCount ∷ optionNumber (p .parent) ∷ optionNumber (p .fixedBed) ∷ []
+
+abbrev pub numbersOfTable : Table → List ℕ
+numbersOfTable t = length (t .members) ∷ (map (λ j. getD (t .members) j 0) (below 4) ++ length (t .entries) ∷ [])
+
+abbrev pub numbersOfEntries : Table → List ℕ
+numbersOfEntries t = map optionNumber (t .entries)
+
+-- 12, of read: has each of the three areas room for what the file says?
+unfoldable pub roomForRegion : Region → List ℕ → List ℕ → List ℕ → Bool
+roomForRegion r patients tables entries =
+    leb (r .patientCount * 32) (length patients) && leb (r .tableCount * 48) (length tables) && leb (entriesOf (r .tables) * 8) (length entries)
+
+-- The call asks 1 to 10, then 12.
+unfoldable pub askedByRead : List ℕ → List ℕ → List ℕ → List ℕ → Asks
+askedByRead file patients tables entries =
+    record { first = askedByCheck file; later = (12, roomForRegion (regionOf file) patients tables entries) ∷ [] }
+
+-- What it gives back: the number, and the lent areas.
+pub record ReadCall : Type 0 where
+  pub number : ℕ
+  pub patients : List ℕ
+  pub tables : List ℕ
+  pub entries : List ℕ
+  pub result : List ℕ
+
+-- The result area holds V, T, m and how many entries there are; zeros on a refusal.
+abbrev pub countsRead : ℕ → Region → List ℕ
+countsRead zero r = r .patientCount ∷ r .tableCount ∷ r .plansWanted ∷ entriesOf (r .tables) ∷ []
+countsRead (suc q) r = 0 ∷ 0 ∷ 0 ∷ 0 ∷ []
+
+unfoldable pub readCallOf : ℕ → Region → List ℕ → List ℕ → List ℕ → List ℕ → ReadCall
+readCallOf number r patients tables entries result = record {
+  number = number;
+  patients = numbersAfter (unlessRefused number (flatMap numbersOfPatient (r .patients))) patients;
+  tables = numbersAfter (unlessRefused number (flatMap numbersOfTable (r .tables))) tables;
+  entries = numbersAfter (unlessRefused number (flatMap numbersOfEntries (r .tables))) entries;
+  result = resultAfter (countsRead number r) result;
+}
+
+unfoldable pub readCall : List ℕ → List ℕ → List ℕ → List ℕ → List ℕ → ReadCall
+readCall file patients tables entries result =
+    let asked = callAsks (askedByRead file patients tables entries) (roomForNumbers 4 result) in
+    readCallOf (firstNo asked) (regionOf file) patients tables entries result
+
+-- ---- the version of the library: 1.8.0, as major × 1,000,000 + minor × 1,000 + patch
+
+abbrev pub versionNumber : ℕ
+versionNumber = 1_008_000

@@ -16,7 +16,7 @@ use Rattle.definitions.specs.Lookup.{typedRight, typedMembers, isOver, l
 use Rattle.definitions.specs.Joining.{joinedRegion, joinedFile, clinicsApart, joinWithin, askedByJoin, refusedFile, joinOutcome, firstPairs}
 use Rattle.definitions.specs.Parents.{earlierNeighbours, parentsFrom, withParents, parentsFile, askedByParents, parentsOutcome}
 use Rattle.definitions.specs.Boundary.{resultAfter, callOf, listCall, sheetCall, priceCallOf, priceCall}
-use Rattle.definitions.specs.Boundary.{lentPatients, lentTables, lentRegion, lentWhole, askedByLentWrite, writeCallOf, writeCall, lineCallOf, lineCall, joinCall, parentsCall}
+use Rattle.definitions.specs.Boundary.{lentPatients, lentTables, lentRegion, lentWhole, askedByLentWrite, writeCallOf, writeCall, lineCallOf, lineCall, joinCall, parentsCall, roomForRegion, askedByRead, readCallOf, readCall}
 use Rattle.definitions.specs.Output.{printedRow, printedRows, clinicsPresent, printed}
 
 -- The file and its spelling; plans and questions; sheets, what the entries give and what is printed; what the requests add.
@@ -33,7 +33,7 @@ unfolding part ownTables ownCost ownRow sheetOf isAmong tablesAmong timesIn join
 answers = tt
 
 unfoldable pub requested : Unit {0}
-unfolding regionFrom asHeld writtenFile roomForFile askedByWrite writeOutcomeOf writeOutcome lentPatients lentTables lentRegion lentWhole askedByLentWrite writeCallOf writeCall typedRight typedMembers isOver lineOver askedByLine lineFound lineOutcome lineCallOf lineCall joinedRegion joinedFile clinicsApart joinWithin askedByJoin refusedFile joinOutcome firstPairs joinCall earlierNeighbours parentsFrom withParents parentsFile askedByParents parentsOutcome parentsCall
+unfolding regionFrom asHeld writtenFile roomForFile askedByWrite writeOutcomeOf writeOutcome lentPatients lentTables lentRegion lentWhole askedByLentWrite writeCallOf writeCall typedRight typedMembers isOver lineOver askedByLine lineFound lineOutcome lineCallOf lineCall joinedRegion joinedFile clinicsApart joinWithin askedByJoin refusedFile joinOutcome firstPairs joinCall earlierNeighbours parentsFrom withParents parentsFile askedByParents parentsOutcome parentsCall roomForRegion askedByRead readCallOf readCall
 requested = tt
 
 unfoldable pub everything : Unit {0}

@@ -22,3 +22,4 @@ pub mod Cases
 pub mod Edges
 pub mod Requests
 pub mod ParentCases
+pub mod ReadCases

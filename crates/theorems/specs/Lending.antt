@@ -12,7 +12,7 @@ use Rattle.definitions.specs.Syntax.{Patient, Table, Region}
 use Rattle.definitions.specs.Limits.{clinic, bedCount, entry, limits, within}
 use Rattle.definitions.specs.Writer.{regionFrom, asHeld}
 use Rattle.definitions.specs.Boundary.{bytesOf, valueOf, numberAt, optionAt, lentPatient, lentPatients, lentTableCount, lentMembers, lentEntryCount}
-use Rattle.definitions.specs.Boundary.{lentEntriesBefore, lentTable, lentTables, lentRegion, lentWhole}
+use Rattle.definitions.specs.Boundary.{lentEntriesBefore, lentTable, lentTables, lentRegion, lentWhole, optionNumber, numbersOfPatient, numbersOfTable, numbersOfEntries}
 use Rattle.lists.specs.Tests.{both, join}
 use Rattle.lists.specs.Members.{_∈_}
 use Rattle.lists.specs.Every.{every-in, every-all, every-at, every-map, every-weaken, every-flatMap}
@@ -24,18 +24,7 @@ use Rattle.theorems.specs.Writer.{Passes, passes-accepted, none-or}
 
 -- ---- how a region is lent
 
--- The one number that stands for none.
-abbrev pub optionNumber : Option ℕ → ℕ
-optionNumber none = 2 ^ 64 - 1
-optionNumber (some n) = n
-
--- A patient's four numbers; a table's six, with 0 where there is no member; and in eight bytes each, those of all patients, tables and entries.
-abbrev pub numbersOfPatient : Patient → List ℕ
-numbersOfPatient p = p .clinic ∷ p .bedCount ∷ optionNumber (p .parent) ∷ optionNumber (p .fixedBed) ∷ []
-
-abbrev pub numbersOfTable : Table → List ℕ
-numbersOfTable t = length (t .members) ∷ (map (λ j. getD (t .members) j 0) (below 4) ++ length (t .entries) ∷ [])
-
+-- Numbers in eight bytes each; those of all patients, tables and entries.
 abbrev pub area : List ℕ → List ℕ
 area ns = flatMap (bytesOf 8) ns
 
@@ -46,7 +35,7 @@ abbrev pub lendTables : List Table → List ℕ
 lendTables ts = area (flatMap numbersOfTable ts)
 
 abbrev pub lendEntries : List Table → List ℕ
-lendEntries ts = area (flatMap (λ t. map optionNumber (t .entries)) ts)
+lendEntries ts = area (flatMap numbersOfEntries ts)
 
 -- What goes into eight bytes; what is lent as it is: numbers of that size, none of which stands for none, and at most four members a table.
 abbrev pub inEight : ℕ → Bool
@@ -71,11 +60,11 @@ bytes-long : (k n : ℕ) → length (bytesOf k n) ≡ k
 bytes-long zero n = refl
 bytes-long (suc k) n = ap suc (bytes-long k (n / 256))
 
-area-long : (ns : List ℕ) → length (area ns) ≡ length ns * 8
+pub area-long : (ns : List ℕ) → length (area ns) ≡ length ns * 8
 area-long ns = wide-long (bytesOf 8) 0 8 (bytes-long 8) ns
 
 -- Number i of an area is number i of those that it holds.
-number-in : (ns : List ℕ) (i : ℕ) → every inEight ns ≡ true → i < length ns → numberAt (area ns) i ≡ getD ns i 0
+pub number-in : (ns : List ℕ) (i : ℕ) → every inEight ns ≡ true → i < length ns → numberAt (area ns) i ≡ getD ns i 0
 unfolding flatMap
 number-in [] i all h = absurd (omega arith)
 number-in (n ∷ ns) zero all h =
@@ -96,7 +85,7 @@ option-back (some n) h = ap (λ b. cond b none (some n)) (ne-eqb n (2 ^ 64 - 1) 
 
 -- ---- patients
 
-nobody : Patient
+pub nobody : Patient
 nobody = record { clinic = 0; bedCount = 0; parent = none; fixedBed = none }
 
 module _ (ps : List Patient) (fits : every patientLendable ps ≡ true) where
@@ -142,10 +131,10 @@ module _ (ps : List Patient) (fits : every patientLendable ps ≡ true) where
 
 -- ---- tables
 
-noTable : Table
+pub noTable : Table
 noTable = record { members = []; entries = [] }
 
-table-wide : (t : Table) → length (numbersOfTable t) ≡ 6
+pub table-wide : (t : Table) → length (numbersOfTable t) ≡ 6
 table-wide t = refl
 
 module _ (ts : List Table) (fits : every tableLendable ts ≡ true) where
@@ -204,9 +193,6 @@ module _ (ts : List Table) (fits : every tableLendable ts ≡ true) where
       (λ j l. table-number i (suc j) h (omega arith) ∙ List·getD-append (map place (below 4)) (length (at i .entries) ∷ []) 0 j (omega arith) ∙ at-place place 0 4 j (omega arith))
 
   -- ---- their entries
-
-  abbrev numbersOfEntries : Table → List ℕ
-  numbersOfEntries t = map optionNumber (t .entries)
 
   entries-before : (i : ℕ) → i ≤ length ts → lentEntriesBefore (lendTables ts) i ≡ beginning numbersOfEntries noTable ts i
   entries-before i h =

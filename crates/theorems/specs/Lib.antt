@@ -33,5 +33,6 @@ pub mod PlanAllowed
 pub mod Lengths
 pub mod Writer
 pub mod Lending
+pub mod Reading
 pub mod Lookup
 pub mod EntryPlaces

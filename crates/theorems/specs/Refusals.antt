@@ -19,7 +19,7 @@ use Rattle.definitions.specs.Joining.{askedByJoin}
 use Rattle.definitions.specs.Parents.{askedByParents}
 use Rattle.definitions.specs.Lookup.{lineOver, askedByLine, partUnlessRefused, lineFound, lineOutcome}
 use Rattle.definitions.specs.Boundary.{bytesOf, roomForNumbers, resultAfter, ListCall, callOf, checkCall, listCall, sheetCall, priceCallOf, priceCall}
-use Rattle.definitions.specs.Boundary.{askedByLentWrite, lineCallOf, lineCall}
+use Rattle.definitions.specs.Boundary.{askedByLentWrite, lineCallOf, lineCall, askedByRead}
 use Rattle.definitions.specs.Isolation.{yieldNumber}
 use Rattle.theorems.specs.Answers.{numbers, Numbered, Says, says, yes-then, no-then}
 use Rattle.theorems.specs.Writing.{written-is}
@@ -54,13 +54,15 @@ pub record EachAsks : Type 0 where
   pub lineFromC : (file typed : List ℕ) (room : Bool) → numbers (callAsks (askedByLine file typed) room) ≡ oneToTen ++ 12 ∷ 21 ∷ []
   pub joinFromC : (f g output : List ℕ) (room : Bool) → numbers (callAsks (askedByJoin f g output) room) ≡ oneToTen ++ oneToTen ++ 12 ∷ 16 ∷ 17 ∷ 15 ∷ []
   pub parentsFromC : (file output : List ℕ) (room : Bool) → numbers (callAsks (askedByParents file output) room) ≡ oneToNine ++ 12 ∷ 15 ∷ []
+  -- Read is a call only.
+  pub readFromC : (file patients tables entries : List ℕ) (room : Bool) → numbers (callAsks (askedByRead file patients tables entries) room) ≡ oneToTen ++ 12 ∷ 12 ∷ []
   -- The writer has no file to read; from C, 2 is asked of the areas that hold the region.
   pub write : (r : Region) (output : List ℕ) → numbers (entryAsks (askedByWrite r output)) ≡ fiveToTen ++ 15 ∷ []
   pub writeFromC : (patients tables entries : List ℕ) (m : ℕ) (output : List ℕ) (room : Bool)
       → numbers (callAsks (askedByLentWrite patients tables entries m output) room) ≡ 2 ∷ fiveToTen ++ 12 ∷ 15 ∷ []
 
 pub each-asks : EachAsks
-unfolding askedByCheck askedByList askedBySheet askedByPrice askedByLine askedByJoin askedByParents askedByWrite askedByLentWrite
+unfolding askedByCheck askedByList askedBySheet askedByPrice askedByLine askedByJoin askedByParents askedByWrite askedByLentWrite askedByRead
 each-asks = record {
   check = λ file. refl;
   list = λ file l. refl;
@@ -75,6 +77,7 @@ each-asks = record {
   lineFromC = λ file typed room. refl;
   joinFromC = λ f g output room. refl;
   parentsFromC = λ file output room. refl;
+  readFromC = λ file ps ts es room. refl;
   write = λ r output. refl;
   writeFromC = λ ps ts es m output room. refl;
 }

@@ -13,12 +13,12 @@ use Rattle.definitions.specs.Lookup.{askedByLine, lineFound, lineOutcome}
 use Rattle.definitions.specs.Joining.{askedByJoin, joinOutcome}
 use Rattle.definitions.specs.Writer.{writeOutcomeOf}
 use Rattle.definitions.specs.Parents.{askedByParents, parentsOutcome}
-use Rattle.definitions.specs.Boundary.{roomForNumbers, checkCall, callOf, listCall, sheetCall, priceCallOf, priceCall, lineCallOf, lineCall, writeCallOf, joinCall, parentsCall}
+use Rattle.definitions.specs.Boundary.{roomForNumbers, checkCall, callOf, listCall, sheetCall, priceCallOf, priceCall, lineCallOf, lineCall, writeCallOf, joinCall, parentsCall, askedByRead, readCallOf, readCall}
 use Rattle.definitions.specs.Output.{printed, printedAnswer}
 use Rattle.theorems.specs.Answers.{no-then, asked-twice, left-out}
 use Rattle.theorems.specs.Refusals.{after-check, refused-before, price-number}
 
--- A file is refused with a number: by check, list, sheet, price, line, join and parents, whatever is lent, typed or joined; by the calls from C; and in print.
+-- A file is refused with a number: by check, list, sheet, price, line, join and parents, whatever is lent, typed or joined; by the calls from C, of which read is one; and in print.
 pub record Refused (q : ℕ) (file : List ℕ) : Type 0 where
   pub check : checkOf file ≡ q
   pub list : (beds costs work : List ℕ) → listOutcome file beds costs work .number ≡ q
@@ -38,6 +38,7 @@ pub record Refused (q : ℕ) (file : List ℕ) : Type 0 where
   pub joinFirstFromC : (other output result : List ℕ) → joinCall file other output result .number ≡ q
   pub joinSecondFromC : (other output result : List ℕ) → checkOf other ≡ 0 → joinCall other file output result .number ≡ q
   pub parentsFromC : q ≢ 6 → q ≢ 10 → (output result : List ℕ) → parentsCall file output result .number ≡ q
+  pub readFromC : (patients tables entries result : List ℕ) → readCall file patients tables entries result .number ≡ q
   pub print : printed file ≡ spelledLine (text "refused" ∷ decimal q ∷ [])
 
 -- What an entry asks first decides, for the entry and for its call.
@@ -83,8 +84,12 @@ module _ (file : List ℕ) (q : ℕ) (refused : checkOf file ≡ suc q) where
       asked-twice early (late ++ (10, membersRelated r) ∷ []) 6 (parentsSmaller r) (patientsWithin r) ∙ refused in
       left-out (early ++ (6, patientsWithin r) ∷ late) [] 10 (membersRelated r) (left-out early ((6, patientsWithin r) ∷ (late ++ (10, membersRelated r) ∷ [])) 6 (parentsSmaller r) all no-6) no-10
 
+  read-first-no : (patients tables entries : List ℕ) → firstNo (askedByRead file patients tables entries .first) ≡ suc q
+  unfolding askedByRead checkOf
+  read-first-no patients tables entries = refused
+
   pub refused-alike : Refused (suc q) file
-  unfolding listOutcome sheetOutcome priceOutcome lineOutcome outcomeOf listFound sheetFound lineFound listCall sheetCall priceCall lineCall callOf priceCallOf lineCallOf joinOutcome joinCall parentsOutcome parentsCall writeOutcomeOf writeCallOf printed
+  unfolding listOutcome sheetOutcome priceOutcome lineOutcome outcomeOf listFound sheetFound lineFound listCall sheetCall priceCall lineCall callOf priceCallOf lineCallOf joinOutcome joinCall parentsOutcome parentsCall writeOutcomeOf writeCallOf readCall readCallOf printed
   refused-alike = record {
     check = refused;
     list = λ beds costs work. entry-no (askedByList file (areasLongEnough (regionOf file) beds costs work)) q (list-first-no _);
@@ -103,5 +108,6 @@ module _ (file : List ℕ) (q : ℕ) (refused : checkOf file ≡ suc q) where
     joinFirstFromC = λ other output result. call-no (askedByJoin file other output) q (join-first-no other output) (roomForNumbers 2 result);
     joinSecondFromC = λ other output result fine. call-no (askedByJoin other file output) q (join-second-no other output fine) (roomForNumbers 2 result);
     parentsFromC = λ no-6 no-10 output result. call-no (askedByParents file output) q (parents-first-no no-6 no-10 output) (roomForNumbers 1 result);
+    readFromC = λ patients tables entries result. call-no (askedByRead file patients tables entries) q (read-first-no patients tables entries) (roomForNumbers 4 result);
     print = ap (λ n. printedAnswer n (regionOf file)) (entry-no (askedByList file true) q (list-first-no true));
   }
