@@ -1,0 +1,103 @@
+/* seal, join and parents: files that the proved calls write. */
+#include "command.h"
+
+#include <string.h>
+
+/* Where the last line starts. */
+static size_t last_line(const struct file *file)
+{
+    size_t start = file->length - (file->length > 0 && file->bytes[file->length - 1] == '\n');
+    while (start > 0 && file->bytes[start - 1] != '\n') {
+        start--;
+    }
+    return start;
+}
+
+/* Is the last line an end line, be its number right or wrong? */
+static int has_end_line(const struct file *file)
+{
+    static const char beginning[] = "(end";
+    size_t start = last_line(file);
+    return file->length - start >= strlen(beginning) && memcmp(file->bytes + start, beginning, strlen(beginning)) == 0;
+}
+
+/* An end line is put behind a file that has none. Then the file is read and written, with another m where one is given. */
+int carry_out_seal(const struct request *request)
+{
+    static struct file file;
+    static struct file written;
+    static struct region region;
+    int status = read_file(last_argument(request, 0), &file);
+    if (status != STATUS_FINE) {
+        return status;
+    }
+    if (!has_end_line(&file)) {
+        add_end_line(&file);
+    }
+    uint64_t number = read_region(&file, &region);
+    if (number == RIGBASEN_FINE) {
+        region.m = (request->given & OPTION_M) != 0 ? request->m : region.m;
+        number = write_region(&region, &written);
+    }
+    if (number != RIGBASEN_FINE) {
+        return refuse(request, &file, number,
+                      number == RIGBASEN_SUM ? "; if it was changed on purpose, take its end line out and seal it again" : NULL);
+    }
+    return save_file(request->output, &written);
+}
+
+/* Says which file is refused, or both where it is about the two together. */
+static int refuse_joining(const struct file *first, const struct file *second, uint64_t number, uint64_t which)
+{
+    fprintf(stderr, "rigbasen: ");
+    if (which == RIGBASEN_FIRST_FILE) {
+        put_refusal(stderr, first, ", the first file", number, NULL);
+    } else if (which == RIGBASEN_SECOND_FILE) {
+        put_refusal(stderr, second, ", the second file", number, NULL);
+    } else {
+        put_name(stderr, first);
+        fprintf(stderr, " and ");
+        put_refusal(stderr, second, NULL, number, NULL);
+    }
+    return STATUS_REFUSED;
+}
+
+int carry_out_join(const struct request *request)
+{
+    static struct file first;
+    static struct file second;
+    static struct file joined;
+    uint8_t result[RIGBASEN_JOIN_RESULT_BYTES] = {0};
+    if (strcmp(request->arguments[0], "-") == 0 && strcmp(request->arguments[1], "-") == 0) {
+        return misused(request->command, "given twice:", "-");
+    }
+    int status = read_file(request->arguments[0], &first);
+    if (status == STATUS_FINE) {
+        status = read_file(request->arguments[1], &second);
+    }
+    if (status != STATUS_FINE) {
+        return status;
+    }
+    uint64_t number = rigbasen_join(first.bytes, first.length, second.bytes, second.length,
+                                    joined.bytes, sizeof joined.bytes, result, sizeof result);
+    if (number != RIGBASEN_FINE) {
+        return refuse_joining(&first, &second, number, rigbasen_number_at(result, 1));
+    }
+    joined.length = (size_t)rigbasen_number_at(result, 0);
+    return save_file(request->output, &joined);
+}
+
+int carry_out_parents(const struct request *request)
+{
+    static struct file file;
+    static struct file made;
+    int status = read_file(last_argument(request, 0), &file);
+    if (status != STATUS_FINE) {
+        return status;
+    }
+    uint64_t number = make_parents(&file, &made);
+    if (number != RIGBASEN_FINE) {
+        return refuse(request, &file, number, NULL);
+    }
+    return save_file(request->output, &made);
+}
