@@ -22,6 +22,11 @@ impl Area {
         Area::guarded((0..length).map(pattern), GUARD)
     }
 
+    /// The same, where numbers of eight bytes are to be written: they stand at no multiple of eight.
+    pub fn patterned_for_numbers(length: usize, salt: u64) -> Area {
+        Area::guarded(Area::patterned(length, salt).contents().iter().copied(), ODD_GUARD)
+    }
+
     /// An area of numbers that are there to be read, eight bytes each, lowest byte first.
     pub fn of_numbers(numbers: impl IntoIterator<Item = u64>) -> Area {
         Area::guarded(numbers.into_iter().flat_map(u64::to_le_bytes), ODD_GUARD)
@@ -116,6 +121,57 @@ impl Outputs {
     pub fn counted(&self) -> &[u8] {
         let count = self.result.contents().first_chunk().map_or(0, |bytes| u64::from_le_bytes(*bytes));
         self.output.contents().get(..count as usize).unwrap_or_default()
+    }
+}
+
+/// How many bytes each area of a read call has: patients, tables, entries and result.
+pub type ArrayLengths = [usize; 4];
+
+/// The areas that read writes.
+#[derive(Clone, PartialEq)]
+pub struct Arrays {
+    pub patients: Area,
+    pub tables: Area,
+    pub entries: Area,
+    pub result: Area,
+}
+
+impl Arrays {
+    pub fn patterned(lengths: ArrayLengths, salt: u64) -> Arrays {
+        let [patients, tables, entries, result] = lengths;
+        Arrays {
+            patients: Area::patterned_for_numbers(patients, salt),
+            tables: Area::patterned_for_numbers(tables, salt ^ 21),
+            entries: Area::patterned_for_numbers(entries, salt ^ 42),
+            result: Area::patterned_for_numbers(result, salt ^ 63),
+        }
+    }
+
+    /// The four areas in their order.
+    pub fn all(&self) -> [&Area; 4] {
+        [&self.patients, &self.tables, &self.entries, &self.result]
+    }
+
+    /// The four areas in their order, to write.
+    pub fn each(&mut self) -> [&mut Area; 4] {
+        [&mut self.patients, &mut self.tables, &mut self.entries, &mut self.result]
+    }
+
+    pub fn lengths(&self) -> ArrayLengths {
+        self.all().map(|area| area.contents().len())
+    }
+
+    /// The same contents in memory blocks of exactly their lengths.
+    pub fn bare(&self) -> Arrays {
+        let [patients, tables, entries, result] = self.all().map(Area::bare);
+        Arrays { patients, tables, entries, result }
+    }
+
+    /// Takes over the contents of areas of the same lengths.
+    pub fn take(&mut self, other: &Arrays) {
+        for (area, other) in self.each().into_iter().zip(other.all()) {
+            area.lent().copy_from_slice(other.contents());
+        }
     }
 }
 

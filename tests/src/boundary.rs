@@ -1,6 +1,6 @@
 //! The proved library's calls from C, each behind a safe wrapper.
 
-use crate::areas::{Areas, Outputs};
+use crate::areas::{Areas, Arrays, Outputs};
 use crate::lent::Lent;
 use std::cell::Cell;
 
@@ -81,6 +81,21 @@ extern "C" {
         result: *mut u8,
         result_length: usize,
     ) -> u64;
+
+    fn rigbasen_read(
+        file: *const u8,
+        file_length: usize,
+        patients: *mut u8,
+        patients_length: usize,
+        tables: *mut u8,
+        tables_length: usize,
+        entries: *mut u8,
+        entries_length: usize,
+        result: *mut u8,
+        result_length: usize,
+    ) -> u64;
+
+    fn rigbasen_version() -> u64;
 
     /// Of the trial's archive: line's entry in Rattle, which hands back a part of the file. The trial passes it on to `pwrite`.
     fn rigbasen_trial_line(file: *const u8, file_length: usize, typed: *const u8, typed_length: usize) -> u64;
@@ -222,4 +237,30 @@ pub fn parents(file: &[u8], areas: &mut Outputs) -> u64 {
             result.len(),
         )
     }
+}
+
+/// Read's number; the result area has four numbers, how many patients, tables, plans wanted and entries there are.
+pub fn read(file: &[u8], areas: &mut Arrays) -> u64 {
+    let [patients, tables, entries, result] = areas.each().map(|area| area.lent());
+    // Each pointer and length are those of one slice, and the slices do not overlap.
+    unsafe {
+        rigbasen_read(
+            file.as_ptr(),
+            file.len(),
+            patients.as_mut_ptr(),
+            patients.len(),
+            tables.as_mut_ptr(),
+            tables.len(),
+            entries.as_mut_ptr(),
+            entries.len(),
+            result.as_mut_ptr(),
+            result.len(),
+        )
+    }
+}
+
+/// The library's version as a number.
+pub fn version() -> u64 {
+    // Nothing is lent.
+    unsafe { rigbasen_version() }
 }

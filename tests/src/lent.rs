@@ -1,6 +1,6 @@
 //! A region as it is lent to the call that writes its file: three areas of eight-byte numbers, and m.
 
-use crate::areas::Area;
+use crate::areas::{Area, Arrays};
 use crate::region::{Patient, Region, Table};
 
 /// Stands for `-`.
@@ -16,8 +16,9 @@ pub struct Numbers {
     pub m: u64,
 }
 
-/// How many bytes a patient has.
+/// How many bytes a patient has, and how many a table.
 pub const PATIENT_BYTES: usize = 32;
+pub const TABLE_BYTES: usize = 48;
 
 /// Where the count of entries stands in a table.
 pub const ENTRY_COUNT: usize = 5;
@@ -69,6 +70,22 @@ impl Lent {
         Numbers::of(region, || 0).lent()
     }
 
+    /// What read leaves, as it is lent to write: of each area the bytes that the result area counts, and m. Nothing where it counts
+    /// more than there are.
+    pub fn of_read(areas: &Arrays) -> Option<Lent> {
+        let [patients, tables, m, entries] = *numbers_in(&areas.result).first_chunk()?;
+        let counted = |area: &Area, count: u64, size: u64| {
+            let length = count.checked_mul(size).filter(|length| *length <= area.contents().len() as u64)?;
+            Some(area.resized(length as usize))
+        };
+        Some(Lent {
+            patients: counted(&areas.patients, patients, PATIENT_BYTES as u64)?,
+            tables: counted(&areas.tables, tables, TABLE_BYTES as u64)?,
+            entries: counted(&areas.entries, entries, 8)?,
+            m,
+        })
+    }
+
     /// The same contents in memory blocks of exactly their lengths.
     pub fn bare(&self) -> Lent {
         Lent { patients: self.patients.bare(), tables: self.tables.bare(), entries: self.entries.bare(), m: self.m }
@@ -80,7 +97,7 @@ impl Lent {
         let counted: u128 =
             tables.chunks(6).filter_map(|table| table.get(ENTRY_COUNT)).map(|count| u128::from(*count)).sum();
         let whole = self.patients.contents().len() % PATIENT_BYTES == 0
-            && self.tables.contents().len() % 48 == 0
+            && self.tables.contents().len() % TABLE_BYTES == 0
             && self.entries.contents().len() as u128 == counted * 8;
         if !whole {
             return Err(2);

@@ -17,4 +17,5 @@ pub mod plans;
 pub mod printed;
 pub mod random;
 pub mod reader;
+pub mod reading;
 pub mod region;

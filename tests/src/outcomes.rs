@@ -1,11 +1,12 @@
 //! What each call from C must answer, by the independent program: the number, and every byte of
-//! every lent area afterwards. Join is in `joining`.
+//! every lent area afterwards. Join is in `joining`, read in `reading`.
 
 use crate::areas::{Areas, Outputs};
 use crate::generate::spelling;
 use crate::lent::Lent;
 use crate::plans::{self, Row};
 use crate::reader;
+use crate::reading::Reading;
 use crate::region::Region;
 
 /// The independent program's view of one file.
@@ -107,6 +108,11 @@ impl Outcomes {
     /// The lines of this file, which was read.
     pub fn lines(&self, file: &[u8]) -> Lines {
         Lines::judged(file, self.read.as_ref().err().copied().unwrap_or(0))
+    }
+
+    /// What read makes of this file.
+    pub fn reading(&self) -> Reading {
+        Reading::judged(self.read.as_ref().map_err(|number| *number))
     }
 
     /// The list's rows; none where the file is refused.

@@ -1,4 +1,4 @@
-//! The five calls of a file over the baseline reader and search; write is in `writer`, join in `joiner`, parents in
+//! Five calls of a file over the baseline reader and search; write is in `writer`, read in `array_reader`, join in `joiner`, parents in
 //! `parent_maker`.
 
 use crate::areas::Areas;

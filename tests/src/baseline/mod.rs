@@ -2,6 +2,7 @@
 //! arrays, a branch and bound search, a writer, a joiner, a maker of parents, and the calls from C over them. The benchmark
 //! measures it beside the proved library, and the tests use it as a second route.
 
+pub mod array_reader;
 pub mod calls;
 pub mod held;
 pub mod joiner;

@@ -1,7 +1,7 @@
 //! The proved library on memory blocks of exactly the lent lengths, without guard bytes: a memory
 //! checker then sees every read or write beside a file, a plan, a typed text or an area.
 
-use crate::areas::{Areas, Outputs};
+use crate::areas::{Areas, Arrays, Outputs};
 use crate::boundary;
 use crate::compare::{Calls, PartCall, Tested};
 use crate::lent::Lent;
@@ -16,6 +16,7 @@ pub const BARE: Calls = Calls {
     write: Tested { name: "few, write", call: write },
     join: Tested { name: "few, join", call: join },
     parents: Tested { name: "few, parents", call: parents },
+    read: Tested { name: "few, read", call: read },
 };
 
 /// Its comparison lends such blocks itself.
@@ -82,6 +83,13 @@ fn join(first: &[u8], second: &[u8], areas: &mut Outputs) -> u64 {
 fn parents(file: &[u8], areas: &mut Outputs) -> u64 {
     let mut blocks = areas.bare();
     let number = lending(file, |file| boundary::parents(file, &mut blocks));
+    areas.take(&blocks);
+    number
+}
+
+fn read(file: &[u8], areas: &mut Arrays) -> u64 {
+    let mut blocks = areas.bare();
+    let number = lending(file, |file| boundary::read(file, &mut blocks));
     areas.take(&blocks);
     number
 }

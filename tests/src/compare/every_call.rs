@@ -1,9 +1,9 @@
-//! One file through the five calls of a file, through parents, and through join before and behind another. Cut, changed and damaged
+//! One file through the six calls of a file, through parents, and through join before and behind another. Cut, changed and damaged
 //! files: every call refuses what check refuses, but that parents asks nothing of parents.
 
 use crate::areas::{Area, Areas, Lengths};
 use crate::compare::report::{Difference, Tally};
-use crate::compare::{check, join, line, list, paper, parents, price, sheet, Calls};
+use crate::compare::{check, join, line, list, paper, parents, price, read, sheet, Calls};
 use crate::generate::{clinics, damage, small, spelling, typed};
 use crate::outcomes::Outcomes;
 use crate::random::Random;
@@ -22,7 +22,7 @@ pub fn run(calls: Calls, seed: u64, count: usize) -> Result<Vec<Tally>, Differen
     ])
 }
 
-/// Check, list, sheet, price, line, join and parents of one file, in every byte that they leave.
+/// Check, list, sheet, price, line, read, join and parents of one file, in every byte that they leave.
 pub fn compare(tally: &mut Tally, calls: Calls, file: &[u8], random: &mut Random) -> Result<Outcomes, Difference> {
     let outcomes = Outcomes::of(file);
     let region = outcomes.region();
@@ -38,6 +38,8 @@ pub fn compare(tally: &mut Tally, calls: Calls, file: &[u8], random: &mut Random
     price::compare(tally, calls.price, (file, &outcomes), &plan, result)?;
     let result = Area::patterned(random.pick(&[0, 15, 16, 16, 16, 17]), random.number());
     line::compare(tally, calls.line, (file, &outcomes.lines(file)), &typed::any(region, random), result)?;
+    let given = read::Given { file: file.to_vec(), reading: outcomes.reading() };
+    read::compare(tally, calls.read, &given, given.near(random), None)?;
     join::compare_with_partner(tally, calls.join, (file, region), random)?;
     let given = parents::Given::of(file.to_vec());
     parents::compare(tally, calls.parents, &given, given.near(random), None)?;

@@ -13,13 +13,15 @@ pub mod parents;
 pub mod part;
 pub mod price;
 pub mod printing;
+pub mod read;
 pub mod report;
 pub mod shares;
 pub mod sheet;
+pub mod version;
 pub mod write;
 pub mod wrong;
 
-use crate::areas::{Areas, Outputs};
+use crate::areas::{Areas, Arrays, Outputs};
 use crate::boundary::Part;
 use crate::generate::small;
 use crate::lent::Lent;
@@ -44,11 +46,13 @@ pub type SheetCall = fn(&[u8], u64, &mut Areas) -> u64;
 pub type WriteCall = fn(&Lent, &mut Outputs) -> u64;
 pub type JoinCall = fn(&[u8], &[u8], &mut Outputs) -> u64;
 pub type ParentsCall = fn(&[u8], &mut Outputs) -> u64;
+pub type ReadCall = fn(&[u8], &mut Arrays) -> u64;
+pub type VersionCall = fn() -> u64;
 
 /// Line's entry in Rattle: its number, and the part that it hands back.
 pub type PartCall = fn(&[u8], &[u8]) -> (u64, Option<Part>);
 
-/// The eight calls of one program.
+/// The nine calls of one program that take a file or make one.
 #[derive(Clone, Copy)]
 pub struct Calls {
     pub name: &'static str,
@@ -60,6 +64,7 @@ pub struct Calls {
     pub write: Tested<WriteCall>,
     pub join: Tested<JoinCall>,
     pub parents: Tested<ParentsCall>,
+    pub read: Tested<ReadCall>,
 }
 
 pub const LIBRARY: Calls = Calls {
@@ -72,7 +77,10 @@ pub const LIBRARY: Calls = Calls {
     write: Tested { name: "write", call: boundary::write },
     join: Tested { name: "join", call: boundary::join },
     parents: Tested { name: "parents", call: boundary::parents },
+    read: Tested { name: "read", call: boundary::read },
 };
+
+pub const VERSION: Tested<VersionCall> = Tested { name: "version", call: boundary::version };
 
 /// What line's entry hands back to a caller in Rattle.
 pub const LINE_PART: Tested<PartCall> = Tested { name: "line's part", call: boundary::line_part };
@@ -87,6 +95,7 @@ pub const BASELINE: Calls = Calls {
     write: Tested { name: "baseline write", call: baseline::writer::write },
     join: Tested { name: "baseline join", call: baseline::joiner::join },
     parents: Tested { name: "baseline parents", call: baseline::parent_maker::parents },
+    read: Tested { name: "baseline read", call: baseline::array_reader::read },
 };
 
 /// Runs every comparison up to the first difference: the library's, each line printed as soon as it
@@ -94,6 +103,7 @@ pub const BASELINE: Calls = Calls {
 pub fn run_all(seed: u64, count: usize, printer: Option<&Path>) -> Result<(), Difference> {
     thread::scope(|scope| {
         let beside = scope.spawn(move || run_beside(seed, count, printer));
+        version::run(VERSION, version::HEADER)?.print();
         let mut tallies = run_calls(LIBRARY, seed, count, Tally::print)?;
         for tally in run_large(seed, count)?.into_iter().chain(run_parts(seed, count)?) {
             tally.print();
@@ -126,7 +136,7 @@ fn run_beside(seed: u64, count: usize, printer: Option<&Path>) -> Result<Vec<Tal
     Ok(tallies)
 }
 
-/// Every comparison of the eight calls of one program.
+/// Every comparison of the calls of one program.
 fn run_calls(calls: Calls, seed: u64, count: usize, done: fn(&Tally)) -> Result<Vec<Tally>, Difference> {
     let mut all = Vec::new();
     let mut add = |tallies: Vec<Tally>| {
@@ -143,13 +153,15 @@ fn run_calls(calls: Calls, seed: u64, count: usize, done: fn(&Tally)) -> Result<
     add(shares::run(calls.sheet, seed, count)?);
     add(clinic_pairs::run(calls.sheet, seed, count)?);
     add(write::run(calls.write, seed, count)?);
+    add(read::run(calls.read, seed, count)?);
     add(join::run(calls.join, seed, count)?);
     add(parents::run(calls.parents, seed, count)?);
     Ok(all)
 }
 
-/// Some dozens of regions and files through all eight calls, for a run under a memory checker.
+/// Some dozens of regions and files through all calls, for a run under a memory checker.
 pub fn run_few(seed: u64) -> Result<(), Difference> {
+    version::run(VERSION, version::HEADER)?.print();
     paper::run(BARE)?.print();
     print_all(check::run(BARE.check, seed, 20)?);
     every_call::damaged_files(BARE, seed, 60)?.print();
@@ -168,6 +180,7 @@ pub fn run_few(seed: u64) -> Result<(), Difference> {
     large::lists(BARE.list, seed, 4)?.print();
     large::sheets(BARE.sheet, seed, 2)?.print();
     run_few_writes(seed)?;
+    run_few_reads(seed)?;
     run_few_joins(seed)?;
     run_few_parents(seed)
 }
@@ -196,6 +209,18 @@ fn run_few_writes(seed: u64) -> Result<(), Difference> {
     write::limits(BARE.write, seed, 24)?.print();
     write::fixed_beds(BARE.write, seed, 4)?.print();
     write::round_trips(BARE.write, seed, 12)?.print();
+    Ok(())
+}
+
+/// Some of the comparisons of read; those of all counts and lengths have thousands of cases.
+fn run_few_reads(seed: u64) -> Result<(), Difference> {
+    read::by_hand::run(BARE.read, seed, 1)?.print();
+    read::files::good_files(BARE.read, seed, 48)?.print();
+    read::refusals::one_fault(BARE.read, seed, 4)?.print();
+    read::refusals::two_faults(BARE.read, seed, 1)?.print();
+    read::back::files(BARE.read, seed, 12)?.print();
+    read::back::regions(BARE.read, seed, 12)?.print();
+    read::back::changed_regions(BARE.read, seed, 12)?.print();
     Ok(())
 }
 

@@ -1,6 +1,6 @@
 //! What a comparison prints: a line where all agrees, or the first difference.
 
-use crate::areas::{Area, Areas, Outputs};
+use crate::areas::{Area, Areas, Arrays, Outputs};
 use crate::numbers;
 use std::collections::BTreeMap;
 
@@ -128,4 +128,10 @@ pub fn areas_text(areas: &Areas) -> String {
 /// The areas of a call that writes a file, one to a line.
 pub fn outputs_text(areas: &Outputs) -> String {
     format!("\n  output {}\n  result {}", area_text(&areas.output), area_text(&areas.result))
+}
+
+/// The areas of a read call, one to a line.
+pub fn arrays_text(areas: &Arrays) -> String {
+    let [patients, tables, entries, result] = areas.all().map(area_text);
+    format!("\n  patients {patients}\n  tables   {tables}\n  entries  {entries}\n  result   {result}")
 }

@@ -22,14 +22,18 @@ pub fn sound_region(random: &mut Random) -> Region {
 
 /// A file of which the question, 3 to 10, is answered "no" and every earlier one "yes".
 pub fn file_with_fault(question: u64, random: &mut Random) -> Vec<u8> {
-    let draft = with_faults(&[question], random);
-    written(question == 4, &draft, random)
+    file_with_all(&[question], random)
 }
 
 /// A file with faults of two questions; the smaller number is its answer.
 pub fn file_with_faults(one: u64, other: u64, random: &mut Random) -> Vec<u8> {
-    let draft = with_faults(&[one, other], random);
-    written(one == 4 || other == 4, &draft, random)
+    file_with_all(&[one, other], random)
+}
+
+/// A file with faults of all these questions, 3 to 10; the smallest is its answer. Without any it is a good one.
+pub fn file_with_all(questions: &[u64], random: &mut Random) -> Vec<u8> {
+    let draft = with_faults(questions, random);
+    written(questions.contains(&4), &draft, random)
 }
 
 /// A file with faults of these questions, 3 to 9, and any parents: the smallest is its answer whether or not parents are asked for.

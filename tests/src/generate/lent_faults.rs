@@ -183,7 +183,12 @@ pub fn good_region(case: usize, random: &mut Random) -> Region {
         return small::region(small::KINDS[case % small::KINDS.len()], random);
     }
     let (patients, tables) = (random.between(1, 32), random.between(0, 64));
-    let mut region = of_counts(patients as usize, tables as usize, random.between(1, 64));
+    chain_of_counts(patients, tables as usize, random)
+}
+
+/// So many one-bed patients in a chain, and so many tables over one to four of them.
+pub fn chain_of_counts(patients: u64, tables: usize, random: &mut Random) -> Region {
+    let mut region = of_counts(patients as usize, tables, random.between(1, 64));
     for (number, patient) in region.patients.iter_mut().enumerate() {
         *patient = Patient::of(random.between(0, 15), 1, (number as u64).checked_sub(1));
         patient.fixed = random.chance(30).then_some(0);

@@ -24,7 +24,7 @@ const UNFILLED: &str = "(region 6 4 1)
 (end 12251)
 ";
 
-const FILLED: &str = "(region 6 4 1)
+pub const FILLED: &str = "(region 6 4 1)
 (patient 15 1 - -)
 (patient 0 1 - 0)
 (patient 2 1 0 -)
@@ -59,7 +59,7 @@ const FAR: &str = "(region 12 3 64)
 (end 22515)
 ";
 
-const NEAR: &str = "(region 12 3 64)
+pub const NEAR: &str = "(region 12 3 64)
 (patient 0 1 - -)
 (patient 0 1 - -)
 (patient 0 1 - -)
