@@ -9,22 +9,22 @@ mod lists;
 mod parents;
 mod parts;
 mod prices;
+mod reads;
 mod sheets;
 mod texts;
+mod versions;
 mod writes;
 
 use crate::compare::printing::{self, Text};
 use crate::compare::report::{Difference, Tally};
-use crate::compare::{check, clinic_pairs, every_call, large, line, list, part, price, shares, sheet, write};
-use crate::compare::{
-    Calls, CheckCall, LineCall, ListCall, PartCall, PriceCall, SheetCall, Tested, WriteCall, LIBRARY,
-};
+use crate::compare::{check, clinic_pairs, every_call, large, line, list, price, shares, sheet, version, write};
+use crate::compare::{Calls, CheckCall, LineCall, ListCall, PriceCall, SheetCall, Tested, WriteCall, LIBRARY};
 use crate::generate::small::{Kind, KINDS};
 
 /// A comparison of one call, with a seed and a count.
 type Comparison<Call> = fn(Tested<Call>, u64, usize) -> Result<Tally, Difference>;
 
-/// A comparison of the calls of a file, join and parents among them.
+/// A comparison of the calls of a file, read, join and parents among them.
 type ComparisonOfAll = fn(Calls, u64, usize) -> Result<Tally, Difference>;
 
 /// A printing program's text of a file.
@@ -55,7 +55,7 @@ pub fn run() -> Result<Tally, Difference> {
     for (name, comparison, call) in wrong_lines().into_iter().chain(wrong_texts_taken()).chain(misasked_lines()) {
         found(&mut tally, name, comparison(Tested { name, call }, SEED, COUNT))?;
     }
-    for (name, comparison, call) in wrong_parts() {
+    for (name, comparison, call) in parts::all() {
         found(&mut tally, name, comparison(Tested { name, call }, SEED, COUNT))?;
     }
     for (name, comparison, call) in joins::all() {
@@ -64,7 +64,14 @@ pub fn run() -> Result<Tally, Difference> {
     for (name, comparison, call) in parents::all() {
         found(&mut tally, name, comparison(Tested { name, call }, SEED, COUNT))?;
     }
-    for (name, comparison, calls) in wrong_calls().into_iter().chain(joins::among_all()).chain(parents::among_all()) {
+    for (name, comparison, call) in reads::all() {
+        found(&mut tally, name, comparison(Tested { name, call }, SEED, COUNT))?;
+    }
+    for (name, header, call) in versions::all() {
+        found(&mut tally, name, version::run(Tested { name, call }, &header))?;
+    }
+    let among_all = [wrong_calls(), joins::among_all(), parents::among_all(), reads::among_all()];
+    for (name, comparison, calls) in among_all.into_iter().flatten() {
         found(&mut tally, name, comparison(calls, SEED, COUNT))?;
     }
     for (name, text) in wrong_texts() {
@@ -430,19 +437,7 @@ fn misasked_lines() -> Vec<(&'static str, Comparison<LineCall>, LineCall)> {
     ]
 }
 
-/// Parts that are not those of the file.
-fn wrong_parts() -> Vec<(&'static str, Comparison<PartCall>, PartCall)> {
-    vec![
-        ("a copy is handed back", part::regions, parts::copied),
-        ("a copy is handed back", part::faulty_files, parts::copied),
-        ("a part of the typed text is handed back", part::regions, parts::of_the_typed_text),
-        ("an empty part elsewhere", part::regions, parts::empty_elsewhere),
-        ("an empty part elsewhere", part::faulty_files, parts::empty_elsewhere),
-        ("nothing is handed back", part::faulty_files, parts::nothing),
-    ]
-}
-
-/// One wrong call among the five of a file.
+/// One wrong call among five of a file.
 fn wrong_calls() -> Vec<(&'static str, ComparisonOfAll, Calls)> {
     let check = |call| Calls { check: Tested { call, ..LIBRARY.check }, ..LIBRARY };
     let price = |call| Calls { price: Tested { call, ..LIBRARY.price }, ..LIBRARY };
