@@ -12,6 +12,7 @@ VERSION != sed -n 's/^.define RIGBASEN_VERSION "\(.*\)"/\1/p' include/rigbasen.h
 MAJOR != sed -n 's/^.define RIGBASEN_VERSION "\([0-9]*\).*"/\1/p' include/rigbasen.h
 COMMAND_SOURCES != ls command/*.c 2>/dev/null || true
 COMMAND_HEADERS != ls command/*.h 2>/dev/null || true
+LINE_SOURCES != ls examples/checklist_lines/*.c
 
 ARCHIVE = target/staticlib/libplanner_c.a
 PRINTER = target/bin/region_print
@@ -25,7 +26,7 @@ DOCUMENTS = $(BUILT)/share/doc/rigbasen/README.md $(BUILT)/share/doc/rigbasen/FI
 PACKAGE = $(LIBRARIES) $(BUILT)/lib/pkgconfig/rigbasen.pc $(BUILT)/include/rigbasen.h $(BUILT)/bin/rigbasen \
     $(BUILT)/share/man/man1/rigbasen.1 $(DOCUMENTS)
 CHECKLIST = target/bundle/programs/checklist_calls target/bundle/programs/checklist_site
-CHECKLIST_HEADERS = examples/region_file.h examples/on_screen.h include/rigbasen.h
+CHECKLIST_HEADERS = examples/region_file.h examples/on_screen.h examples/checklist_lines/site.h include/rigbasen.h
 
 all: $(PACKAGE)
 
@@ -120,9 +121,9 @@ target/bundle/programs/checklist_calls: examples/checklist_calls.c $(CHECKLIST_H
 	@mkdir -p $(@D)
 	$(COMPILE) $(LDFLAGS) -o $@ examples/checklist_calls.c $(ARCHIVE)
 
-target/bundle/programs/checklist_site: examples/checklist_site.c $(CHECKLIST_HEADERS) $(ARCHIVE)
+target/bundle/programs/checklist_site: $(LINE_SOURCES) $(CHECKLIST_HEADERS) $(ARCHIVE)
 	@mkdir -p $(@D)
-	$(COMPILE) $(LDFLAGS) -o $@ examples/checklist_site.c $(ARCHIVE)
+	$(COMPILE) -Iexamples $(LDFLAGS) -o $@ $(LINE_SOURCES) $(ARCHIVE)
 
 bundle: $(PACKAGE) $(PRINTER) $(CHECKLIST)
 	packaging/make_bundle $(VERSION) '$(GATE)'

@@ -1,8 +1,11 @@
 /*
  * The calls that the checklist makes.
- *     cuts FILE            lends every cut of the file, short of the whole, to the five calls of a file, to parents, and to join with
- *                          the whole
+ *     version              the library's version and the header's; status 1 where they differ
+ *     check FILE           fine, or why it is refused; status 1 then
+ *     cuts FILE            lends every cut of the file, short of the whole, to the six calls of a file, to parents, and to join with
+ *                          the whole; of a long file every cut to check, and the cuts at line ends and some others to the rest
  *     print FILE           the list and the clinics' sheets by the calls, in the printing program's form
+ *     list FILE            the list alone
  *     price FILE BED ..    what the plan costs
  *     join FIRST SECOND    the two files joined
  *     parents FILE         the file with its parents made
@@ -11,10 +14,12 @@
 #include <inttypes.h>
 #include <stdio.h>
 
+#include "on_screen.h"
 #include "region_file.h"
 #include "rigbasen.h"
 
-enum { PATTERN = 0x5A };
+/* What lent areas hold beforehand; the longest file of which every cut goes to every call; how many cuts of a longer one, besides. */
+enum { PATTERN = 0x5A, LONG_FILE = 8192, SOME_CUTS = 200 };
 
 /* Are all bytes of an area this one? */
 static int all(const uint8_t *bytes, size_t length, uint8_t byte)
@@ -34,9 +39,23 @@ static int refused_clean(uint64_t number, const struct areas *areas)
         && all(areas->costs, sizeof areas->costs, PATTERN) && all(areas->result, sizeof areas->result, 0);
 }
 
-/* Do all five calls of a file refuse this cut? */
-static int cut_refused(const struct region_file *cut, const uint8_t *plan, size_t patients)
+/* Does read refuse this cut, and leave its arrays as they were? */
+static int unread_clean(const struct region_file *cut)
 {
+    static uint8_t arrays[3][64];
+    uint8_t result[RIGBASEN_READ_RESULT_BYTES];
+    memset(arrays, PATTERN, sizeof arrays);
+    memset(result, PATTERN, sizeof result);
+    uint64_t number = rigbasen_read(cut->bytes, cut->length, arrays[0], sizeof arrays[0], arrays[1], sizeof arrays[1],
+                                    arrays[2], sizeof arrays[2], result, sizeof result);
+    return number != RIGBASEN_FINE && number != RIGBASEN_SHORT_AREA && all(arrays[0], sizeof arrays, PATTERN)
+        && all(result, sizeof result, 0);
+}
+
+/* Do list, sheet, price, line and read refuse this cut? */
+static int cut_refused(const struct region_file *cut, uint64_t clinic, size_t patients)
+{
+    static const uint8_t plan[RIGBASEN_MOST_PATIENTS] = {0};
     struct areas areas;
     uint8_t result[RIGBASEN_PRICE_RESULT_BYTES];
     uint8_t line[RIGBASEN_LINE_RESULT_BYTES];
@@ -45,7 +64,7 @@ static int cut_refused(const struct region_file *cut, const uint8_t *plan, size_
         return 0;
     }
     memset(&areas, PATTERN, sizeof areas);
-    if (!refused_clean(sheet_of_clinic(cut, 0, &areas), &areas)) {
+    if (!refused_clean(sheet_of_clinic(cut, clinic, &areas), &areas)) {
         return 0;
     }
     memset(result, PATTERN, sizeof result);
@@ -54,8 +73,7 @@ static int cut_refused(const struct region_file *cut, const uint8_t *plan, size_
         return 0;
     }
     memset(line, PATTERN, sizeof line);
-    return line_over(cut, "(0)", line) != RIGBASEN_FINE && all(line, sizeof line, 0)
-        && rigbasen_check(cut->bytes, cut->length) != RIGBASEN_FINE;
+    return line_over(cut, "(0)", line) != RIGBASEN_FINE && all(line, sizeof line, 0) && unread_clean(cut);
 }
 
 /* Does join refuse a file of the two, name it, and write nothing? */
@@ -83,35 +101,50 @@ static int unmade_clean(const struct region_file *file)
         && all(result, sizeof result, 0);
 }
 
-/* Is the whole file a good one, or one of which only the parents are wrong? */
-static int good_but_for_parents(const struct region_file *file, uint64_t check)
+/* Is this cut one for all calls: of a long file those at a line end, those short of one by a byte, and some between? */
+static int for_all_calls(const struct region_file *file, size_t length)
 {
-    static struct region_file made;
-    int for_parents = check == RIGBASEN_PATIENTS || check == RIGBASEN_ANCESTORS;
-    return make_parents(file, &made) == RIGBASEN_FINE && (check == RIGBASEN_FINE || for_parents);
+    int at_line_end = length > 0 && file->bytes[length - 1] == '\n';
+    return file->length <= LONG_FILE || at_line_end || file->bytes[length] == '\n' || length % (file->length / SOME_CUTS) == 0;
 }
 
+/* Does join refuse the cut before and behind the whole file? A whole file that is refused for its parents is named before a cut. */
+static int unjoined(const struct region_file *file, const struct region_file *cut, uint64_t check)
+{
+    return named_clean(cut, file, RIGBASEN_FIRST_FILE)
+        && named_clean(file, cut, check == RIGBASEN_FINE ? RIGBASEN_SECOND_FILE : RIGBASEN_FIRST_FILE);
+}
+
+/* The file must be a good one, or one of which only the parents are wrong. */
 static int try_cuts(const struct region_file *file)
 {
-    static const uint8_t plan[RIGBASEN_MOST_PATIENTS] = {0};
     static struct region_file cut;
-    size_t patients = patients_of_region(file);
+    static struct region_file made;
+    static struct region_arrays region;
+    size_t by_all = 0;
     uint64_t check = rigbasen_check(file->bytes, file->length);
-    /* Join names a whole file that is refused for its parents before it looks at what is behind. */
-    uint64_t named_behind = check == RIGBASEN_FINE ? RIGBASEN_SECOND_FILE : RIGBASEN_FIRST_FILE;
-    if (!good_but_for_parents(file, check)) {
+    int for_parents = check == RIGBASEN_PATIENTS || check == RIGBASEN_ANCESTORS;
+    if (make_parents(file, &made) != RIGBASEN_FINE || !(check == RIGBASEN_FINE || for_parents)) {
         printf("the whole file is refused\n");
         return 1;
     }
+    read_arrays(&made, &region);
     cut = *file;
     for (cut.length = 0; cut.length < file->length; cut.length++) {
-        int joined_refused = named_clean(&cut, file, RIGBASEN_FIRST_FILE) && named_clean(file, &cut, named_behind);
-        if (!joined_refused || !unmade_clean(&cut) || !cut_refused(&cut, plan, patients)) {
+        int refused = rigbasen_check(cut.bytes, cut.length) != RIGBASEN_FINE;
+        if (refused && for_all_calls(file, cut.length)) {
+            refused = unjoined(file, &cut, check) && unmade_clean(&cut)
+                && cut_refused(&cut, region.patients[0].clinic, region.patient_count);
+            by_all++;
+        }
+        if (!refused) {
             printf("the first %zu bytes are not refused\n", cut.length);
             return 1;
         }
     }
-    printf("%zu cuts refused\n", file->length);
+    printf(by_all == file->length ? "%zu cuts refused by every call" : "%zu cuts refused by check, %zu of them by every call",
+           file->length, by_all);
+    printf("\n");
     return 0;
 }
 
@@ -128,18 +161,49 @@ static void print_rows(const struct areas *areas, size_t width)
     }
 }
 
-static int print_answers(const struct region_file *file)
+/* The list, or the number with which it is refused, which is handed back. */
+static uint64_t show_list(const struct region_file *file)
 {
     static struct areas areas;
     uint64_t number = list_region(file, &areas);
     if (number != RIGBASEN_FINE) {
         printf("(refused %" PRIu64 ")\n", number);
+    } else {
+        printf("(list ");
+        print_rows(&areas, patients_of_region(file));
+    }
+    return number;
+}
+
+static int print_list(const struct region_file *file)
+{
+    show_list(file);
+    return 0;
+}
+
+static int print_check(const struct region_file *file)
+{
+    uint64_t number = rigbasen_check(file->bytes, file->length);
+    printf(number == RIGBASEN_FINE ? "fine\n" : "refused with %" PRIu64 ": %s\n", number, meaning(number));
+    return number == RIGBASEN_FINE ? 0 : 1;
+}
+
+static int print_version(void)
+{
+    uint64_t version = rigbasen_version();
+    printf("library %" PRIu64 ".%" PRIu64 ".%" PRIu64 ", header %s\n",
+           version / 1000000, version / 1000 % 1000, version % 1000, RIGBASEN_VERSION);
+    return version == RIGBASEN_VERSION_NUMBER ? 0 : 1;
+}
+
+static int print_answers(const struct region_file *file)
+{
+    static struct areas areas;
+    if (show_list(file) != RIGBASEN_FINE) {
         return 0;
     }
-    printf("(list ");
-    print_rows(&areas, patients_of_region(file));
     for (uint64_t clinic = 0; clinic < RIGBASEN_MOST_CLINICS; clinic++) {
-        number = sheet_of_clinic(file, clinic, &areas);
+        uint64_t number = sheet_of_clinic(file, clinic, &areas);
         if (number == RIGBASEN_FINE) {
             printf("(sheet %" PRIu64 " ", clinic);
             print_rows(&areas, patients_of_clinic(file, clinic));
@@ -210,12 +274,32 @@ static int seal(void)
     return 0;
 }
 
+/* Carries out a command of one file; -1 where there is no such command. */
+static int ask_of_file(const char *command, const char *name)
+{
+    static const struct {
+        const char *name;
+        int (*ask)(const struct region_file *file);
+    } commands[] = {{"check", print_check}, {"cuts", try_cuts}, {"print", print_answers}, {"list", print_list}, {"parents", print_made}};
+    static struct region_file file;
+    for (size_t i = 0; i < sizeof commands / sizeof commands[0]; i++) {
+        if (strcmp(command, commands[i].name) == 0) {
+            read_region(name, &file);
+            return commands[i].ask(&file);
+        }
+    }
+    return -1;
+}
+
 /* Carries out a command, which has so many arguments behind it. */
 static int carry_out(const char *command, int count, char **behind)
 {
     static struct region_file file;
     if (strcmp(command, "seal") == 0 && count == 0) {
         return seal();
+    }
+    if (strcmp(command, "version") == 0 && count == 0) {
+        return print_version();
     }
     if (strcmp(command, "price") == 0 && count > 0) {
         read_region(behind[0], &file);
@@ -224,20 +308,13 @@ static int carry_out(const char *command, int count, char **behind)
     if (strcmp(command, "join") == 0 && count == 2) {
         return print_joined(behind[0], behind[1]);
     }
-    if (strcmp(command, "parents") == 0 && count == 1) {
-        read_region(behind[0], &file);
-        return print_made(&file);
+    int status = count == 1 ? ask_of_file(command, behind[0]) : -1;
+    if (status < 0) {
+        fprintf(stderr, "checklist_calls version, check FILE, cuts FILE, print FILE, list FILE, price FILE BED .., join FIRST SECOND,"
+                        " parents FILE, or seal\n");
+        return 2;
     }
-    if (strcmp(command, "cuts") == 0 && count == 1) {
-        read_region(behind[0], &file);
-        return try_cuts(&file);
-    }
-    if (strcmp(command, "print") == 0 && count == 1) {
-        read_region(behind[0], &file);
-        return print_answers(&file);
-    }
-    fprintf(stderr, "checklist_calls cuts FILE, print FILE, price FILE BED .., join FIRST SECOND, parents FILE, or seal\n");
-    return 2;
+    return status;
 }
 
 int main(int count, char **arguments)
