@@ -146,7 +146,8 @@ static int carry_out(int count, char **arguments)
 int main(int count, char **arguments)
 {
     open_standard_files();
-    /* A reader that has gone away is seen as a write that fails. */
+    /* A reader that has gone away and a file that may not grow are seen as writes that fail. */
     signal(SIGPIPE, SIG_IGN);
+    signal(SIGXFSZ, SIG_IGN);
     return end_output(carry_out(count, arguments));
 }

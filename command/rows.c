@@ -42,7 +42,8 @@ static const char *clinics_of(const struct file *file)
     }
     for (unsigned clinic = 0; clinic < RIGBASEN_MOST_CLINICS; clinic++) {
         if ((present >> clinic & 1u) != 0) {
-            length += (size_t)snprintf(text + length, sizeof text - length, "%s%u", length == 0 ? " (clinics with patients: " : ", ", clinic);
+            const char *before = length == 0 ? " (clinics with patients: " : ", ";
+            length += (size_t)snprintf(text + length, sizeof text - length, "%s%u", before, clinic);
         }
     }
     snprintf(text + length, sizeof text - length, ")");

@@ -106,7 +106,7 @@ void say_place(const struct lines *lines, size_t line, size_t column, const char
     vprintf(format, rest);
     printf("\n");
     va_end(rest);
-    if (line <= lines->count) {
+    if (line <= lines->count && line_length(lines, line) > 0) {
         show_around(lines, line, column);
     }
 }

@@ -248,7 +248,8 @@ static int take_form(struct walk *walk, enum kind kind)
     if (kind == KIND_END) {
         set_fault(walk->fault, walk->length + 1, REMEDY_LAST_END, "the line end of the last line is missing");
     } else {
-        set_fault(walk->fault, walk->length + 1, REMEDY_RELOAD, "the file stops here, before a line end and without an end line: it is cut");
+        set_fault(walk->fault, walk->length + 1, REMEDY_RELOAD,
+                  "the file stops here, before a line end and without an end line: it is cut");
     }
     walk->fault->complete = 1;
     return 0;
@@ -301,7 +302,8 @@ static int begins_well(struct walk *walk, enum kind before)
 {
     const uint8_t *bytes = walk->bytes;
     if (before == KIND_END) {
-        set_fault(walk->fault, 1, REMEDY_BEHIND, walk->length == 0 ? "a blank line behind the end line" : "something stands behind the end line");
+        set_fault(walk->fault, 1, REMEDY_BEHIND,
+                  walk->length == 0 ? "a blank line behind the end line" : "something stands behind the end line");
     } else if (before == KIND_NONE && walk->length >= 3 && memcmp(bytes, "\xEF\xBB\xBF", 3) == 0) {
         set_fault(walk->fault, 1, REMEDY_MARK, "a UTF-8 byte order mark (bytes 239, 187, 191)");
     } else if (before == KIND_NONE && walk->length >= 2 && (memcmp(bytes, "\xFF\xFE", 2) == 0 || memcmp(bytes, "\xFE\xFF", 2) == 0)) {

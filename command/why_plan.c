@@ -125,7 +125,8 @@ static int explain_no_plan(const struct file *file, struct part *part, uint64_t 
     enum answer answer = find_last_table(part, &count);
     if (answer == YES) {
         say_place(&lines, line_of_table(part->region, count - 1), 0,
-                  count == 1 ? "with this table, the first, no plan is allowed" : "the tables before this one leave a plan, and with it none is allowed");
+                  count == 1 ? "with this table, the first, no plan is allowed"
+                             : "the tables before this one leave a plan, and with it none is allowed");
         answer = leave_out(part, part->tables, part->region->table_count);
     }
     if (answer == YES) {

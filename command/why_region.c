@@ -134,8 +134,9 @@ static void explain_counts(const struct file *file)
               (unsigned long long)patients, many(patients), (unsigned long long)tables, many(tables),
               patient_count, many(patient_count), table_count, many(table_count));
     if (patient_count < patients || table_count < tables) {
-        say_what_to_do(file, "lines are missing, the file may be cut: load it again from where it came. If lines were taken out on purpose,\n"
-                             "              count anew in line 1, take the end line out and seal it: sed '$d' FILE | rigbasen seal -o FILE");
+        say_what_to_do(file, "lines are missing, the file may be cut: load it again from where it came. If they were taken out on\n"
+                             "              purpose, count anew in line 1, take the end line out and seal the file:\n"
+                             "              sed '$d' FILE | rigbasen seal -o FILE");
     } else {
         say_what_to_do(file, "if a line was added on purpose, count it in line 1, take the end line out and seal the file:\n"
                              "              sed '$d' FILE | rigbasen seal -o FILE");
@@ -153,7 +154,8 @@ static void explain_sum(const struct file *file)
         say_unplaced();
         return;
     }
-    say_place(&lines, lines.count, 0, "the end line says %llu, and the sum is %llu: the file was damaged, or changed without a new end line",
+    say_place(&lines, lines.count, 0,
+              "the end line says %llu, and the sum is %llu: the file was damaged, or changed without a new end line",
               (unsigned long long)fields.at[0].value, (unsigned long long)sum_of(file->bytes, before));
     if (number == RIGBASEN_FINE) {
         printf("  with the true sum check finds nothing else wrong\n");
@@ -224,7 +226,8 @@ static void say_field(size_t patient, int field)
     } else if (field == 2 && patient == 0) {
         say_place(&lines, line, column, "patient 0: the parent is %llu; the first patient's is -", value);
     } else if (field == 2) {
-        say_place(&lines, line, column, "patient %zu: the parent is %llu; it is - or a patient before, 0 to %zu", patient, value, patient - 1);
+        say_place(&lines, line, column, "patient %zu: the parent is %llu; it is - or a patient before, 0 to %zu", patient, value,
+                  patient - 1);
     } else {
         say_place(&lines, line, column, "patient %zu: the fixed bed is %llu; it is - or one of the beds, 0 to %llu", patient, value,
                   (unsigned long long)fields.at[1].value - 1);
@@ -343,8 +346,8 @@ static void explain_entry_counts(const struct file *file)
         say_unplaced();
         return;
     } else {
-        say_place(&lines, table_line(table), 0, "the beds of the table's members ask for %llu entries; found are %zu", (unsigned long long)asked,
-                  entries);
+        say_place(&lines, table_line(table), 0, "the beds of the table's members ask for %llu entries; found are %zu",
+                  (unsigned long long)asked, entries);
     }
     say_what_to_do(file, set_right);
 }
@@ -386,7 +389,21 @@ static void explain_entries(const struct file *file)
     say_unplaced();
 }
 
-/* Every two members of the table are asked about as the only ones of a table. */
+/* All patients, and a table over these two alone. */
+static uint64_t ask_pair(uint64_t first, uint64_t second)
+{
+    begin(patient_count, 1);
+    add_lines(patient_line(0), patient_count);
+    add_value("(cost (", first);
+    add_value(" ", second);
+    add_text(&small, ") (0");
+    for (uint64_t rest = beds_of(first) * beds_of(second); rest > 1; rest--) {
+        add_text(&small, " 0");
+    }
+    add_text(&small, "))\n");
+    return ask();
+}
+
 static void explain_ancestors(const struct file *file)
 {
     size_t table = first_table(RIGBASEN_ANCESTORS);
@@ -394,17 +411,9 @@ static void explain_ancestors(const struct file *file)
         for (size_t j = i + 1; j < fields.member_count; j++) {
             uint64_t first = fields.at[i].value;
             uint64_t second = fields.at[j].value;
-            begin(patient_count, 1);
-            add_lines(patient_line(0), patient_count);
-            add_value("(cost (", first);
-            add_value(" ", second);
-            add_text(&small, ") (0");
-            for (uint64_t rest = beds_of(first) * beds_of(second); rest > 1; rest--) {
-                add_text(&small, " 0");
-            }
-            add_text(&small, "))\n");
-            if (ask() == RIGBASEN_ANCESTORS) {
-                say_place(&lines, table_line(table), fields.at[j].column, "the table joins patients %llu and %llu, of whom neither is an ancestor of the other",
+            if (ask_pair(first, second) == RIGBASEN_ANCESTORS) {
+                say_place(&lines, table_line(table), fields.at[j].column,
+                          "the table joins patients %llu and %llu, of whom neither is an ancestor of the other",
                           (unsigned long long)first, (unsigned long long)second);
                 say_parents(file);
                 return;
