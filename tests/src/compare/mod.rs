@@ -215,12 +215,12 @@ fn run_few_writes(seed: u64) -> Result<(), Difference> {
 /// Some of the comparisons of read; those of all counts and lengths have thousands of cases.
 fn run_few_reads(seed: u64) -> Result<(), Difference> {
     read::by_hand::run(BARE.read, seed, 1)?.print();
-    read::files::good_files(BARE.read, seed, 48)?.print();
+    read::files::good_files(BARE.read, seed, 36)?.print();
     read::refusals::one_fault(BARE.read, seed, 4)?.print();
     read::refusals::two_faults(BARE.read, seed, 1)?.print();
-    read::back::files(BARE.read, seed, 12)?.print();
-    read::back::regions(BARE.read, seed, 12)?.print();
-    read::back::changed_regions(BARE.read, seed, 12)?.print();
+    read::back::files(BARE.read, seed, 8)?.print();
+    read::back::regions(BARE.read, seed, 9)?.print();
+    read::back::changed_regions(BARE.read, seed, 9)?.print();
     Ok(())
 }
 

@@ -87,7 +87,12 @@ fn look_up(tally: &mut Tally, calls: Calls, random: &mut Random) -> Result<(), D
 /// All of them.
 pub fn files() -> Vec<Vec<u8>> {
     let numbered = numbered().into_iter().map(|(file, _)| file);
-    numbered.chain(listed().into_iter().chain(staying()).map(|(file, ..)| file)).collect()
+    numbered.chain(accepted()).collect()
+}
+
+/// Those that have a list, though it may be empty.
+pub fn accepted() -> Vec<Vec<u8>> {
+    listed().into_iter().chain(staying()).map(|(file, ..)| file).collect()
 }
 
 fn same(rows: &[Row], paper: Rows) -> bool {

@@ -8,6 +8,7 @@ mod join_times;
 mod line_times;
 mod list_times;
 mod parents_times;
+mod read_times;
 mod small_times;
 mod timing;
 mod write_times;
@@ -46,6 +47,7 @@ fn run(mut arguments: impl Iterator<Item = String>) -> Result<(), String> {
     check_times::print(&given);
     line_times::print(&given);
     write_times::print(&given);
+    read_times::print(&given);
     join_times::print(&given);
     parents_times::print(&given);
     parents_times::print_lists(limit);

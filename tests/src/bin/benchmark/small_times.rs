@@ -1,10 +1,11 @@
-//! Every call of the paper's file, which is so small that what a call does whatever the file is all of its time.
+//! Every call of a file with the paper's, which is so small that what a call does whatever the file is all of its time.
 
 use crate::timing::{in_turn, ratio};
-use rigbasen_tests::areas::{Areas, Lengths};
-use rigbasen_tests::baseline::calls;
+use rigbasen_tests::areas::{Areas, Arrays, Lengths};
+use rigbasen_tests::baseline::{array_reader, calls};
 use rigbasen_tests::boundary;
 use rigbasen_tests::compare::paper;
+use rigbasen_tests::reading::MOST_BYTES;
 
 /// A clock is read around so many calls, since one takes about as long as reading it.
 const CALLS: u32 = 100;
@@ -23,7 +24,10 @@ pub fn print() {
     print_row("sheet", || boundary::sheet(file, 0, &mut ours), || calls::sheet(file, 0, &mut other));
     print_row("price", || boundary::price(file, &[1, 0], &mut result), || calls::price(file, &[1, 0], &mut others));
     print_row("line", || boundary::line(file, b"(0 1)", &mut result), || calls::line(file, b"(0 1)", &mut others));
-    assert!(ours == other && result == others, "the paper's file: two answers");
+    let arrays = Arrays::patterned(MOST_BYTES, 0);
+    let (mut read, mut base_read) = (arrays.clone(), arrays);
+    print_row("read", || boundary::read(file, &mut read), || array_reader::read(file, &mut base_read));
+    assert!(ours == other && result == others && read == base_read, "the paper's file: two answers");
     println!();
 }
 

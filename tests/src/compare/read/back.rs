@@ -13,7 +13,7 @@ use crate::reading::MOST_BYTES;
 use crate::region::Region;
 use crate::{files as held, reader};
 
-/// Good files of every kind, and all of the repository: the bytes that are counted, lent to write, give the file.
+/// Good files of every kind, the paper's and those of the repository: the bytes that are counted, lent to write, give the file.
 pub fn files(tested: Tested<ReadCall>, seed: u64, count: usize) -> Result<Tally, Difference> {
     let mut tally = Tally::of(&format!("{}, there and back", tested.name));
     let mut random = Random::of(seed, "read, there and back");
@@ -21,7 +21,7 @@ pub fn files(tested: Tested<ReadCall>, seed: u64, count: usize) -> Result<Tally,
         let file = spelling::file_of(&files::region(case, &mut random));
         compare_back(&mut tally, tested, &file, &mut random)?;
     }
-    let made = held::all().into_iter().map(|made| made.bytes).chain(paper::files());
+    let made = held::all().into_iter().map(|made| made.bytes).chain(paper::accepted());
     for file in made.filter(|file| reader::read(file).is_ok()) {
         compare_back(&mut tally, tested, &file, &mut random)?;
     }

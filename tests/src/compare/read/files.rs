@@ -20,14 +20,14 @@ const ACCEPTED: [Filled; 3] = [Filled::Rightly, Filled::WithMoreAncestors, Fille
 /// Small regions of every kind, such as every graph of tables makes, large ones, those of full size and the longest.
 pub fn region(case: usize, random: &mut Random) -> Region {
     match case % 100 {
-        0 => full_size::region(random),
-        1 => full_size::longest_region(),
-        2 => full_size::longest_with_own_last_table(),
-        3 => full_table(),
-        4 | 5 => large::region(random),
-        6..=29 => {
-            let mut region = graphs::any_size(GRAPHS[case % GRAPHS.len()], random);
-            fill(&mut region, ACCEPTED[case % ACCEPTED.len()], random);
+        10 => full_size::region(random),
+        20 | 60 => large::region(random),
+        30 => full_size::longest_region(),
+        50 => full_size::longest_with_own_last_table(),
+        70 => full_table(),
+        _ if case % 4 == 1 => {
+            let mut region = graphs::any_size(random.pick(&GRAPHS), random);
+            fill(&mut region, random.pick(&ACCEPTED), random);
             region
         }
         _ => good_region(case, random),
