@@ -4,9 +4,9 @@ use Prim.Native.Nat.{_≤_}
 use native.Mathlib.Numerals.{add-one}
 use native.Mathlib.Omega.{arith}
 use mir.Val.{boolByte}
-use lib.ListN.{set, drop, drop-of-length-le, length-take}
-use lib.Seq.{drop-cons, getD-take, length-take-le}
-use Rattle.definitions.specs.Basics.{ℕ, suc, _+_, _-_, _*_, _/_, _%_, _<_, _≡_, refl, List, [], _∷_, Bool, true, false, cond, length, getD, take, sets}
+use lib.ListN.{set, drop, drop-of-length-le}
+use lib.Seq.{drop-cons}
+use Rattle.definitions.specs.Basics.{ℕ, suc, _+_, _-_, _*_, _/_, _%_, _<_, _≡_, refl, List, [], _∷_, Bool, true, false, cond, length, getD, sets}
 use Rattle.definitions.specs.Outcomes.{written}
 use Rattle.definitions.specs.Boundary.{bytesOf}
 
@@ -34,27 +34,27 @@ module _ (at : ℕ) (area : List ℕ) (n : ℕ) where
       let none-left : 8 - i ≡ 0 = omega arith in
       rw none-left
 
--- A loop over numbers: the area once those from number i on are stored.
-unfoldable pub numbersLeft : List ℕ → ℕ → List ℕ → List ℕ
-numbersLeft numbers i area = written i 8 (bytesOf 8) (drop i numbers) area
+-- A loop over numbers that stand from number `at` on: the area once those from number i on are stored.
+unfoldable pub numbersLeft : ℕ → List ℕ → ℕ → List ℕ → List ℕ
+numbersLeft at numbers i area = written (at + i) 8 (bytesOf 8) (drop i numbers) area
 
-pub numbers-all : (numbers area : List ℕ) → numbersLeft numbers 0 area ≡ written 0 8 (bytesOf 8) numbers area
-unfolding numbersLeft
-numbers-all numbers area = refl
-
-module _ (n : ℕ) (held area : List ℕ) where
-  pub numbers-next : {x : ℕ} {after : List ℕ} (i : ℕ) → i < n → n ≤ length held → x ≡ getD held i 0 → after ≡ sets area (i * 8) (bytesOf 8 x)
-      → numbersLeft (take n held) (i + 1) after ≡ numbersLeft (take n held) i area
+module _ (at : ℕ) (numbers area : List ℕ) where
+  pub numbers-all : numbersLeft at numbers 0 area ≡ written at 8 (bytesOf 8) numbers area
   unfolding numbersLeft
-  numbers-next i h few at-i stored =
-      let inside : i < length (take n held) = omega (arith, length-take-le n held few) in
-      rw (stored, at-i, add-one i, drop-cons (take n held) i 0 inside, getD-take n held i 0 h)
+  numbers-all =
+      let start : at + 0 ≡ at = omega arith in
+      ap (λ k. written k 8 (bytesOf 8) numbers area) start
 
-  pub numbers-done : (i : ℕ) → n ≤ i → area ≡ numbersLeft (take n held) i area
+  pub numbers-next : {x k : ℕ} {after : List ℕ} (i : ℕ) → i < length numbers → x ≡ getD numbers i 0 → k ≡ (at + i) * 8 → after ≡ sets area k (bytesOf 8 x)
+      → numbersLeft at numbers (i + 1) after ≡ numbersLeft at numbers i area
   unfolding numbersLeft
-  numbers-done i h =
-      let all : length (take n held) ≤ i = simp length-take (omega arith) in
-      rw (drop-of-length-le (take n held) all)
+  numbers-next i inside at-i place stored =
+      let next : at + (i + 1) ≡ suc (at + i) = omega arith in
+      rw (stored, place, at-i, next, add-one i, drop-cons numbers i 0 inside)
+
+  pub numbers-done : (i : ℕ) → length numbers ≤ i → area ≡ numbersLeft at numbers i area
+  unfolding numbersLeft
+  numbers-done i all = rw (drop-of-length-le numbers all)
 
 -- Two numbers, one behind the other.
 pub pair-written : (a b : ℕ) (result : List ℕ) {first both : List ℕ} → first ≡ sets result 0 (bytesOf 8 a) → both ≡ sets first 8 (bytesOf 8 b)

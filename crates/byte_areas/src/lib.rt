@@ -51,7 +51,7 @@ pub fn number_at(area: &[u8], i: usize) -> u64
 }
 
 // One number, from place `at` on.
-fn store_number(area: &mut [u8], at: usize, n: u64)
+pub fn store_number(area: &mut [u8], at: usize, n: u64)
     requires { ⌜ at + 8 ≤ length (now area) ⌝ }
     ensures { λ _. ⌜ now (area .exit) ≡ sets (now (area .entry)) at (bytesOf 8 n) ⌝ }
 {
@@ -60,6 +60,18 @@ fn store_number(area: &mut [u8], at: usize, n: u64)
     while i < 8 {
         area[at + i] = (rest % 256) as u8;
         rest = rest / 256;
+        i += 1;
+    }
+}
+
+// Numbers one behind the other, from number `at` of the area on.
+pub fn store_numbers(area: &mut [u8], at: usize, numbers: &[u64])
+    requires { ⌜ (at + length (now numbers)) * 8 ≤ length (now area) ⌝ }
+    ensures { λ _. ⌜ now (area .exit) ≡ written at 8 (bytesOf 8) (now (numbers .entry)) (now (area .entry)) ⌝ }
+{
+    let mut i = 0;
+    while i < numbers.len() {
+        store_number(area, (at + i) * 8, numbers[i]);
         i += 1;
     }
 }
@@ -86,6 +98,20 @@ pub fn store_pair(result: &mut [u8], first: u64, second: u64)
     }
     store_number(result, 0, first);
     store_number(result, 8, second);
+}
+
+// How many bytes a result of four numbers has.
+pub const FOUR: usize = 32;
+
+// A result of four numbers: the counts of what was read. A shorter area is untouched.
+pub fn store_four(result: &mut [u8], numbers: &[u64; 4])
+    requires { ⌜ length (now numbers) ≡ 4 ⌝ }
+    ensures { λ _. ⌜ now (result .exit) ≡ resultAfter (now (numbers .entry)) (now (result .entry)) ⌝ }
+{
+    if result.len() < FOUR {
+        return;
+    }
+    store_numbers(result, 0, numbers);
 }
 
 // The result of price: allowed is 1, not allowed 0; then the total.

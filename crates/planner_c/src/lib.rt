@@ -1,7 +1,8 @@
 // The calls from C: the proved entries on numbers and byte areas.
 ghost use mathlib.Core.Path.{_≡_};
-ghost use Rattle.definitions.specs.Boundary.{checkCall, listCall, sheetCall, priceCall, writeCall, lineCall, joinCall, parentsCall};
+ghost use Rattle.definitions.specs.Boundary.{checkCall, listCall, sheetCall, priceCall, writeCall, lineCall, joinCall, parentsCall, readCall, versionNumber};
 use answers::checked_number;
+use lent_reader::read_call;
 use lent_writer::write_lent;
 use pair_calls::join_call;
 use pair_calls::line_call;
@@ -77,6 +78,20 @@ pub extern "C" fn rigbasen_write(
     write_lent(patients, tables, entries, m, output, result)
 }
 
+// What a file says, in the three areas that write takes. The result area holds four numbers: V, T, m and how many entries there are.
+#[no_mangle]
+pub extern "C" fn rigbasen_read(
+    file: &[u8],
+    patients: &mut [u8],
+    tables: &mut [u8],
+    entries: &mut [u8],
+    result: &mut [u8],
+) -> u64
+    ensures { λ n. ⌜ record { number = n; patients = now (patients .exit); tables = now (tables .exit); entries = now (entries .exit); result = now (result .exit) } ≡ readCall (now (file .entry)) (now (patients .entry)) (now (tables .entry)) (now (entries .entry)) (now (result .entry)) ⌝ }
+{
+    read_call(file, patients, tables, entries, result)
+}
+
 // Two files put together into one. The result area holds two numbers: the byte count, and which file the number is about (0 neither, 1 the first, 2 the second).
 #[no_mangle]
 pub extern "C" fn rigbasen_join(
@@ -96,4 +111,12 @@ pub extern "C" fn rigbasen_parents(file: &[u8], output: &mut [u8], result: &mut 
     ensures { λ n. ⌜ record { number = n; output = now (output .exit); result = now (result .exit) } ≡ parentsCall (now (file .entry)) (now (output .entry)) (now (result .entry)) ⌝ }
 {
     parents_call(file, output, result)
+}
+
+// The library's version, by which a caller sees whether its header belongs to it.
+#[no_mangle]
+pub extern "C" fn rigbasen_version() -> u64
+    ensures { λ n. ⌜ n ≡ versionNumber ⌝ }
+{
+    1_008_000
 }

@@ -1,0 +1,3 @@
+-- What read leaves in the areas, and what it answers.
+pub mod Laid
+pub mod Called
