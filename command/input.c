@@ -101,10 +101,10 @@ static mode_t mode_of(const struct stat *old)
 }
 
 /* Writes a temporary file beside the one that is wanted, and renames it when it is whole. */
-static int save_beside(const char *output, const struct file *file, const struct stat *old)
+static int save_beside(const char *output, const char *target, const struct file *file, const struct stat *old)
 {
     static char beside[PATH_MAX + 8];
-    int length = snprintf(beside, sizeof beside, "%s.XXXXXX", output);
+    int length = snprintf(beside, sizeof beside, "%s.XXXXXX", target);
     if (length < 0 || (size_t)length >= sizeof beside) {
         return trouble(output, ENAMETOOLONG);
     }
@@ -119,7 +119,7 @@ static int save_beside(const char *output, const struct file *file, const struct
     if (close(descriptor) != 0 && error == 0) {
         error = errno;
     }
-    if (error == 0 && rename(beside, output) != 0) {
+    if (error == 0 && rename(beside, target) != 0) {
         error = errno;
     }
     if (error != 0) {
@@ -139,7 +139,7 @@ int save_file(const char *output, const struct file *file)
         return STATUS_FINE;
     }
     if (stat(output, &about) != 0) {
-        return errno == ENOENT ? save_beside(output, file, NULL) : trouble(output, errno);
+        return errno == ENOENT ? save_beside(output, output, file, NULL) : trouble(output, errno);
     }
     if (S_ISDIR(about.st_mode)) {
         return trouble(output, EISDIR);
@@ -148,7 +148,7 @@ int save_file(const char *output, const struct file *file)
         return save_there(output, file);
     }
     /* A link stays one: the file that it leads to is the one that is replaced. */
-    return realpath(output, target) == NULL ? trouble(output, errno) : save_beside(target, file, &about);
+    return realpath(output, target) == NULL ? trouble(output, errno) : save_beside(output, target, file, &about);
 }
 
 /* The last thing: what was printed must have been written. */
