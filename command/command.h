@@ -114,6 +114,8 @@ void clear_text(struct file *text);
 void add_text(struct file *text, const char *format, ...);
 void add_bytes(struct file *text, const uint8_t *bytes, size_t length);
 void add_end_line(struct file *text);
+int has_end_line(const struct file *file);
+void complete(struct file *file);
 uint64_t sum_of(const uint8_t *bytes, size_t length);
 uint64_t check_file(const struct file *file);
 

@@ -129,3 +129,29 @@ void add_end_line(struct file *text)
 {
     add_text(text, "(end %llu)\n", (unsigned long long)sum_of(text->bytes, text->length));
 }
+
+/* Where the last line starts. */
+static size_t last_line(const struct file *file)
+{
+    size_t start = file->length - (file->length > 0 && file->bytes[file->length - 1] == '\n');
+    while (start > 0 && file->bytes[start - 1] != '\n') {
+        start--;
+    }
+    return start;
+}
+
+/* Is the last line an end line, be its number right or wrong? */
+int has_end_line(const struct file *file)
+{
+    static const char beginning[] = "(end";
+    size_t start = last_line(file);
+    return file->length - start >= strlen(beginning) && memcmp(file->bytes + start, beginning, strlen(beginning)) == 0;
+}
+
+/* Puts an end line behind a file that has none. */
+void complete(struct file *file)
+{
+    if (!has_end_line(file)) {
+        add_end_line(file);
+    }
+}

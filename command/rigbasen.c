@@ -37,7 +37,7 @@ const struct command commands[] = {
      "  -o FILE  where it goes\n"},
     {"parents", carry_out_parents, OPTION_OUTPUT, 0, 1, "parents [-o FILE] [FILE]",
      "The file with its parents made from its tables, whatever stood there. Run it where a file is refused with 10, or with 6 for\n"
-     "its parents, and where a list takes very long.\n"
+     "its parents, and where a list takes very long. A file without an end line gets one, as by seal.\n"
      "  -o FILE  where it goes; it may be the file that is read\n"},
     {"why", carry_out_why, OPTION_LIMIT, 0, 1, "why [--limit S] [FILE]",
      "Why a file is refused, where, and what to do. Of a good file: its size, and whether its parents make a list slow.\n"

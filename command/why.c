@@ -111,19 +111,41 @@ void say_place(const struct lines *lines, size_t line, size_t column, const char
     }
 }
 
-void say_what_to_do(const struct file *file, const char *format)
+/* A text in which each FILE stands for the file's name. */
+static void put_with_name(const struct file *file, const char *text, size_t length)
 {
-    printf("  what to do: ");
-    for (const char *next = strstr(format, "FILE"); next != NULL; next = strstr(format, "FILE")) {
-        printf("%.*s", (int)(next - format), format);
-        if (file->name == NULL) {
-            printf("FILE");
-        } else {
-            put_argument(stdout, file->name);
+    static const char word[] = "FILE";
+    size_t done = 0;
+    for (size_t at = 0; at + strlen(word) <= length; at++) {
+        if (memcmp(text + at, word, strlen(word)) == 0) {
+            printf("%.*s", (int)(at - done), text + done);
+            if (file->name == NULL) {
+                printf("FILE");
+            } else {
+                put_argument(stdout, file->name);
+            }
+            done = at + strlen(word);
         }
-        format = next + strlen("FILE");
     }
-    printf("%s\n", format);
+    printf("%.*s", (int)(length - done), text + done);
+}
+
+/* How a file that was changed gets its end line. */
+static const char *how_to_seal(const struct file *file)
+{
+    return has_end_line(file) ? "take the end line out and seal it: sed '$d' FILE | rigbasen seal -o FILE"
+                              : "and seal it: rigbasen seal -o FILE FILE";
+}
+
+void say_what_to_do(const struct file *file, const char *text)
+{
+    const char *sealing = strstr(text, "SEAL");
+    printf("  what to do: ");
+    put_with_name(file, text, sealing == NULL ? strlen(text) : (size_t)(sealing - text));
+    if (sealing != NULL) {
+        put_with_name(file, how_to_seal(file), strlen(how_to_seal(file)));
+    }
+    printf("\n");
 }
 
 void say_unplaced(void)
@@ -167,7 +189,7 @@ int carry_out_why(const struct request *request)
     } else if (number == RIGBASEN_LAYOUT) {
         explain_layout(&file);
     } else if (number >= RIGBASEN_COUNTS && number <= RIGBASEN_ANCESTORS) {
-        explain_region(&file, number);
+        explain_region(&file, &file, number);
     } else {
         say_unplaced();
     }

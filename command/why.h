@@ -34,7 +34,7 @@ int line_is_ended(const struct lines *lines, size_t line);
 void find_fields(const struct lines *lines, size_t line, struct fields *fields);
 void say_place(const struct lines *lines, size_t line, size_t column, const char *format, ...); /* column 0: the line as a whole */
 void show_line(const struct lines *lines, size_t line);
-void say_what_to_do(const struct file *file, const char *format); /* each FILE in the text stands for the file's name */
+void say_what_to_do(const struct file *file, const char *text); /* FILE stands for the file's name; SEAL, last, for how it is sealed */
 void say_unplaced(void);
 
 /* What is to be done about a fault of layout. */
@@ -42,6 +42,7 @@ enum remedy {
     REMEDY_EDIT,
     REMEDY_RELOAD,
     REMEDY_WINDOWS,
+    REMEDY_OLD_MAC,
     REMEDY_OLD_FORM,
     REMEDY_MARK,
     REMEDY_OTHER_TEXT,
@@ -68,8 +69,8 @@ void set_fault(struct fault *fault, size_t column, enum remedy remedy, const cha
 /* why_layout.c */
 void explain_layout(const struct file *file);
 
-/* why_region.c: questions 3 to 10. */
-void explain_region(const struct file *file, uint64_t number);
+/* why_region.c: questions 3 to 10 of a file, which is asked about with an end line where it has none. */
+void explain_region(const struct file *file, const struct file *completed, uint64_t number);
 
 /* why_plan.c: of a file that check accepts. Gives the status. */
 int explain_plans(const struct file *file, uint64_t milliseconds);

@@ -4,10 +4,11 @@
 #include <string.h>
 
 static const char *const remedies[REMEDY_COUNT] = {
-    [REMEDY_EDIT] = "load the file again from where it came; if it was changed by hand, set the line right, take the end line\n"
-                    "              out and seal it: sed '$d' FILE | rigbasen seal -o FILE",
+    [REMEDY_EDIT] = "load the file again from where it came; if it was changed by hand, set the line right,\n"
+                    "              SEAL",
     [REMEDY_RELOAD] = "load the file again from where it came",
     [REMEDY_WINDOWS] = "take them out of all lines: tr -d '\\r' < FILE > NEW",
+    [REMEDY_OLD_MAC] = "make line ends of them: tr '\\r' '\\n' < FILE > NEW",
     [REMEDY_OLD_FORM] = "convert it with examples/add_fixed_field",
     [REMEDY_MARK] = "take it out: tail -c +4 FILE > NEW",
     [REMEDY_OTHER_TEXT] = "save the file as plain text: iconv -f UTF-16 -t ASCII FILE > NEW",
@@ -70,6 +71,25 @@ static size_t find_fault(const struct lines *lines, struct fault *fault)
     return before == KIND_END ? 0 : lines->count + 1;
 }
 
+/* Lines written by hand have no end line yet: what check would say of the file with one. */
+static uint64_t explain_completed(const struct file *file)
+{
+    static struct file completed;
+    completed = *file;
+    complete(&completed);
+    uint64_t number = check_file(&completed);
+    if (number == RIGBASEN_FINE) {
+        printf("  with an end line put behind it check would find nothing wrong\n");
+    } else {
+        printf("  with an end line put behind it, it would be refused with %llu: %s\n", (unsigned long long)number, text_of(number));
+    }
+    if (number >= RIGBASEN_COUNTS && number <= RIGBASEN_ANCESTORS) {
+        explain_region(file, &completed, number);
+        return number;
+    }
+    return RIGBASEN_FINE;
+}
+
 void explain_layout(const struct file *file)
 {
     static struct lines lines;
@@ -86,5 +106,7 @@ void explain_layout(const struct file *file)
         return;
     }
     say_place(&lines, line, fault.column, "%s", fault.words);
-    say_what_to_do(file, remedies[fault.remedy]);
+    if (fault.remedy != REMEDY_SEAL || explain_completed(file) == RIGBASEN_FINE) {
+        say_what_to_do(file, remedies[fault.remedy]);
+    }
 }

@@ -38,6 +38,8 @@ static int unknown_byte(struct walk *walk, size_t at)
     uint8_t byte = walk->bytes[at];
     if (byte == '\r' && at + 1 == walk->length && walk->ended) {
         set_fault(walk->fault, at + 1, REMEDY_WINDOWS, "a Windows line end (byte 13 before the line end)");
+    } else if (byte == '\r' && at + 1 < walk->length && walk->bytes[at + 1] == '(') {
+        set_fault(walk->fault, at + 1, REMEDY_OLD_MAC, "byte 13 (carriage return) where a line end, byte 10, should be");
     } else if (byte == '\r') {
         set_fault(walk->fault, at + 1, REMEDY_EDIT, "byte 13 (carriage return), which no region file has");
     } else if (byte == '\t') {

@@ -5,6 +5,8 @@
 
 enum answer { NO, YES, LATE, TROUBLE };
 
+enum { MOST_SHOWN = 12 }; /* of what is left when the time is over */
+
 /* A part of a region: all its patients, but not all tables and fixed beds. */
 struct part {
     const struct region *region;
@@ -135,17 +137,18 @@ static int explain_no_plan(const struct file *file, struct part *part, uint64_t 
     if (answer == TROUBLE) {
         return STATUS_TROUBLE;
     }
+    count = show_part(&lines, part, 0);
     if (answer == LATE) {
         show_late(milliseconds);
-        printf("  among these are some that together allow nothing:\n");
-    } else if (show_part(&lines, part, 0) == 1) {
+        printf("  of %zu tables and fixed beds that are left some allow nothing together%s\n", count, count > MOST_SHOWN ? "" : ":");
+    } else if (count == 1) {
         printf("  this table alone allows nothing:\n");
     } else {
         printf("  these together allow nothing, and without any one of them there is a plan:\n");
     }
-    show_part(&lines, part, 1);
-    say_what_to_do(file, "put a number for a hyphen in such a table, or a hyphen for such a fixed bed; take the end line out and seal:\n"
-                         "              sed '$d' FILE | rigbasen seal -o FILE");
+    show_part(&lines, part, answer != LATE || count <= MOST_SHOWN);
+    say_what_to_do(file, "put a number for a hyphen in such a table, or a hyphen for such a fixed bed,\n"
+                         "              SEAL");
     return STATUS_REFUSED;
 }
 

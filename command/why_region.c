@@ -3,14 +3,15 @@
 
 #include <string.h>
 
+static const struct file *asked; /* the file, with an end line where it has none */
 static struct lines lines;
 static struct fields fields;
 static struct file small;
 static size_t patient_count;
 static size_t table_count;
 
-static const char set_right[] = "load the file again from where it came; if it was written or changed by hand, set this right, take the\n"
-                                "              end line out and seal it: sed '$d' FILE | rigbasen seal -o FILE";
+static const char set_right[] = "load the file again from where it came; if it was written or changed by hand, set this right,\n"
+                                "              SEAL";
 
 static size_t patient_line(size_t patient)
 {
@@ -22,9 +23,9 @@ static size_t table_line(size_t table)
     return 2 + patient_count + table;
 }
 
-static void count_lines(const struct file *file)
+static void count_lines(void)
 {
-    find_lines(file, &lines);
+    find_lines(asked, &lines);
     patient_count = 0;
     table_count = 0;
     for (size_t line = 1; line <= lines.count; line++) {
@@ -135,11 +136,11 @@ static void explain_counts(const struct file *file)
               patient_count, many(patient_count), table_count, many(table_count));
     if (patient_count < patients || table_count < tables) {
         say_what_to_do(file, "lines are missing, the file may be cut: load it again from where it came. If they were taken out on\n"
-                             "              purpose, count anew in line 1, take the end line out and seal the file:\n"
-                             "              sed '$d' FILE | rigbasen seal -o FILE");
+                             "              purpose, count anew in line 1,\n"
+                             "              SEAL");
     } else {
-        say_what_to_do(file, "if a line was added on purpose, count it in line 1, take the end line out and seal the file:\n"
-                             "              sed '$d' FILE | rigbasen seal -o FILE");
+        say_what_to_do(file, "if a line was added on purpose, count it in line 1,\n"
+                             "              SEAL");
     }
 }
 
@@ -148,7 +149,7 @@ static void explain_sum(const struct file *file)
     size_t before = lines.start[lines.count - 1];
     find_fields(&lines, lines.count, &fields);
     clear_text(&small);
-    add_bytes(&small, file->bytes, before);
+    add_bytes(&small, asked->bytes, before);
     uint64_t number = ask();
     if (number == RIGBASEN_SUM) {
         say_unplaced();
@@ -156,14 +157,14 @@ static void explain_sum(const struct file *file)
     }
     say_place(&lines, lines.count, 0,
               "the end line says %llu, and the sum is %llu: the file was damaged, or changed without a new end line",
-              (unsigned long long)fields.at[0].value, (unsigned long long)sum_of(file->bytes, before));
+              (unsigned long long)fields.at[0].value, (unsigned long long)sum_of(asked->bytes, before));
     if (number == RIGBASEN_FINE) {
         printf("  with the true sum check finds nothing else wrong\n");
     } else {
         printf("  with the true sum it would be refused with %llu: %s\n", (unsigned long long)number, text_of(number));
     }
-    say_what_to_do(file, "load the file again from where it came. If it was changed on purpose, take the end line out and seal it:\n"
-                         "              sed '$d' FILE | rigbasen seal -o FILE");
+    say_what_to_do(file, "load the file again from where it came; if it was changed on purpose,\n"
+                         "              SEAL");
 }
 
 /* V is asked about with the patients alone, T with the tables alone, m alone. */
@@ -238,7 +239,7 @@ static void say_field(size_t patient, int field)
 static void say_parents(const struct file *file)
 {
     static struct file made;
-    uint64_t number = make_parents(file, &made);
+    uint64_t number = make_parents(asked, &made);
     if (number == RIGBASEN_FINE) {
         say_what_to_do(file, "have the parents made, check then accepts the file: rigbasen parents -o FILE FILE");
     } else {
@@ -423,7 +424,7 @@ static void explain_ancestors(const struct file *file)
     say_unplaced();
 }
 
-void explain_region(const struct file *file, uint64_t number)
+void explain_region(const struct file *file, const struct file *completed, uint64_t number)
 {
     static void (*const explain[])(const struct file *) = {
         [RIGBASEN_COUNTS] = explain_counts,
@@ -435,6 +436,7 @@ void explain_region(const struct file *file, uint64_t number)
         [RIGBASEN_ENTRIES] = explain_entries,
         [RIGBASEN_ANCESTORS] = explain_ancestors,
     };
-    count_lines(file);
+    asked = completed;
+    count_lines();
     explain[number](file);
 }

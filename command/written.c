@@ -3,24 +3,6 @@
 
 #include <string.h>
 
-/* Where the last line starts. */
-static size_t last_line(const struct file *file)
-{
-    size_t start = file->length - (file->length > 0 && file->bytes[file->length - 1] == '\n');
-    while (start > 0 && file->bytes[start - 1] != '\n') {
-        start--;
-    }
-    return start;
-}
-
-/* Is the last line an end line, be its number right or wrong? */
-static int has_end_line(const struct file *file)
-{
-    static const char beginning[] = "(end";
-    size_t start = last_line(file);
-    return file->length - start >= strlen(beginning) && memcmp(file->bytes + start, beginning, strlen(beginning)) == 0;
-}
-
 /* An end line is put behind a file that has none. Then the file is read and written, with another m where one is given. */
 int carry_out_seal(const struct request *request)
 {
@@ -31,9 +13,7 @@ int carry_out_seal(const struct request *request)
     if (status != STATUS_FINE) {
         return status;
     }
-    if (!has_end_line(&file)) {
-        add_end_line(&file);
-    }
+    complete(&file);
     uint64_t number = read_region(&file, &region);
     if (number == RIGBASEN_FINE) {
         region.m = (request->given & OPTION_M) != 0 ? request->m : region.m;
@@ -87,6 +67,7 @@ int carry_out_join(const struct request *request)
     return save_file(request->output, &joined);
 }
 
+/* A file whose lines were written by hand has no end line yet: seal would refuse it for its parents, so they are made first. */
 int carry_out_parents(const struct request *request)
 {
     static struct file file;
@@ -95,6 +76,7 @@ int carry_out_parents(const struct request *request)
     if (status != STATUS_FINE) {
         return status;
     }
+    complete(&file);
     uint64_t number = make_parents(&file, &made);
     if (number != RIGBASEN_FINE) {
         return refuse(request, &file, number, NULL);
