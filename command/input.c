@@ -93,7 +93,7 @@ static int save_there(const char *output, const struct file *file)
 static mode_t mode_of(const struct stat *old)
 {
     if (old != NULL) {
-        return old->st_mode & 07777;
+        return old->st_mode & 0777;
     }
     mode_t mask = umask(0);
     umask(mask);

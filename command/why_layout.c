@@ -71,6 +71,18 @@ static size_t find_fault(const struct lines *lines, struct fault *fault)
     return before == KIND_END ? 0 : lines->count + 1;
 }
 
+/* Has a patient line of the file a fixed bed? Then it is not of the old form, and only this one line lacks it. */
+static int has_fixed_beds(const struct lines *lines)
+{
+    struct fault ignored;
+    for (size_t line = 2; line <= lines->count; line++) {
+        if (walk_line(lines, line, KIND_REGION, &ignored) == KIND_PATIENT) {
+            return 1;
+        }
+    }
+    return 0;
+}
+
 /* Lines written by hand have no end line yet: what check would say of the file with one. */
 static uint64_t explain_completed(const struct file *file)
 {
@@ -104,6 +116,9 @@ void explain_layout(const struct file *file)
     if (line == 0) {
         say_unplaced();
         return;
+    }
+    if (fault.remedy == REMEDY_OLD_FORM && has_fixed_beds(&lines)) {
+        set_fault(&fault, fault.column, REMEDY_EDIT, "the fixed bed is missing; other patients' lines have it");
     }
     say_place(&lines, line, fault.column, "%s", fault.words);
     if (fault.remedy != REMEDY_SEAL || explain_completed(file) == RIGBASEN_FINE) {
