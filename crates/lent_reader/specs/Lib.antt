@@ -1,3 +1,2 @@
--- What read leaves in the areas, and what it answers.
-pub mod Laid
+-- What read answers.
 pub mod Called

@@ -14,11 +14,11 @@ load-requires c κs = search needs
 enum-known-answer : tie.Need-enum-known-answer
 enum-known-answer c = search needs
 
-store-four-requires : tie.Need-store-four-requires
-store-four-requires c κs = search needs
-
 refusal-number-requires : tie.Need-refusal-number-requires
 refusal-number-requires c κs = search needs
+
+refused-requires : tie.Need-refused-requires
+refused-requires c κs = search needs
 
 enum-told : tie.Need-enum-told
 enum-told c = search needs
@@ -35,13 +35,13 @@ same-length c = search needs
 
 returns : tie.Need-returns
 returns c =
-    let stored = c .before .before .before in
-    let refused = stored .before .before .before .before in
-    let read = refused .before .before in
+    let left = c .before .before in
+    let told = left .before .before .before .before in
+    let read = told .before .before in
     let a = read .before .before .before .before .before .before .before .args in
-    let refusal = refused .answer .given in
-    file-refused (now (a .file)) (now (a .patients)) (now (a .tables)) (now (a .entries)) (now (a .result)) (refusal .0 .0) (c .refusal-number .ensures)
-    (ap checkedNumber (sym (refusal .1)) ∙ checks (read .load .ensures)) (stored .store-four .ensures)
+    let refusal = told .answer .given in
+    file-refused (now (a .file)) (now (a .patients)) (now (a .tables)) (now (a .entries)) (now (a .result)) (refusal .0 .0) (left .refused .ensures .0 ∙ left .before .refusal-number .ensures)
+    (ap checkedNumber (sym (refusal .1)) ∙ checks (read .load .ensures)) (left .refused .ensures .1)
 
 same-length-2 : tie.Need-same-length-2
 same-length-2 c = search needs
@@ -62,8 +62,7 @@ returns-2 c =
     let read = told .before .before in
     let a = read .before .before .before .before .before .before .before .args in
     let fine = told .enum-told .given .1 in
-    laid .lay-region .ensures
-    ∙ file-accepted (now (a .file)) (now (a .patients)) (now (a .tables)) (now (a .entries)) (now (a .result)) (accepted-fine (now (a .file)) (read .load .result) (read .load .ensures) fine) (read .load .ensures .says fine)
+    file-accepted (now (a .file)) (now (a .patients)) (now (a .tables)) (now (a .entries)) (now (a .result)) (accepted-fine (now (a .file)) (read .load .result) (read .load .ensures) fine) (read .load .ensures .says fine) (laid .lay-region .ensures)
 
 pub read-call-spec : {M : Type 1} → statement M
 read-call-spec =
@@ -71,8 +70,8 @@ read-call-spec =
     (tie.spec
     load-requires
     enum-known-answer
-    store-four-requires
     refusal-number-requires
+    refused-requires
     enum-told
     lay-region-requires
     same-length

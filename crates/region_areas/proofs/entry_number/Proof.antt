@@ -3,8 +3,8 @@ use mathlib.Core.Path.{sym, ap}
 use borrow.Author.Tests.{eq-eqb, ne-eqb}
 use Rattle.definitions.specs.Basics.{none, some, cond}
 use Rattle.definitions.specs.Boundary.{optionNumber}
-use Rattle.lent_reader.proofs.entry_number.Statement.{statement}
-use Rattle.lent_reader.proofs.entry_number.Tie as tie
+use Rattle.region_areas.proofs.entry_number.Statement.{statement}
+use Rattle.region_areas.proofs.entry_number.Tie as tie
 
 returns : tie.Need-returns
 returns c = sym (ap (λ b. optionNumber (cond b none (some (c .before .args .code)))) (eq-eqb _ _ (c .if1 .taken)))

@@ -4,9 +4,9 @@ use Prim.Native.Nat.{_-_}
 use native.Mathlib.Omega.{arith}
 use Rattle.definitions.specs.Basics.{flatMap, below, length}
 use Rattle.definitions.specs.Boundary.{numbersAfter}
-use Rattle.lent_reader.specs.Laid.{partsLeft, parts-all, parts-next, parts-done, entryPart, entry-laid}
-use Rattle.lent_reader.proofs.store_entries.Statement.{statement}
-use Rattle.lent_reader.proofs.store_entries.Tie as tie
+use Rattle.region_areas.specs.Laid.{partsLeft, parts-all, parts-next, parts-done, entryPart, entry-laid}
+use Rattle.region_areas.proofs.store_entries.Statement.{statement}
+use Rattle.region_areas.proofs.store_entries.Tie as tie
 
 abbrev Inv-loop : tie.InvT-loop
 Inv-loop entries₀ store total k₀ entries k = (length entries ≡ length entries₀) × (partsLeft 1 (entryPart store) total k entries ≡ numbersAfter (flatMap (entryPart store) (below total)) entries₀)

@@ -3,8 +3,8 @@ use mathlib.Core.Path.{ap₂, _∙_}
 use Rattle.definitions.specs.Basics.{_*_, [], _∷_}
 use Rattle.definitions.specs.Outcomes.{written}
 use Rattle.definitions.specs.Boundary.{bytesOf}
-use Rattle.lent_reader.proofs.store_patient.Statement.{statement}
-use Rattle.lent_reader.proofs.store_patient.Tie as tie
+use Rattle.region_areas.proofs.store_patient.Statement.{statement}
+use Rattle.region_areas.proofs.store_patient.Tie as tie
 
 optional-number-requires : tie.Need-optional-number-requires
 optional-number-requires c κs = search needs

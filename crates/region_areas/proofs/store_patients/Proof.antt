@@ -4,9 +4,9 @@ use Prim.Native.Nat.{_-_}
 use native.Mathlib.Omega.{arith}
 use Rattle.definitions.specs.Basics.{flatMap, below, length}
 use Rattle.definitions.specs.Boundary.{numbersAfter}
-use Rattle.lent_reader.specs.Laid.{partsLeft, parts-all, parts-next, parts-done, patientPart}
-use Rattle.lent_reader.proofs.store_patients.Statement.{statement}
-use Rattle.lent_reader.proofs.store_patients.Tie as tie
+use Rattle.region_areas.specs.Laid.{partsLeft, parts-all, parts-next, parts-done, patientPart}
+use Rattle.region_areas.proofs.store_patients.Statement.{statement}
+use Rattle.region_areas.proofs.store_patients.Tie as tie
 
 abbrev Inv-loop : tie.InvT-loop
 Inv-loop patients₀ region held s₀ patients s = (length patients ≡ length patients₀) × (partsLeft 4 (patientPart region) (region .v) s patients ≡ numbersAfter (flatMap (patientPart region) (below (region .v))) patients₀)

@@ -3,8 +3,8 @@ use mathlib.Core.Path.{_∙_}
 use Rattle.definitions.specs.Basics.{_*_, [], _∷_}
 use Rattle.definitions.specs.Outcomes.{written}
 use Rattle.definitions.specs.Boundary.{bytesOf}
-use Rattle.lent_reader.proofs.store_table.Statement.{statement}
-use Rattle.lent_reader.proofs.store_table.Tie as tie
+use Rattle.region_areas.proofs.store_table.Statement.{statement}
+use Rattle.region_areas.proofs.store_table.Tie as tie
 
 member-number-requires : tie.Need-member-number-requires
 member-number-requires c κs = search needs

@@ -1,8 +1,8 @@
 use borrow.Author.Needs.{needs}
 use native.Mathlib.Omega.{arith}
-use Rattle.lent_reader.specs.Laid.{member-held, member-past}
-use Rattle.lent_reader.proofs.member_number.Statement.{statement}
-use Rattle.lent_reader.proofs.member_number.Tie as tie
+use Rattle.region_areas.specs.Laid.{member-held, member-past}
+use Rattle.region_areas.proofs.member_number.Statement.{statement}
+use Rattle.region_areas.proofs.member_number.Tie as tie
 
 returns : tie.Need-returns
 returns c = member-past (c .before .before .args .table) _ (c .if1 .taken)

@@ -4,9 +4,9 @@ use Prim.Native.Nat.{_-_}
 use native.Mathlib.Omega.{arith}
 use Rattle.definitions.specs.Basics.{flatMap, below, length}
 use Rattle.definitions.specs.Boundary.{numbersAfter}
-use Rattle.lent_reader.specs.Laid.{partsLeft, parts-all, parts-next, parts-done, tablePart}
-use Rattle.lent_reader.proofs.store_tables.Statement.{statement}
-use Rattle.lent_reader.proofs.store_tables.Tie as tie
+use Rattle.region_areas.specs.Laid.{partsLeft, parts-all, parts-next, parts-done, tablePart}
+use Rattle.region_areas.proofs.store_tables.Statement.{statement}
+use Rattle.region_areas.proofs.store_tables.Tie as tie
 
 abbrev Inv-loop : tie.InvT-loop
 Inv-loop tables₀ region held i₀ tables i = (length tables ≡ length tables₀) × (partsLeft 6 (tablePart region) (region .t) i tables ≡ numbersAfter (flatMap (tablePart region) (below (region .t))) tables₀)

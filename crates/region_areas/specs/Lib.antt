@@ -1,0 +1,2 @@
+-- The numbers of a held region, part by part.
+pub mod Laid
