@@ -1,5 +1,5 @@
 -- The call of read, in one statement: each of its numbers, each bound, and what a builder gets wrong.
-use Rattle.definitions.specs.Basics.{ℕ, _≡_, refl, none, some, List, [], _∷_, _++_, map, length, replicate}
+use Rattle.definitions.specs.Basics.{ℕ, _≡_, refl, none, some, List, [], _∷_, _++_, map, flatMap, length, replicate, below}
 use Rattle.definitions.specs.Boundary.{ReadCall, readCall, writeCall}
 use Rattle.definitions.specs.Computing.{everything}
 use Rattle.definitions.specs.Examples.{textOf, paperFile, patient, fixed, root, table, fileOf, lent, cleared, overOneAndTwo, oneEntry}
@@ -43,6 +43,10 @@ fourMembers = fileOf 1 (root ∷ patient 0 1 (some 0) ∷ patient 0 1 (some 1) �
 abbrev alone : List ℕ
 alone = fileOf 64 (root ∷ []) []
 
+-- A table with sixteen entries.
+abbrev sixteen : List ℕ
+sixteen = fileOf 1 (patient 0 16 none ∷ []) (table (0 ∷ []) (map some (below 16)) ∷ [])
+
 -- (That a file is too long is handed in: 65,536 bytes take long to count.)
 pub record Reads : Type 0 where
   pub read :
@@ -58,6 +62,7 @@ pub record Reads : Type 0 where
       readCall fourMembers (lent 128) (lent 48) (lent 8) (lent 32) .tables
       ≡ eight 4 ++ eight 0 ++ eight 1 ++ eight 2 ++ eight 3 ++ eight 1
   pub largestEntry : readCall fourMembers (lent 128) (lent 48) (lent 8) (lent 32) .entries ≡ 64 ∷ 66 ∷ 15 ∷ replicate 5 0
+  pub everyEntry : readCall sixteen (lent 32) (lent 48) (lent 128) (lent 32) .entries ≡ flatMap eight (below 16)
   pub noTables :
       readCall alone (lent 32) [] [] (lent 32)
       ≡ record { number = 0; patients = eight 0 ++ eight 1 ++ absent ++ absent; tables = []; entries = []; result = eight 1 ++ eight 0 ++ eight 64 ++ eight 0 }
@@ -82,6 +87,7 @@ reads = record {
   read = refl;
   tableOfFour = refl;
   largestEntry = refl;
+  everyEntry = refl;
   noTables = refl;
   justFits = refl;
   oneShort = refl;
