@@ -76,7 +76,6 @@ struct file {
 int read_file(const char *name, struct file *file);
 int save_file(const char *output, const struct file *file);
 int end_output(int status);
-void open_standard_files(void);
 
 /* words.c: what people read. Nothing of a file or a name reaches the terminal as a control byte. */
 void complain(const char *format, ...);

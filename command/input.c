@@ -9,16 +9,6 @@
 #include <sys/stat.h>
 #include <unistd.h>
 
-/* A closed standard file would be the next one that is opened. It is held open so that reading or writing it fails, as it should. */
-void open_standard_files(void)
-{
-    for (int number = 0; number <= 2; number++) {
-        if (fcntl(number, F_GETFD) == -1 && errno == EBADF) {
-            (void)!open("/dev/null", number == 0 ? O_WRONLY : O_RDONLY);
-        }
-    }
-}
-
 /* Says what could not be done with a file. */
 static int trouble(const char *name, int error)
 {

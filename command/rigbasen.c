@@ -145,7 +145,6 @@ static int carry_out(int count, char **arguments)
 
 int main(int count, char **arguments)
 {
-    open_standard_files();
     /* A reader that has gone away and a file that may not grow are seen as writes that fail. */
     signal(SIGPIPE, SIG_IGN);
     signal(SIGXFSZ, SIG_IGN);
