@@ -101,7 +101,7 @@ static void show_not_allowed(const struct file *file, const uint8_t *plan)
             for (uint64_t i = 0; i < found->member_count; i++) {
                 printf(i == 0 ? "%llu" : " %llu", (unsigned long long)found->members[i]);
             }
-            printf(") in line %zu forbids it", line_of_table(&region, table));
+            printf(") in line %zu forbids it", line_of_table(region.patient_count, table));
         }
     }
     printf("\n");

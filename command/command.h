@@ -108,7 +108,7 @@ uint64_t make_parents(const struct file *file, struct file *made);
 uint64_t set_m(const struct file *file, uint64_t m, struct file *changed);
 void keep_tables(const struct region *region, const uint8_t *kept, struct region *smaller);
 size_t line_of_patient(size_t patient);
-size_t line_of_table(const struct region *region, size_t table);
+size_t line_of_table(size_t patient_count, size_t table);
 void clear_text(struct file *text);
 void add_text(struct file *text, const char *format, ...);
 void add_bytes(struct file *text, const uint8_t *bytes, size_t length);

@@ -83,9 +83,9 @@ size_t line_of_patient(size_t patient)
     return 2 + patient;
 }
 
-size_t line_of_table(const struct region *region, size_t table)
+size_t line_of_table(size_t patient_count, size_t table)
 {
-    return 2 + region->patient_count + table;
+    return 2 + patient_count + table;
 }
 
 void clear_text(struct file *text)

@@ -104,8 +104,8 @@ static size_t show_part(const struct lines *lines, const struct part *part, int 
     for (size_t i = 0; i < part->region->table_count; i++) {
         count += part->tables[i];
         if (part->tables[i] && shown) {
-            printf("    line %zu\n", line_of_table(part->region, i));
-            show_line(lines, line_of_table(part->region, i));
+            printf("    line %zu\n", line_of_table(part->region->patient_count, i));
+            show_line(lines, line_of_table(part->region->patient_count, i));
         }
     }
     return count;
@@ -126,7 +126,7 @@ static int explain_no_plan(const struct file *file, struct part *part, uint64_t 
     printf(": refused with %d: %s\n", RIGBASEN_NO_PLAN, text_of(RIGBASEN_NO_PLAN));
     enum answer answer = find_last_table(part, &count);
     if (answer == YES) {
-        say_place(&lines, line_of_table(part->region, count - 1), 0,
+        say_place(&lines, line_of_table(part->region->patient_count, count - 1), 0,
                   count == 1 ? "with this table, the first, no plan is allowed"
                              : "the tables before this one leave a plan, and with it none is allowed");
         answer = leave_out(part, part->tables, part->region->table_count);

@@ -13,14 +13,9 @@ static size_t table_count;
 static const char set_right[] = "load the file again from where it came; if it was written or changed by hand, set this right,\n"
                                 "              SEAL";
 
-static size_t patient_line(size_t patient)
-{
-    return 2 + patient;
-}
-
 static size_t table_line(size_t table)
 {
-    return 2 + patient_count + table;
+    return line_of_table(patient_count, table);
 }
 
 static void count_lines(void)
@@ -69,7 +64,7 @@ static uint64_t ask(void)
 static uint64_t ask_members(size_t from, size_t count, size_t entries)
 {
     begin(patient_count, 1);
-    add_lines(patient_line(0), patient_count);
+    add_lines(line_of_patient(0), patient_count);
     add_text(&small, "(cost ");
     for (size_t i = 0; i < count; i++) {
         add_value(i == 0 ? "(" : " ", fields.at[from + i].value);
@@ -87,7 +82,7 @@ static size_t first_table(uint64_t number)
 {
     for (size_t table = 0; table < table_count; table++) {
         begin(patient_count, 1);
-        add_lines(patient_line(0), patient_count);
+        add_lines(line_of_patient(0), patient_count);
         add_lines(table_line(table), 1);
         if (ask() == number) {
             find_fields(&lines, table_line(table), &fields);
@@ -101,7 +96,7 @@ static size_t first_table(uint64_t number)
 static uint64_t beds_of(uint64_t patient)
 {
     static struct fields of_patient;
-    find_fields(&lines, patient_line((size_t)patient), &of_patient);
+    find_fields(&lines, line_of_patient((size_t)patient), &of_patient);
     return of_patient.at[1].value;
 }
 
@@ -173,7 +168,7 @@ static void explain_limits(const struct file *file)
     int found = 0;
     find_fields(&lines, 1, &fields);
     begin(patient_count, 0);
-    add_lines(patient_line(0), patient_count);
+    add_lines(line_of_patient(0), patient_count);
     if (ask() == RIGBASEN_LIMITS) {
         say_place(&lines, 1, fields.at[0].column, "V, the number of patients, is %zu; 1 to 32 are allowed", patient_count);
         found = 1;
@@ -218,7 +213,7 @@ static int field_at_fault(size_t patient, int field)
 static void say_field(size_t patient, int field)
 {
     unsigned long long value = (unsigned long long)fields.at[field].value;
-    size_t line = patient_line(patient);
+    size_t line = line_of_patient(patient);
     size_t column = fields.at[field].column;
     if (field == 0) {
         say_place(&lines, line, column, "patient %zu: the clinic is %llu; 0 to 15 are allowed", patient, value);
@@ -255,13 +250,13 @@ static void explain_patients(const struct file *file)
     int found = 0;
     for (; patient < patient_count; patient++) {
         begin(patient + 1, 0);
-        add_lines(patient_line(0), patient + 1);
+        add_lines(line_of_patient(0), patient + 1);
         if (ask() == RIGBASEN_PATIENTS) {
             break;
         }
     }
     if (patient < patient_count) {
-        find_fields(&lines, patient_line(patient), &fields);
+        find_fields(&lines, line_of_patient(patient), &fields);
         for (int field = 0; field < 4; field++) {
             /* A fixed bed is judged by the bed count, where that is good. */
             if (field_at_fault(patient, field) && (field < 3 || !field_at_fault(patient, 1))) {
@@ -314,7 +309,7 @@ static size_t first_too_many(size_t *entries)
     *entries = 0;
     for (size_t table = 0; table < table_count; table++) {
         begin(patient_count, table + 1);
-        add_lines(patient_line(0), patient_count + table + 1);
+        add_lines(line_of_patient(0), patient_count + table + 1);
         find_fields(&lines, table_line(table), &fields);
         *entries += fields.count - fields.member_count;
         if (ask() == RIGBASEN_ENTRY_COUNTS) {
@@ -394,7 +389,7 @@ static void explain_entries(const struct file *file)
 static uint64_t ask_pair(uint64_t first, uint64_t second)
 {
     begin(patient_count, 1);
-    add_lines(patient_line(0), patient_count);
+    add_lines(line_of_patient(0), patient_count);
     add_value("(cost (", first);
     add_value(" ", second);
     add_text(&small, ") (0");
