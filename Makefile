@@ -22,7 +22,9 @@ COMPILE = $(CC) -std=c99 -Wall -Wextra -pedantic $(CFLAGS) -Iinclude
 SHARED = librigbasen.so.$(VERSION)
 SONAME = librigbasen.so.$(MAJOR)
 LIBRARIES = $(BUILT)/lib/librigbasen.a $(BUILT)/lib/$(SHARED)
-DOCUMENTS = $(BUILT)/share/doc/rigbasen/README.md $(BUILT)/share/doc/rigbasen/FILE.md $(BUILT)/share/doc/rigbasen/TRANSCRIPTS.md
+DOC = share/doc/rigbasen
+PAGES = README.md examples/README.md docs/FILE.md docs/TRANSCRIPTS.md docs/PROMISES.md docs/DECISIONS.md docs/PERFORMANCE.md docs/CHANGES.md
+DOCUMENTS = $(PAGES:%=$(BUILT)/$(DOC)/%)
 PACKAGE = $(LIBRARIES) $(BUILT)/lib/pkgconfig/rigbasen.pc $(BUILT)/include/rigbasen.h $(BUILT)/bin/rigbasen \
     $(BUILT)/share/man/man1/rigbasen.1 $(DOCUMENTS)
 CHECKLIST = target/bundle/programs/checklist_calls target/bundle/programs/checklist_site
@@ -81,24 +83,18 @@ $(BUILT)/share/man/man1/rigbasen.1: command/rigbasen.1
 	@mkdir -p $(@D)
 	cp command/rigbasen.1 $@
 
-$(BUILT)/share/doc/rigbasen/README.md: README.md
+# In their places as they stand here, so that a page finds the others.
+$(DOCUMENTS): $(BUILT)/$(DOC)/%: %
 	@mkdir -p $(@D)
-	cp README.md $@
-
-$(BUILT)/share/doc/rigbasen/FILE.md: docs/FILE.md
-	@mkdir -p $(@D)
-	cp docs/FILE.md $@
-
-$(BUILT)/share/doc/rigbasen/TRANSCRIPTS.md: docs/TRANSCRIPTS.md
-	@mkdir -p $(@D)
-	cp docs/TRANSCRIPTS.md $@
+	cp $< $@
 
 # ---- Where it goes.
 
 PLACE = $(DESTDIR)$(PREFIX)
 
 install: $(PACKAGE)
-	install -d "$(PLACE)/bin" "$(PLACE)/lib/pkgconfig" "$(PLACE)/include" "$(PLACE)/share/man/man1" "$(PLACE)/share/doc/rigbasen"
+	install -d "$(PLACE)/bin" "$(PLACE)/lib/pkgconfig" "$(PLACE)/include" "$(PLACE)/share/man/man1"
+	install -d "$(PLACE)/$(DOC)/docs" "$(PLACE)/$(DOC)/examples"
 	install -m 755 $(BUILT)/bin/rigbasen "$(PLACE)/bin/"
 	install -m 644 $(BUILT)/lib/librigbasen.a "$(PLACE)/lib/"
 	install -m 755 $(BUILT)/lib/$(SHARED) "$(PLACE)/lib/"
@@ -108,12 +104,12 @@ install: $(PACKAGE)
 	chmod 644 "$(PLACE)/lib/pkgconfig/rigbasen.pc"
 	install -m 644 $(BUILT)/include/rigbasen.h "$(PLACE)/include/"
 	install -m 644 $(BUILT)/share/man/man1/rigbasen.1 "$(PLACE)/share/man/man1/"
-	install -m 644 $(DOCUMENTS) "$(PLACE)/share/doc/rigbasen/"
+	for page in $(PAGES); do install -m 644 "$(BUILT)/$(DOC)/$$page" "$(PLACE)/$(DOC)/$$page" || exit 1; done
 
 uninstall:
 	cd "$(PLACE)/lib" && rm -f librigbasen.a $(SHARED) $(SONAME) librigbasen.so pkgconfig/rigbasen.pc
 	cd "$(PLACE)" && rm -f bin/rigbasen include/rigbasen.h share/man/man1/rigbasen.1
-	cd "$(PLACE)/share/doc" && rm -f rigbasen/README.md rigbasen/FILE.md rigbasen/TRANSCRIPTS.md && rmdir rigbasen
+	cd "$(PLACE)/$(DOC)" && rm -f $(PAGES) && rmdir docs examples && cd .. && rmdir rigbasen
 
 # ---- For sites without the kit and without a compiler.
 

@@ -19,7 +19,7 @@
 #include "rigbasen.h"
 
 /* What lent areas hold beforehand; the longest file of which every cut goes to every call; how many cuts of a longer one, besides. */
-enum { PATTERN = 0x5A, LONG_FILE = 8192, SOME_CUTS = 200 };
+enum { PATTERN = 0x5A, LONG_FILE = 16384, SOME_CUTS = 200 };
 
 /* Are all bytes of an area this one? */
 static int all(const uint8_t *bytes, size_t length, uint8_t byte)
