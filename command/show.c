@@ -23,6 +23,12 @@ static const struct rigbasen_patient *patient_at(const struct shown *shown, size
     return &shown->region->patients[shown->patients[place]];
 }
 
+/* The rows of the list are plans; a sheet numbers its own. */
+static const char *row_name(const struct shown *shown)
+{
+    return shown->clinic == RIGBASEN_NONE ? "plan" : "row";
+}
+
 /* A column is as wide as the longest of its numbers: the patient's, the clinic's, the highest bed's. */
 static int column_width(const struct shown *shown, size_t place)
 {
@@ -58,7 +64,7 @@ static void show_title(const struct shown *shown)
 /* The lines of patients and, for the list, of their clinics. */
 static void show_heads(const struct shown *shown, int cost_width)
 {
-    printf("plan  %*s  patient", cost_width, "cost");
+    printf("%s  %*s  patient", row_name(shown), cost_width, "cost");
     for (size_t i = 0; i < shown->width; i++) {
         printf("  %*zu", column_width(shown, i), shown->patients[i]);
     }
@@ -105,7 +111,7 @@ static void show_table(const struct shown *shown)
     show_title(shown);
     show_heads(shown, cost_width);
     for (size_t row = 0; row < row_count(shown); row++) {
-        printf("%4zu  %*llu         ", row + 1, cost_width, cost_of(shown, row));
+        printf("%*zu  %*llu         ", (int)strlen(row_name(shown)), row + 1, cost_width, cost_of(shown, row));
         for (size_t i = 0; i < shown->width; i++) {
             printf("  %*u", column_width(shown, i), bed_of(shown, row, i));
         }
@@ -118,7 +124,7 @@ static void show_table(const struct shown *shown)
 
 static void show_csv(const struct shown *shown)
 {
-    printf("plan,cost");
+    printf("%s,cost", row_name(shown));
     for (size_t i = 0; i < shown->width; i++) {
         printf(",patient %zu", shown->patients[i]);
     }
@@ -132,7 +138,7 @@ static void show_csv(const struct shown *shown)
     }
 }
 
-/* What stands before the plans. */
+/* What stands before the rows. */
 static void show_json_heads(const struct shown *shown)
 {
     printf("{\"file\": ");
@@ -150,10 +156,10 @@ static void show_json_heads(const struct shown *shown)
         }
         printf("}");
     }
-    printf("], \"plans\": [\n");
+    printf("], \"%ss\": [\n", row_name(shown));
 }
 
-/* A line a plan. */
+/* A line a row. */
 static void show_json(const struct shown *shown)
 {
     show_json_heads(shown);
