@@ -16,6 +16,7 @@ static const struct {
     {"--limit", OPTION_LIMIT, 1},
     {"-o", OPTION_OUTPUT, 1},
     {"--names", OPTION_NAMES, 1},
+    {"--parents", OPTION_PARENTS, 0},
     {"--help", OPTION_HELP, 0},
 };
 

@@ -26,7 +26,8 @@ enum option {
     OPTION_LIMIT = 8,
     OPTION_OUTPUT = 16,
     OPTION_NAMES = 32,
-    OPTION_HELP = 64
+    OPTION_PARENTS = 64,
+    OPTION_HELP = 128
 };
 
 struct request;

@@ -20,24 +20,27 @@ const struct command commands[] = {
      "  --names FILE   names of clinics, a line for each: CLINIC NAME\n"},
     {"sheet", carry_out_sheet, OPTION_CSV | OPTION_JSON | OPTION_M | OPTION_LIMIT | OPTION_NAMES, 1, 2,
      "sheet [--csv | --json] [-m N] [--limit S] [--names FILE] CLINIC [FILE]",
-     "One clinic's part of the list: the beds of its own patients, and its share of the cost. Options as for list.\n"},
+     "One clinic's part of the list, in rows of its own: the beds of its patients, and its share of the cost. Options as for list.\n"},
     {"price", carry_out_price, 0, 1, INT_MAX, "price BED.. [FILE]",
      "What one plan costs, a bed for each patient in the order of the file; or that it is not allowed, and why.\n"
      "Arguments of digits alone are beds: a file with such a name is given as ./3.\n"},
     {"line", carry_out_line, 0, 1, 2, "line MEMBERS [FILE]",
      "The line of the table over some members, typed as they stand in the file: rigbasen line '(0 1)' FILE\n"},
-    {"seal", carry_out_seal, OPTION_M | OPTION_OUTPUT, 0, 1, "seal [-m N] [-o FILE] [FILE]",
+    {"seal", carry_out_seal, OPTION_PARENTS | OPTION_M | OPTION_OUTPUT, 0, 1, "seal [--parents] [-m N] [-o FILE] [FILE]",
      "The file with its end line made. After a change, take the end line out and seal the file.\n"
      "An end line that is there must be the right one, and lines must be as many as the first line says.\n"
-     "  -m N     with another m, 1 to 64\n"
-     "  -o FILE  where it goes; it may be the file that is read\n"},
-    {"write", carry_out_seal, OPTION_M | OPTION_OUTPUT, 0, 1, "write [-m N] [-o FILE] [FILE]", "The same as seal.\n"},
+     "  --parents  with its parents made from its tables, whatever stood there\n"
+     "  -m N       with another m, 1 to 64\n"
+     "  -o FILE    where it goes; it may be the file that is read\n"},
+    {"write", carry_out_seal, OPTION_PARENTS | OPTION_M | OPTION_OUTPUT, 0, 1, "write [--parents] [-m N] [-o FILE] [FILE]",
+     "The same as seal.\n"},
     {"join", carry_out_join, OPTION_OUTPUT, 2, 2, "join [-o FILE] FIRST SECOND",
      "The file of two regions together. They must have no clinic in common.\n"
      "  -o FILE  where it goes\n"},
     {"parents", carry_out_parents, OPTION_OUTPUT, 0, 1, "parents [-o FILE] [FILE]",
      "The file with its parents made from its tables, whatever stood there. Run it where a file is refused with 10, or with 6 for\n"
-     "its parents, and where a list takes very long. A file without an end line gets one, as by seal.\n"
+     "its parents, and where a list takes very long. A file without an end line may be cut and is refused; for lines that\n"
+     "were written by hand there is rigbasen seal --parents.\n"
      "  -o FILE  where it goes; it may be the file that is read\n"},
     {"why", carry_out_why, OPTION_LIMIT, 0, 1, "why [--limit S] [FILE]",
      "Why a file is refused, where, and what to do. Of a good file: its size, and whether its parents make a list slow.\n"
@@ -53,7 +56,7 @@ static const char overview[] =
     "    rigbasen sheet CLINIC [FILE]    one clinic's part of that list\n"
     "    rigbasen price BED.. [FILE]     what one plan costs, a bed for each patient\n"
     "    rigbasen line MEMBERS [FILE]    the line of the table over some members: '(0 1)'\n"
-    "    rigbasen seal [FILE]            the file with its end line made (also: write)\n"
+    "    rigbasen seal [FILE]            the file with its end line made, with --parents its parents too (also: write)\n"
     "    rigbasen join FIRST SECOND      the file of two regions together\n"
     "    rigbasen parents [FILE]         the file with its parents made\n"
     "    rigbasen why [FILE]             why a file is refused, where, and what to do\n"

@@ -230,16 +230,22 @@ static void say_field(size_t patient, int field)
     }
 }
 
-/* Would parents be made? */
+/* Would parents be made? A file without an end line gets it with them by seal. */
 static void say_parents(const struct file *file)
 {
     static struct file made;
+    int sealed = has_end_line(file);
     uint64_t number = make_parents(asked, &made);
-    if (number == RIGBASEN_FINE) {
+    if (number != RIGBASEN_FINE) {
+        printf("  rigbasen %s would be refused too, with %llu: %s\n", sealed ? "parents" : "seal --parents", (unsigned long long)number,
+               text_of(number));
+        say_what_to_do(file, set_right);
+    } else if (sealed) {
         say_what_to_do(file, "have the parents made, check then accepts the file: rigbasen parents -o FILE FILE");
     } else {
-        printf("  rigbasen parents would be refused too, with %llu: %s\n", (unsigned long long)number, text_of(number));
-        say_what_to_do(file, set_right);
+        say_what_to_do(file, "load the file again from where it came; if its lines were written by hand, have the parents made and the\n"
+                             "              end line put behind them, check then accepts the file:\n"
+                             "              rigbasen seal --parents -o FILE FILE");
     }
 }
 

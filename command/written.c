@@ -3,18 +3,23 @@
 
 #include <string.h>
 
-/* An end line is put behind a file that has none. Then the file is read and written, with another m where one is given. */
+/* An end line is put behind a file that has none, and parents are made where they are asked for. Then the file is read and written. */
 int carry_out_seal(const struct request *request)
 {
     static struct file file;
+    static struct file made;
     static struct file written;
     static struct region region;
+    int with_parents = (request->given & OPTION_PARENTS) != 0;
     int status = read_file(last_argument(request, 0), &file);
     if (status != STATUS_FINE) {
         return status;
     }
     complete(&file);
-    uint64_t number = read_region(&file, &region);
+    uint64_t number = with_parents ? make_parents(&file, &made) : RIGBASEN_FINE;
+    if (number == RIGBASEN_FINE) {
+        number = read_region(with_parents ? &made : &file, &region);
+    }
     if (number == RIGBASEN_FINE) {
         region.m = (request->given & OPTION_M) != 0 ? request->m : region.m;
         number = write_region(&region, &written);
@@ -67,7 +72,7 @@ int carry_out_join(const struct request *request)
     return save_file(request->output, &joined);
 }
 
-/* A file whose lines were written by hand has no end line yet: seal would refuse it for its parents, so they are made first. */
+/* A file that stops before its end line may be cut, so it is refused as every cut is; seal is there for lines written by hand. */
 int carry_out_parents(const struct request *request)
 {
     static struct file file;
@@ -76,7 +81,6 @@ int carry_out_parents(const struct request *request)
     if (status != STATUS_FINE) {
         return status;
     }
-    complete(&file);
     uint64_t number = make_parents(&file, &made);
     if (number != RIGBASEN_FINE) {
         return refuse(request, &file, number, NULL);
