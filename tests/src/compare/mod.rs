@@ -1,5 +1,6 @@
 //! The comparisons: what the proved library answers, beside the independent program.
 
+pub mod asked;
 pub mod bare;
 pub mod check;
 pub mod clinic_pairs;

@@ -4,7 +4,7 @@ use crate::areas::Outputs;
 use crate::compare::parents::written::file_with;
 use crate::compare::parents::{compare, Given, RESULT_BYTES};
 use crate::compare::report::{Difference, Tally};
-use crate::compare::{ParentsCall, Tested};
+use crate::compare::{asked, ParentsCall, Tested};
 use crate::files::examples;
 use crate::generate::graphs::{self, Graph, GRAPHS};
 use crate::generate::parents::{fill, Filled, FILLED};
@@ -21,26 +21,15 @@ const ASKED: [u64; 11] = [1, 2, 3, 4, 5, 6, 7, 8, 9, 12, 15];
 pub fn one_fault(tested: Tested<ParentsCall>, seed: u64, count: usize) -> Result<Tally, Difference> {
     let mut tally = Tally::of(&format!("{}, one fault", tested.name));
     let mut random = Random::of(seed, "parents, one fault");
-    for _ in 0..count {
-        for question in ASKED {
-            compare_faults(&mut tally, tested, &[question], &mut random)?;
-        }
-    }
+    asked::one_by_one(&ASKED, count, |faults| compare_faults(&mut tally, tested, faults, &mut random))?;
     tally.with_all(&ASKED)
 }
 
-/// Every two faults, and from each question on all of them: the first "no" gives the number.
+/// Every two faults, and from each question on all of them.
 pub fn two_faults(tested: Tested<ParentsCall>, seed: u64, count: usize) -> Result<Tally, Difference> {
     let mut tally = Tally::of(&format!("{}, two faults", tested.name));
     let mut random = Random::of(seed, "parents, two faults");
-    for _ in 0..count {
-        for (place, one) in ASKED.iter().enumerate() {
-            for other in &ASKED[place + 1..] {
-                compare_faults(&mut tally, tested, &[*one, *other], &mut random)?;
-            }
-            compare_faults(&mut tally, tested, &ASKED[place..], &mut random)?;
-        }
-    }
+    asked::every_two(&ASKED, count, |faults| compare_faults(&mut tally, tested, faults, &mut random))?;
     tally.with_all(&ASKED)
 }
 

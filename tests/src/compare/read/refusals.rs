@@ -3,7 +3,7 @@
 use crate::areas::{ArrayLengths, Arrays};
 use crate::compare::read::{compare, Given};
 use crate::compare::report::{Difference, Tally};
-use crate::compare::{ReadCall, Tested};
+use crate::compare::{asked, ReadCall, Tested};
 use crate::files::examples;
 use crate::generate::{faults, layout_faults};
 use crate::random::Random;
@@ -15,26 +15,15 @@ const ASKED: [u64; 11] = [1, 2, 3, 4, 5, 6, 7, 8, 9, 10, 12];
 pub fn one_fault(tested: Tested<ReadCall>, seed: u64, count: usize) -> Result<Tally, Difference> {
     let mut tally = Tally::of(&format!("{}, one fault", tested.name));
     let mut random = Random::of(seed, "read, one fault");
-    for _ in 0..count {
-        for question in ASKED {
-            compare_faults(&mut tally, tested, &[question], &mut random)?;
-        }
-    }
+    asked::one_by_one(&ASKED, count, |faults| compare_faults(&mut tally, tested, faults, &mut random))?;
     tally.with_all(&ASKED)
 }
 
-/// Every two faults, and from each question on all of them: the first "no" gives the number.
+/// Every two faults, and from each question on all of them.
 pub fn two_faults(tested: Tested<ReadCall>, seed: u64, count: usize) -> Result<Tally, Difference> {
     let mut tally = Tally::of(&format!("{}, two faults", tested.name));
     let mut random = Random::of(seed, "read, two faults");
-    for _ in 0..count {
-        for (place, one) in ASKED.iter().enumerate() {
-            for other in &ASKED[place + 1..] {
-                compare_faults(&mut tally, tested, &[*one, *other], &mut random)?;
-            }
-            compare_faults(&mut tally, tested, &ASKED[place..], &mut random)?;
-        }
-    }
+    asked::every_two(&ASKED, count, |faults| compare_faults(&mut tally, tested, faults, &mut random))?;
     tally.with_all(&ASKED)
 }
 
