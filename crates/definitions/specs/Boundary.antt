@@ -174,7 +174,7 @@ joinCall f g output result =
 unfoldable pub parentsCall : List ℕ → List ℕ → List ℕ → WriteCall
 parentsCall file output result = writeCallOf (madeBy (callAsks (askedByParents file output) (roomForNumbers 1 result)) (parentsFile file)) [] output result
 
--- ---- the call of read: what a file says, in the three areas that the writer's call takes
+-- ---- the call of read, the mirror of the writer's, which no paper has: what a file says, in the three areas that the writer's call takes
 
 -- A number or none, as one number; the four numbers of a patient; the six of a table, with 0 where there is no member; those of its entries.
 abbrev pub optionNumber : Option ℕ → ℕ
