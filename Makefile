@@ -43,8 +43,10 @@ help:
 
 # ---- What the kit makes.
 
+# (rt check proves two crates at a time, rt staticlib one after the other.)
 $(ARCHIVE):
 	@command -v rt > /dev/null || { echo "$@ is missing, and so is the kit that makes it (rt staticlib planner_c)" >&2; exit 1; }
+	rt check planner_c
 	rt staticlib planner_c
 
 $(PRINTER):
