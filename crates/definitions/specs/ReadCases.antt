@@ -2,7 +2,7 @@
 use Rattle.definitions.specs.Basics.{ℕ, _≡_, refl, none, some, List, [], _∷_, _++_, map, flatMap, length, replicate, below}
 use Rattle.definitions.specs.Boundary.{ReadCall, readCall, writeCall}
 use Rattle.definitions.specs.Computing.{everything}
-use Rattle.definitions.specs.Examples.{textOf, paperFile, patient, fixed, root, table, fileOf, lent, cleared, overOneAndTwo, oneEntry}
+use Rattle.definitions.specs.Examples.{textOf, patient, fixed, root, table, fileOf, lent, cleared, overOneAndTwo, oneEntry}
 use Rattle.definitions.specs.Cases.{eight}
 
 -- None, in eight bytes.

@@ -1,6 +1,5 @@
 -- The tables that are held, one line after the other.
 use mathlib.Core.Path.{_≡_, refl, sym, ap, _∙_}
-use mathlib.Core.List.{append-nil, append-assoc}
 use mathlib.Core.Bool.{true, false, false≢true}
 use native.Mathlib.Omega.{arith}
 use native.Mathlib.Decide.{ℕ-discrete}
@@ -10,6 +9,7 @@ use lib.ListN.{set, drop, length-append, length-map, length-set, length-take}
 use Rattle.definitions.specs.Basics.{ℕ, _+_, _-_, _<_, none, some, List, isSome, bind, [], _∷_, _++_, map, flatMap, length, take, replicate, text}
 use Rattle.definitions.specs.Syntax as Said
 use Rattle.definitions.specs.Layout.{whole, word, exactly, lines, many, tableLine, endLine}
+use Rattle.lists.specs.Maps.{flatMap-snoc}
 use Rattle.held_region.specs.declared.Table.{Table}
 use Rattle.held_region.specs.Meaning.{codeOf, noTable}
 use Rattle.scanner.specs.Words.{exactly-short, exactly-same, exactly-other}
@@ -37,12 +37,6 @@ differ (w ∷ ws) u v us vs (x ∷ xs) n h = elim (ℕ-discrete w x) [
 end-no-cost : (l : List ℕ) → isSome (whole endLine l) ≡ true → word "(cost " l ≡ none
 unfolding endLine bind
 end-no-cost l h = differ (text "(") (code "c") (code "e") (text "ost ") (text "nd ") l (λ e. omega arith) (λ e. false≢true (rw e at h))
-
--- The codes of one more table come behind those of the others.
-flatMap-snoc : {A B : Type 0} (f : A → List B) (xs : List A) (x : A) → flatMap f (xs ++ x ∷ []) ≡ flatMap f xs ++ f x
-unfolding flatMap
-flatMap-snoc f [] x = append-nil (f x)
-flatMap-snoc {B = B} f (y ∷ xs) x = ap {B = List B} (λ l. f y ++ l) (flatMap-snoc f xs x) ∙ sym (append-assoc (f y) (flatMap f xs) (f x))
 
 -- The store, whatever it was, holds the tables whose entries were added.
 store-said : {before after : List ℕ} (said : List Said.Table) → Adds 0 before after (storedEntries said) → length before ≡ 4096 → Holding after (storedEntries said)

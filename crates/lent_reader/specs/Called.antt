@@ -4,7 +4,7 @@ use mathlib.Core.Bool.{true≢false}
 use Prim.Native.Nat.{_≤_}
 use native.Mathlib.Omega.{arith}
 use borrow.Author.Tests.{leb-true}
-use Rattle.definitions.specs.Basics.{ℕ, _*_, _-_, _<_, Bool, true, false, not, _&&_, List, [], _∷_, flatMap, length, leb, below}
+use Rattle.definitions.specs.Basics.{ℕ, _*_, _-_, Bool, true, false, not, _&&_, List, [], _∷_, flatMap, length, leb, below}
 use Rattle.definitions.specs.Syntax as Said
 use Rattle.definitions.specs.Questions.{Asked, firstNo, regionOf, checkOf}
 use Rattle.definitions.specs.Boundary.{roomForNumbers, numbersAfter, resultAfter, roomForRegion, askedByRead, ReadCall, readCallOf, readCall}

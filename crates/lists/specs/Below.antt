@@ -2,7 +2,7 @@
 use mathlib.Core.Path.{sym, ap, ap₂, _∙_}
 use mathlib.Core.Logic.{inl, inr}
 use mathlib.Core.Bool.{and-assoc, and-true}
-use mathlib.Core.List.{map-append}
+use mathlib.Core.List.{append-assoc, append-nil, map-append}
 use native.Mathlib.Nat.{eq-or-lt-of-le}
 use native.Mathlib.Omega.{arith}
 use borrow.Author.Tests.{eqb-true, eqb-false, ne-eqb}
@@ -75,6 +75,17 @@ module _ {A : Type 0} where
   -- One place more.
   pub below-more : (g : ℕ → A) (n : ℕ) → map g (below (suc n)) ≡ map g (below n) ++ (g n ∷ [])
   below-more g n = ap (map g) (below-next n) ∙ map-append g (below n) (n ∷ [])
+
+  -- So many places, and so many behind them.
+  pub below-parts : (g : ℕ → A) (a b : ℕ) → map g (below (a + b)) ≡ map g (below a) ++ map (λ k. g (a + k)) (below b)
+  below-parts g a zero =
+      let all : a + 0 ≡ a = omega arith in
+      ap (λ n. map g (below n)) all ∙ sym (append-nil (map g (below a)))
+  below-parts g a (suc b) =
+      let next : a + suc b ≡ suc (a + b) = omega arith in
+      ap (λ n. map g (below n)) next ∙ below-more g (a + b) ∙ ap (λ l. l ++ g (a + b) ∷ []) (below-parts g a b)
+      ∙ append-assoc (map g (below a)) (map (λ k. g (a + k)) (below b)) (g (a + b) ∷ [])
+      ∙ ap (λ l. map g (below a) ++ l) (sym (below-more (λ k. g (a + k)) b))
 
   -- It depends on the function's values there alone.
   pub below-same : (f g : ℕ → A) (n : ℕ) → ((j : ℕ) → j < n → f j ≡ g j) → map f (below n) ≡ map g (below n)

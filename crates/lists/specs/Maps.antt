@@ -1,7 +1,7 @@
 -- What functions give on a list, one by one, partly or in one piece.
 use mathlib.Core.Path.{sym, ap, ap₂, _∙_, subst⁻¹}
 use mathlib.Core.Logic.{_⊎_, inl, inr}
-use mathlib.Core.List.{append-assoc, map-append, map-map}
+use mathlib.Core.List.{append-assoc, append-nil, map-append, map-map}
 use mathlib.Core.Option.{Option·none-ne-some}
 use native.Mathlib.Nat.{mul-le-mul, mul-le-mul-right, pow-zero, pow-succ'}
 use native.Mathlib.Omega.{arith}
@@ -95,6 +95,28 @@ pub flatten-map : {A B : Type 0} (f : A → List B) (l : List A) → flatten (ma
 unfolding flatten flatMap
 flatten-map f [] = refl
 flatten-map {B} f (a ∷ l) = ap (λ (r : List B). f a ++ r) (flatten-map f l)
+
+-- What a function gives on all elements, in one piece: of one element more, of elements that a function gave, of functions that give the same, ..
+pub flatMap-snoc : {A B : Type 0} (f : A → List B) (xs : List A) (x : A) → flatMap f (xs ++ x ∷ []) ≡ flatMap f xs ++ f x
+unfolding flatMap
+flatMap-snoc f [] x = append-nil (f x)
+flatMap-snoc {B = B} f (y ∷ xs) x = ap {B = List B} (λ l. f y ++ l) (flatMap-snoc f xs x) ∙ sym (append-assoc (f y) (flatMap f xs) (f x))
+
+pub flatMap-map : {A B C : Type 0} (f : B → List C) (g : A → B) (l : List A) → flatMap f (map g l) ≡ flatMap (λ x. f (g x)) l
+unfolding flatMap
+flatMap-map f g [] = refl
+flatMap-map f g (x ∷ l) = ap (λ r. f (g x) ++ r) (flatMap-map f g l)
+
+pub flatMap-same : {A B : Type 0} (f g : A → List B) → ((x : A) → f x ≡ g x) → (l : List A) → flatMap f l ≡ flatMap g l
+unfolding flatMap
+flatMap-same f g same [] = refl
+flatMap-same f g same (x ∷ l) = ap₂ (λ a b. a ++ b) (same x) (flatMap-same f g same l)
+
+-- .. and of one that gives one thing each.
+pub flatMap-each : {A B : Type 0} (g : A → B) (l : List A) → map g l ≡ flatMap (λ x. g x ∷ []) l
+unfolding flatMap
+flatMap-each g [] = refl
+flatMap-each g (x ∷ l) = ap (λ r. g x ∷ r) (flatMap-each g l)
 
 -- All but the last.
 pub drop-last : {A : Type 0} (ls : List A) (l : A) → dropLast (ls ++ l ∷ []) ≡ ls

@@ -1,13 +1,14 @@
 -- Numbers laid in an area part by part: those of a patient, of a table, of an entry, one part behind the other.
 use mathlib.Core.Path.{_≡_, refl, sym, ap, ap₂, _∙_}
-use mathlib.Core.List.{append-assoc, append-nil, map-map}
+use mathlib.Core.List.{map-map}
 use Prim.Native.Nat.{_≤_}
 use native.Mathlib.Omega.{arith}
 use lib.ListN.{List·getD-eq-default}
 use Rattle.definitions.specs.Basics.{ℕ, zero, suc, _+_, _-_, _*_, _<_, List, [], _∷_, _++_, map, flatMap, length, getD, numbersFrom, below, sets}
 use Rattle.definitions.specs.Outcomes.{written}
 use Rattle.definitions.specs.Boundary.{bytesOf, numbersAfter, optionNumber, numbersOfPatient, numbersOfTable, numbersOfEntries}
-use Rattle.lists.specs.Below.{below-next, below-more, length-by-places, at-place}
+use Rattle.lists.specs.Below.{below-next, below-parts, length-by-places, at-place}
+use Rattle.lists.specs.Maps.{flatMap-snoc, flatMap-map, flatMap-same, flatMap-each}
 use Rattle.held_region.specs.declared.Table.{Table}
 use Rattle.held_region.specs.declared.Region.{Region}
 use Rattle.held_region.specs.Meaning.{saidBy, patientOf, patientIn, tableIn, membersOf, sumBefore, startIn, tableSaid, said}
@@ -88,49 +89,18 @@ member-past t j h = sym (List·getD-eq-default (membersOf t) 0 (omega (arith, le
 
 -- ---- and what is said
 
-flatMap-map : {A B C : Type 0} (f : B → List C) (g : A → B) (l : List A) → flatMap f (map g l) ≡ flatMap (λ x. f (g x)) l
-unfolding flatMap
-flatMap-map f g [] = refl
-flatMap-map f g (x ∷ l) = ap (λ r. f (g x) ++ r) (flatMap-map f g l)
-
-flatMap-same : {A B : Type 0} (f g : A → List B) → ((x : A) → f x ≡ g x) → (l : List A) → flatMap f l ≡ flatMap g l
-unfolding flatMap
-flatMap-same f g same [] = refl
-flatMap-same f g same (x ∷ l) = ap₂ (λ a b. a ++ b) (same x) (flatMap-same f g same l)
-
-flatMap-append : {A B : Type 0} (f : A → List B) (l m : List A) → flatMap f (l ++ m) ≡ flatMap f l ++ flatMap f m
-unfolding flatMap
-flatMap-append f [] m = refl
-flatMap-append f (x ∷ l) m = ap (λ r. f x ++ r) (flatMap-append f l m) ∙ sym (append-assoc (f x) (flatMap f l) (flatMap f m))
-
--- So many numbers, and so many behind them.
-more-below : {A : Type 0} (g : ℕ → A) (a b : ℕ) → map g (below (a + b)) ≡ map g (below a) ++ map (λ k. g (a + k)) (below b)
-more-below g a zero =
-    let all : a + 0 ≡ a = omega arith in
-    ap (λ n. map g (below n)) all ∙ sym (append-nil (map g (below a)))
-more-below g a (suc b) =
-    let next : a + suc b ≡ suc (a + b) = omega arith in
-    ap (λ n. map g (below n)) next ∙ below-more g (a + b) ∙ ap (λ l. l ++ g (a + b) ∷ []) (more-below g a b)
-    ∙ append-assoc (map g (below a)) (map (λ k. g (a + k)) (below b)) (g (a + b) ∷ [])
-    ∙ ap (λ l. map g (below a) ++ l) (sym (below-more (λ k. g (a + k)) b))
-
 -- Parts of a list of numbers, each as long as it counts, are that list.
 parts-joined : {A : Type 0} (g : ℕ → A) (count : ℕ → ℕ) (t : ℕ) → flatMap (λ i. map (λ k. g (sumBefore count i + k)) (below (count i))) (below t) ≡ map g (below (sumBefore count t))
 unfolding flatMap
 parts-joined g count zero = refl
 parts-joined {A = A} g count (suc t) =
     ap (flatMap part) (below-next t)
-    ∙ flatMap-append part (below t) (t ∷ [])
-    ∙ ap₂ (λ a b. a ++ b) (parts-joined g count t) (append-nil (part t))
-    ∙ sym (more-below g (sumBefore count t) (count t))
+    ∙ flatMap-snoc part (below t) t
+    ∙ ap (λ l. l ++ part t) (parts-joined g count t)
+    ∙ sym (below-parts g (sumBefore count t) (count t))
   where
     part : ℕ → List A
     part i = map (λ k. g (sumBefore count i + k)) (below (count i))
-
-each-alone : {A B : Type 0} (g : A → B) (l : List A) → map g l ≡ flatMap (λ x. g x ∷ []) l
-unfolding flatMap
-each-alone g [] = refl
-each-alone g (x ∷ l) = ap (λ r. g x ∷ r) (each-alone g l)
 
 module _ (h : Region) (store : List ℕ) where
   pub patients-laid : flatMap (patientPart h) (below (h .v)) ≡ flatMap numbersOfPatient (said h store .patients)
@@ -154,4 +124,4 @@ module _ (h : Region) (store : List ℕ) where
       ∙ flatMap-map numbersOfEntries (tableSaid h store) (below (h .t))
       ∙ flatMap-same _ _ (λ i. map-map optionNumber (λ k. saidBy (getD store (startIn h i + k) 0)) (below (tableIn h i .entries))) (below (h .t))
       ∙ parts-joined (λ k. optionNumber (saidBy (getD store k 0))) (λ i. tableIn h i .entries) (h .t)
-      ∙ each-alone (λ k. optionNumber (saidBy (getD store k 0))) (below (startIn h (h .t))))
+      ∙ flatMap-each (λ k. optionNumber (saidBy (getD store k 0))) (below (startIn h (h .t))))
