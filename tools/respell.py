@@ -18,6 +18,8 @@ WORD = re.compile(r"[^\W\d][\w·']*(?:-[\w·']+)*|[^\W\d]")
 USE = re.compile(r"^\s*(?:ghost |unfoldable |pub )*use ([\w·+'-]+(?:\.[\w·+'-]+)*)(?:\.\{([^}]*)\})?", re.M)
 # Names of the kit's library that stand behind a path.
 KIT = {"suc-suc", "suc-zero", "zero-suc", "zero-zero"}
+# Names of definitions/specs/Basics for words of the kit.
+DOTTED = {"Option·map": "option_map", "Option·getD": "option_get_or", "Option·elim": "option_elim", "Ordering·lt": "ordering_lt", "Ordering·eq": "ordering_eq", "Ordering·gt": "ordering_gt"}
 # A definition: the name that a signature gives.
 SIGNED = re.compile(r"(?m)^\s*(?:(?:pub|abbrev|unfoldable) )*([^\W\d][\w'-]*) :")
 
@@ -95,6 +97,7 @@ def pairs(root):
             table[old] += "_lem"
     for name in sorted(taken & signed):
         table[name] = name + "_lem"
+    table.update({old: new for old, new in DOTTED.items() if old in own})
     return table, where
 
 

@@ -1,4 +1,6 @@
 // The answers of the entries that read a file, and document 01's number and values for each of their cases.
+#![tactic(auto)]
+
 ghost use Rattle.std.specs.Prelude.{◌≡◌};
 ghost use Rattle.answers.specs.Answers.{checked_number, refusal_number, listed_number, listed_rows, sheeted_number, sheeted_rows, not_allowed, priced_outcome, values_of};
 ghost use Rattle.answers.specs.Rooms.{or_twelve};
@@ -40,7 +42,7 @@ pub fn or_twelve(number: u64) -> u64
 }
 
 // List's answer, with the row count. Short: question 12 is answered no. Nothing: question 13 is.
-#[derive(Drop)]
+#[derive(Clone, Copy)]
 pub enum Listed {
     Refused(Refusal),
     Short,
@@ -49,7 +51,7 @@ pub enum Listed {
 }
 
 // Sheet's answer, with the row count. Absent: question 11 is answered no.
-#[derive(Drop)]
+#[derive(Clone, Copy)]
 pub enum Sheeted {
     Refused(Refusal),
     Absent,
@@ -59,7 +61,7 @@ pub enum Sheeted {
 }
 
 // The same as list and sheet give it back: the number, and how many rows were written.
-#[derive(Drop)]
+#[derive(Clone, Copy)]
 pub struct RowValues {
     pub number: u64,
     pub rows: usize,
@@ -98,7 +100,7 @@ pub fn sheet_values(answer: Sheeted) -> RowValues
 }
 
 // Price's answer. Misfit: question 14 is answered no.
-#[derive(Drop)]
+#[derive(Clone, Copy)]
 pub enum Priced {
     Refused(Refusal),
     Misfit,
@@ -107,7 +109,7 @@ pub enum Priced {
 }
 
 // The same as price gives it back: the number, whether the plan is allowed, and its total.
-#[derive(Drop)]
+#[derive(Clone, Copy)]
 pub struct PriceValues {
     pub number: u64,
     pub allowed: bool,

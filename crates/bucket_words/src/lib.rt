@@ -1,4 +1,6 @@
 // The words of the buckets by what they say: only who writes them knows their places.
+#![tactic(auto)]
+
 ghost use Rattle.std.specs.Prelude.{◌≡◌, ◌<◌};
 ghost use Rattle.bucket_words.specs.Words.{beds_at, first_bed_at, bed_end_at, least_at, first_at, start_at, next_at, member_at, stride_at};
 

@@ -4,7 +4,7 @@ use Prim.Native.Nat.{◌≤◌}
 use native.Mathlib.Omega.{arith}
 use borrow.Author.Tests.{lt-ltb}
 use lib.ListN.{drop, length-drop}
-use Rattle.definitions.specs.Basics.{ℕ, zero, suc, ◌+◌, ◌-◌, ◌*◌, ◌<◌, refl, Bool, true, false, ◌&&◌, cond, Option, none, some, Option·getD, none_or, List, [], ◌∷◌, map, length, get_or, ltb, sum, every, keep}
+use Rattle.definitions.specs.Basics.{ℕ, zero, suc, ◌+◌, ◌-◌, ◌*◌, ◌<◌, refl, Bool, true, false, ◌&&◌, cond, Option, none, some, option_get_or, none_or, List, [], ◌∷◌, map, length, get_or, ltb, sum, every, keep}
 use Rattle.definitions.specs.Limits.{limits, within, clinic, bed_count, entry}
 use Rattle.definitions.specs.Questions.{entries_within}
 use Rattle.definitions.specs.Syntax as Said
@@ -33,13 +33,13 @@ unfolding limits
 below_mark none h = refl
 below_mark (some e) h = lt-ltb e mark (omega (arith, at_most entry e h))
 
-least_small : (es : List (Option ℕ)) → every (none_or (within entry)) es ≡ true → Option·getD (least_of es) 0 ≤ 1_000_000
+least_small : (es : List (Option ℕ)) → every (none_or (within entry)) es ≡ true → option_get_or (least_of es) 0 ≤ 1_000_000
 unfolding limits
 least_small [] all = omega arith
 least_small (none ∷ es) all = least_small es all
 least_small (some x ∷ es) all = go (least_of es) (at_most entry x (both (within entry x) all).0)
   where
-    go : (o : Option ℕ) → x ≤ 1_000_000 → Option·getD (smaller (some x) o) 0 ≤ 1_000_000
+    go : (o : Option ℕ) → x ≤ 1_000_000 → option_get_or (smaller (some x) o) 0 ≤ 1_000_000
     go none h = h
     go (some y) h = omega arith
 

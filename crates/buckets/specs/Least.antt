@@ -4,7 +4,7 @@ use Rattle.std.proofs.Common.{ap₂, ◌∙◌, arith, ltb-true, lt-ltb, le-ltb,
 use Rattle.std.proofs.Math.Bool.{and-eq-true_iff}
 use Rattle.std.specs.Prelude.{◌≤◌}
 use Rattle.std.proofs.Math.Decide.{dec_lt}
-use Rattle.definitions.specs.Basics.{ℕ, suc, ◌+◌, ◌-◌, ◌<◌, ◌≡◌, refl, min, Bool, true, false, cond, Option, none, some, Option·getD, none_or, List, [], ◌∷◌, map, length, get_or, ltb, eqb, numbers_from, every}
+use Rattle.definitions.specs.Basics.{ℕ, suc, ◌+◌, ◌-◌, ◌<◌, ◌≡◌, refl, min, Bool, true, false, cond, Option, none, some, option_get_or, none_or, List, [], ◌∷◌, map, length, get_or, ltb, eqb, numbers_from, every}
 use Rattle.partial_rows.specs.Bounds.{smaller, least_of}
 use Rattle.held_region.specs.Meaning.{mark, code_of}
 use Rattle.lists.specs.Loops.{places_from, places_next, places_done}
@@ -96,7 +96,7 @@ least_small (e ∷ es) all =
     let parts = (and-eq-true_iff (none_or (λ n. ltb n mark) e) _).0 all in
     smaller_small e (least_of es) parts.0 (least_small es parts.1)
 
-code_number : (o : Option ℕ) → none_or (λ n. ltb n mark) o ≡ true → number_or0 (code_of o) ≡ Option·getD o 0
+code_number : (o : Option ℕ) → none_or (λ n. ltb n mark) o ≡ true → number_or0 (code_of o) ≡ option_get_or o 0
 code_number none a = ap (λ b. cond b 0 mark) (eq-eqb mark mark refl)
 code_number (some x) a = ap (λ b. cond b 0 x) (ne_eqb x mark (λ e. omega (arith, ltb-true x mark a)))
 
@@ -109,7 +109,7 @@ codes_from_lem store from (e ∷ es) same =
     (codes_from_lem store (suc from) es (λ q h. ap (λ i. get_or store i 0) (omega arith) ∙ same (suc q) (omega arith)))
 
 pub least_of_entries : (store : List ℕ) (from : ℕ) (es : List (Option ℕ)) → ((q : ℕ) → q < length es → get_or store (from + q) 0 ≡ code_of (get_or es q none))
-    → every (none_or (λ n. ltb n mark)) es ≡ true → least_number store from (from + length es) ≡ Option·getD (least_of es) 0
+    → every (none_or (λ n. ltb n mark)) es ≡ true → least_number store from (from + length es) ≡ option_get_or (least_of es) 0
 unfolding least_number codes_in places_from
 least_of_entries store from es same all =
     let count : (from + length es) - from ≡ length es = omega arith in

@@ -1,4 +1,6 @@
 // The tables by their highest members, in a form in which a walk finds an entry at once.
+#![tactic(auto)]
+
 ghost use Rattle.std.specs.Prelude.{◌≡◌, ◌≤◌, ◌<◌};
 ghost use Rattle.theorems.specs.Accepted.{Accepted};
 ghost use Rattle.definitions.specs.Basics.{true};
@@ -17,7 +19,7 @@ use scanner::Optional;
 
 // For each patient five words: its count of beds, its first permitted bed, the end of these, the sum of the least numbers of its bucket, and the first term of its bucket.
 // For each table a term of ten words: the start of its entries, the next term of the bucket, four members and their strides.
-#[derive(Drop)]
+#[derive(Clone, Copy)]
 pub struct Buckets {
     pub patients: [u32; 160],
     pub terms: [u32; 640],

@@ -1,4 +1,6 @@
 // The numbers that the calls from C find and leave in lent byte areas, eight bytes each, lowest first, and the room for them.
+#![tactic(auto)]
+
 ghost use Rattle.std.specs.Prelude.{◌≡◌, ◌+◌, ◌*◌, ◌≤◌, ◌<◌};
 ghost use Rattle.definitions.specs.Basics.{[], ◌∷◌, cond, length, get_or, take, drop, sets};
 ghost use Rattle.definitions.specs.Outcomes.{written};

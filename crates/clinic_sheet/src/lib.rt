@@ -1,4 +1,6 @@
 // What sheet answers of the region of an accepted file.
+#![tactic(auto)]
+
 ghost use Rattle.held_region.specs.Meaning.{said};
 ghost use Rattle.theorems.specs.Accepted.{Accepted};
 ghost use Rattle.clinic_sheet.specs.Sheets.{AsksSheet, SheetWritten, RegionSheeted};

@@ -1,13 +1,13 @@
 -- The small vocabulary of the other files: what the kit's library has, and a few functions on lists, tests and texts.
 use Prim.Native.String.{String}
 use Prim.Native.Char.{code}
-pub use Prim.Native.Nat.Ordering.{eq as Ordering·eq}
-pub use Prim.Native.Nat.Ordering.{gt as Ordering·gt}
-pub use Prim.Native.Nat.Ordering.{lt as Ordering·lt}
+pub use Prim.Native.Nat.Ordering.{eq as ordering_eq}
+pub use Prim.Native.Nat.Ordering.{gt as ordering_gt}
+pub use Prim.Native.Nat.Ordering.{lt as ordering_lt}
 pub use Prim.Native.Nat.{ℕ, zero, suc, ◌+◌, ◌-◌, ◌*◌, ◌/◌, ◌%◌, ◌^◌, ◌<◌, min, compare, Ordering}
 pub use Rattle.std.specs.Prelude.{◌≡◌, refl, Bool, true, false, not, ◌&&◌, ◌||◌, cond, leb, ltb, eqb, length, get_or, take, drop, replicate}
-pub use Rattle.std.proofs.Math.Option.{Option, none, some, map as Option·map, get_or as Option·getD}
-unfoldable pub use Rattle.std.proofs.Math.Option.{bind, or_else, Option·elim}
+pub use Rattle.std.proofs.Math.Option.{Option, none, some, map as option_map, get_or as option_get_or}
+unfoldable pub use Rattle.std.proofs.Math.Option.{bind, or_else, Option-elim as option_elim}
 pub use mathlib.Core.List.{List, [], ◌∷◌, ◌++◌, map, drop_last}
 unfoldable pub use mathlib.Core.List.{flatten, flat_map, filter_map}
 pub use Rattle.std.proofs.lemmas.List.Edits.{sets}
@@ -75,12 +75,12 @@ module _ {A : Type 0} where
   -- The results of a function on all elements; none if it has none for one of them.
   abbrev pub on_all : {B : Type 0} → (A → Option B) → List A → Option (List B)
   on_all f [] = some []
-  on_all f (x ∷ xs) = bind (f x) (λ y. Option·map (λ ys. y ∷ ys) (on_all f xs))
+  on_all f (x ∷ xs) = bind (f x) (λ y. option_map (λ ys. y ∷ ys) (on_all f xs))
 
   -- The elements sorted by a comparison, by insertion.
   abbrev pub insert : (A → A → Ordering) → A → List A → List A
   insert order x [] = x ∷ []
-  insert order x (y ∷ ys) = elim (order x y) [ Ordering·lt ↦ x ∷ y ∷ ys | Ordering·eq ↦ x ∷ y ∷ ys | Ordering·gt ↦ y ∷ insert order x ys ]
+  insert order x (y ∷ ys) = elim (order x y) [ ordering_lt ↦ x ∷ y ∷ ys | ordering_eq ↦ x ∷ y ∷ ys | ordering_gt ↦ y ∷ insert order x ys ]
 
   abbrev pub sort : (A → A → Ordering) → List A → List A
   sort order [] = []

@@ -1,5 +1,5 @@
 -- Request #106: two regions joined into one file.
-use Rattle.definitions.specs.Basics.{ℕ, ◌+◌, min, compare, Ordering, Bool, ◌&&◌, not, cond, Option·map, List, [], ◌∷◌, ◌++◌, map, flat_map}
+use Rattle.definitions.specs.Basics.{ℕ, ◌+◌, min, compare, Ordering, Bool, ◌&&◌, not, cond, option_map, List, [], ◌∷◌, ◌++◌, map, flat_map}
 use Rattle.definitions.specs.Basics.{length, take, eqb, every, sort}
 use Rattle.definitions.specs.Limits.{Field, patient_count, table_count, entry_count, within}
 use Rattle.definitions.specs.Syntax.{Patient, Table, Region}
@@ -10,7 +10,7 @@ use Rattle.definitions.specs.Writer.{region_from, room_for_file, Made, made_by, 
 
 -- A patient of the second region behind the v patients of the first: the parent's number is v more.
 abbrev pub patient_after : ℕ → Patient → Patient
-patient_after v p = record { clinic = p.clinic; bed_count = p.bed_count; parent = Option·map (λ q. v + q) p.parent; fixed_bed = p.fixed_bed }
+patient_after v p = record { clinic = p.clinic; bed_count = p.bed_count; parent = option_map (λ q. v + q) p.parent; fixed_bed = p.fixed_bed }
 
 -- A table of the second region: each member's number is v more.
 abbrev pub table_after : ℕ → Table → Table

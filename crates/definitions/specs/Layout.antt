@@ -2,7 +2,7 @@
 use Prim.Native.String.{String}
 use Prim.Native.Char.{code}
 use Rattle.definitions.specs.Basics.{ℕ, ◌+◌, ◌-◌, ◌*◌, Bool, true, false, ◌&&◌, not, cond, Option, none, some, bind, or_else}
-use Rattle.definitions.specs.Basics.{Option·map, List, [], ◌∷◌, length, eqb, leb, text, is_empty, on_all}
+use Rattle.definitions.specs.Basics.{option_map, List, [], ◌∷◌, length, eqb, leb, text, is_empty, on_all}
 use Rattle.definitions.specs.Limits.{Field, digit_count, within}
 use Rattle.definitions.specs.Syntax.{Patient, Table, Region}
 
@@ -21,7 +21,7 @@ first >> next = first >>= (λ _. next)
 
 -- Read nothing, and give a value if there is one.
 abbrev pub give_if : {I A : Type 0} → Option A → Reader I A
-give_if o xs = Option·map (λ a. (a, xs)) o
+give_if o xs = option_map (λ a. (a, xs)) o
 
 abbrev pub give : {I A : Type 0} → A → Reader I A
 give a = give_if (some a)

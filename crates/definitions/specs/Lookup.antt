@@ -1,5 +1,5 @@
 -- Request #103: the line of the table over some members, as a part of the file itself.
-use Rattle.definitions.specs.Basics.{ℕ, zero, suc, ◌+◌, ◌-◌, Bool, false, cond, none, some, Option·getD, List, [], ◌∷◌}
+use Rattle.definitions.specs.Basics.{ℕ, zero, suc, ◌+◌, ◌-◌, Bool, false, cond, none, some, option_get_or, List, [], ◌∷◌}
 use Rattle.definitions.specs.Basics.{length, take, drop, eqb, same, is_some}
 use Rattle.definitions.specs.Layout.{number, whole, lines, items, table_line}
 use Rattle.definitions.specs.Questions.{Asked, first_no, asked_by_check, Asks, entry_asks}
@@ -18,7 +18,7 @@ typed_right typed = is_some (whole (items number) typed)
 
 -- The typed members. (Where 21 is answered no, this stand-in does not count.)
 unfoldable pub typed_members : List ℕ → List ℕ
-typed_members typed = Option·getD (whole (items number) typed) []
+typed_members typed = option_get_or (whole (items number) typed) []
 
 -- Is a line that of a table over these members, in their order?
 unfoldable pub is_over : List ℕ → List ℕ → Bool

@@ -1,5 +1,5 @@
 -- The questions put to a file, one definition each, in their order; the first "no" gives its number.
-use Rattle.definitions.specs.Basics.{ℕ, zero, suc, ◌*◌, ◌%◌, Bool, true, false, ◌&&◌, ◌||◌, Option, none, some, Option·getD, List, []}
+use Rattle.definitions.specs.Basics.{ℕ, zero, suc, ◌*◌, ◌%◌, Bool, true, false, ◌&&◌, ◌||◌, Option, none, some, option_get_or, List, []}
 use Rattle.definitions.specs.Basics.{◌∷◌, ◌++◌, map, flatten, drop_last, length, eqb, leb, ltb, sum, product, every, any, every_two}
 use Rattle.definitions.specs.Basics.{contains, is_some, none_or}
 use Rattle.definitions.specs.Limits.{Field, file_length, patient_count, table_count, plans_wanted, clinic, bed_count, member_count}
@@ -95,7 +95,7 @@ plan_fits r plan = eqb (length plan) r.patient_count && every (λ s. ltb (bed_of
 
 -- What a file says. (Where it is not laid out, question 2 is answered no, and what is asked of this stand-in does not count.)
 unfoldable pub region_of : List ℕ → Region
-region_of file = Option·getD (layout file) (record { patient_count = 0; table_count = 0; plans_wanted = 0; patients = []; tables = []; stated_sum = 0 })
+region_of file = option_get_or (layout file) (record { patient_count = 0; table_count = 0; plans_wanted = 0; patients = []; tables = []; stated_sum = 0 })
 
 -- Questions in their order, each with its number and its answer.
 abbrev pub Asked : Type 0

@@ -1,5 +1,5 @@
 -- The sheet of a clinic.
-use Rattle.definitions.specs.Basics.{ℕ, min, Bool, Option·getD, List, [], ◌∷◌, map, eqb, keep, same, first_occurrences}
+use Rattle.definitions.specs.Basics.{ℕ, min, Bool, option_get_or, List, [], ◌∷◌, map, eqb, keep, same, first_occurrences}
 use Rattle.definitions.specs.Syntax.{Table, Region, patient_at, patients_of}
 use Rattle.definitions.specs.Plans.{Plan, bed_of, cost_over, Row, list_of}
 
@@ -19,7 +19,7 @@ own_tables region clinic = keep (λ t. eqb (patient_at region (lowest t.members)
 
 -- The clinic's own cost of a row of the list, its share of the total: the sum over its own tables. (The row is allowed, so there is one.)
 unfoldable pub own_cost : Region → ℕ → Row → ℕ
-own_cost region clinic row = Option·getD (cost_over (own_tables region clinic) region row.beds) 0
+own_cost region clinic row = option_get_or (cost_over (own_tables region clinic) region row.beds) 0
 
 -- What the sheet holds of a row of the list.
 unfoldable pub own_row : Region → ℕ → Row → Row

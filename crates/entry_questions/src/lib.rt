@@ -1,4 +1,6 @@
 // Questions 8 and 9, of the entries: how many each table has, and what the store holds.
+#![tactic(auto)]
+
 ghost use Rattle.std.specs.Prelude.{◌≡◌, ◌≤◌};
 ghost use Rattle.definitions.specs.Basics.{product, map};
 ghost use Rattle.held_region.specs.Entries.{code_fits, store_fits, BedsRead, CountsSmall};
@@ -41,7 +43,7 @@ pub fn entry_total(region: Region) -> usize
 }
 
 // Whether question 8 is answered yes, and then how many entries there are.
-#[derive(Drop)]
+#[derive(Clone, Copy)]
 pub struct Counts {
     pub right: bool,
     pub total: usize,

@@ -1,4 +1,6 @@
 // The answers of the entries that write a file, and the papers' number and values for each of their cases.
+#![tactic(auto)]
+
 ghost use Rattle.std.specs.Prelude.{◌≡◌};
 ghost use Rattle.definitions.specs.Boundary.{file_number};
 ghost use Rattle.file_answers.specs.Answers.{written_number, written_count, joined_number, joined_which, joined_count};
@@ -7,7 +9,7 @@ use answers::refusal_number;
 use held_region::Refusal;
 
 // Write's answer, with the byte count. Short: question 15 is answered no.
-#[derive(Drop)]
+#[derive(Clone, Copy)]
 pub enum Written {
     Refused(Refusal),
     Short,
@@ -15,7 +17,7 @@ pub enum Written {
 }
 
 // The same as write gives it back: the number, and how many bytes were written.
-#[derive(Drop)]
+#[derive(Clone, Copy)]
 pub struct WriteValues {
     pub number: u64,
     pub count: usize,
@@ -45,7 +47,7 @@ pub fn write_values(answer: Written) -> WriteValues
 }
 
 // Join's answer, with the byte count. Shared: question 16 is answered no. TooMany: question 17 is. Short: question 15 is.
-#[derive(Drop)]
+#[derive(Clone, Copy)]
 pub enum Joined {
     RefusedFirst(Refusal),
     RefusedSecond(Refusal),
@@ -56,7 +58,7 @@ pub enum Joined {
 }
 
 // The same as join gives it back: the number, which file it is about (0 neither, 1 the first, 2 the second), and how many bytes were written.
-#[derive(Drop)]
+#[derive(Clone, Copy)]
 pub struct JoinValues {
     pub number: u64,
     pub which: u64,

@@ -1,11 +1,13 @@
 // The held region: what a region file says, by value, and the answers to the questions it is asked.
+#![tactic(auto)]
+
 ghost use Rattle.std.specs.Prelude.{◌≡◌};
 ghost use Rattle.held_region.specs.Meaning.{blank_region};
 
 use scanner::Optional;
 
 // The parent is a hyphen at a root, the fixed bed where the patient is free. Both are held as the file has them, however large.
-#[derive(Drop)]
+#[derive(Clone, Copy)]
 pub struct Patient {
     pub clinic: u32,
     pub beds: u32,
@@ -14,7 +16,7 @@ pub struct Patient {
 }
 
 // The first four members, and how many members and entries the table has. Its entries begin where those of the table before it end.
-#[derive(Drop)]
+#[derive(Clone, Copy)]
 pub struct Table {
     pub first: [u32; 4],
     pub members: usize,
@@ -23,7 +25,7 @@ pub struct Table {
 
 // V, T and m of the first line, the patients and the tables. The entries of all tables stand in one store of 4,096 numbers beside it,
 // which the entry function has and lends.
-#[derive(Drop)]
+#[derive(Clone, Copy)]
 pub struct Region {
     pub v: usize,
     pub t: usize,
@@ -63,7 +65,7 @@ pub fn blank() -> Region
 }
 
 // The questions that every file is asked first, 1 to 10, each named for what is wrong where the answer is no.
-#[derive(Drop)]
+#[derive(Clone, Copy)]
 pub enum Refusal {
     TooLong,
     Layout,
@@ -77,7 +79,7 @@ pub enum Refusal {
     Ancestors,
 }
 
-#[derive(Drop)]
+#[derive(Clone, Copy)]
 pub enum Judged {
     Fine,
     Refused(Refusal),

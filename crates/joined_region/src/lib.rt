@@ -1,6 +1,8 @@
 // Two held regions joined: whether they have a clinic in common, whether both have their place together, and the region that they make.
+#![tactic(auto)]
+
 ghost use Rattle.std.specs.Prelude.{◌≡◌, ℕ, ◌+◌, ◌≤◌, length};
-ghost use Rattle.definitions.specs.Basics.{not, Option·map, List};
+ghost use Rattle.definitions.specs.Basics.{not, option_map, List};
 ghost use Rattle.definitions.specs.Questions.{clinic_present};
 ghost use Rattle.definitions.specs.Joining.{patient_after, joined_region, clinics_apart, join_within};
 ghost use Rattle.held_region.specs.Meaning.{optional, patient_of, said};
@@ -63,7 +65,7 @@ pub fn join_within(first: Region, second: Region) -> bool
 // The parent of a patient of the second region, behind the v patients of the first.
 fn parent_after(parent: Optional, v: u32) -> Optional
     requires { ParentMoves (optional parent) v }
-    ensures { optional result ≡ Option·map (λ q. v + q) (optional parent) }
+    ensures { optional result ≡ option_map (λ q. v + q) (optional parent) }
 {
     match parent {
         Optional::Hyphen => Optional::Hyphen,

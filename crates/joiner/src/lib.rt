@@ -1,4 +1,6 @@
 // Join: two region files put together into one.
+#![tactic(auto)]
+
 ghost use Rattle.std.specs.Prelude.{◌≡◌, length};
 ghost use Rattle.definitions.specs.Joining.{join_outcome};
 ghost use Rattle.theorems.specs.Accepted.{Accepted};

@@ -4,7 +4,7 @@ use Rattle.std.proofs.Math.Path.{refl, ap, ap₂}
 use Rattle.std.proofs.Common.{sym, ◌∙◌, arith}
 use Rattle.std.proofs.lemmas.List.{length-map}
 use borrow.Author.Tests.{lt-ltb, le-leb, eq-eqb}
-use Rattle.definitions.specs.Basics.{ℕ, zero, suc, ◌+◌, ◌<◌, min, Bool, true, ◌&&◌, ◌||◌, Option, none, some, Option·map, none_or, List, ◌∷◌, ◌++◌, map, length, eqb, ltb, product, every, every_two, contains}
+use Rattle.definitions.specs.Basics.{ℕ, zero, suc, ◌+◌, ◌<◌, min, Bool, true, ◌&&◌, ◌||◌, Option, none, some, option_map, none_or, List, ◌∷◌, ◌++◌, map, length, eqb, ltb, product, every, every_two, contains}
 use Rattle.definitions.specs.Limits.{patient_count, table_count, plans_wanted, member_count, limits, within}
 use Rattle.definitions.specs.Syntax.{Patient, Table, Region, patient_numbers, patient_at, bed_counts}
 use Rattle.definitions.specs.Questions.{counts_true, counts_within, patients_within, parents_smaller, members_right, entry_counts_right, entries_within, following, ancestors, members_related}
@@ -24,13 +24,13 @@ module _ {v : ℕ} {r j : Region} (stands : Stands v r j) (a : Accepted r) where
   parent_after : (q : ℕ) → q < length r.patients → none_or (λ p. ltb p (v + q)) (patient_at j (v + q)).parent ≡ none_or (λ p. ltb p q) (patient_at r q).parent
   parent_after q h = ap (λ (x : Patient). none_or (λ p. ltb p (v + q)) x.parent) (stands.patient q h) ∙ go (patient_at r q).parent
     where
-      go : (o : Option ℕ) → none_or (λ p. ltb p (v + q)) (Option·map (λ p. v + p) o) ≡ none_or (λ p. ltb p q) o
+      go : (o : Option ℕ) → none_or (λ p. ltb p (v + q)) (option_map (λ p. v + p) o) ≡ none_or (λ p. ltb p q) o
       go none = refl
       go (some p) = ltb_shifted v p q
 
   -- 10: as many steps as the patient's number reach every ancestor, in both regions.
   following_after : (n k q : ℕ) → q ≤ n → q ≤ k → (o : Option ℕ) → (patient_at r q).parent ≡ o
-      → following j n (Option·map (λ p. v + p) o) ≡ shifted v (following r k o)
+      → following j n (option_map (λ p. v + p) o) ≡ shifted v (following r k o)
   unfolding following
   following_after zero zero q h l o e = refl
   following_after zero (suc k) q h l none e = refl

@@ -6,7 +6,7 @@ use mathlib.Core.List.{map-id, map-map}
 use Rattle.std.proofs.lemmas.List.{length-map}
 use Rattle.std.proofs.Math.ListN.{get_or-append}
 use Rattle.std.proofs.Math.Seq.{get_or-append-add}
-use Rattle.definitions.specs.Basics.{ℕ, ◌+◌, ◌<◌, min, Option, none, some, Option·map, List, ◌++◌, map, length, below}
+use Rattle.definitions.specs.Basics.{ℕ, ◌+◌, ◌<◌, min, Option, none, some, option_map, List, ◌++◌, map, length, below}
 use Rattle.definitions.specs.Syntax.{Patient, Table, Region, patient_numbers, patient_at}
 use Rattle.definitions.specs.Writer.{region_from, as_held}
 use Rattle.definitions.specs.Joining.{patient_after, table_after, joined_region}
@@ -28,7 +28,7 @@ patients_after {v = v} {j = j} stands f l known = map-map (λ s. f (patient_at j
 patient_same : (p : Patient) → patient_after 0 p ≡ p
 patient_same p = λ i. record { clinic = p.clinic; bed_count = p.bed_count; parent = same p.parent i; fixed_bed = p.fixed_bed }
   where
-    same : (o : Option ℕ) → Option·map (λ q. 0 + q) o ≡ o
+    same : (o : Option ℕ) → option_map (λ q. 0 + q) o ≡ o
     same none = refl
     same (some q) = ap {B = Option ℕ} some (zero-add q)
 

@@ -4,7 +4,7 @@ use Rattle.std.proofs.Common.{sym, ap₂, ◌∙◌, subst, inl, inr, arith, len
 use Rattle.std.proofs.Math.Path.{ap}
 use Rattle.std.proofs.lemmas.List.{map-append, length-map}
 use Rattle.std.proofs.lemmas.Simd.{map-map}
-use Rattle.definitions.specs.Basics.{ℕ, ◌+◌, ◌<◌, min, compare, Bool, true, false, ◌&&◌, Option·getD, is_some, List, [], ◌∷◌, ◌++◌, map, length, take, replicate, sort}
+use Rattle.definitions.specs.Basics.{ℕ, ◌+◌, ◌<◌, min, compare, Bool, true, false, ◌&&◌, option_get_or, is_some, List, [], ◌∷◌, ◌++◌, map, length, take, replicate, sort}
 use Rattle.definitions.specs.Syntax.{Patient, Region}
 use Rattle.definitions.specs.Plans.{bed_of, plans, total, allowed, Row, then_by, compare_rows, list_of}
 use Rattle.definitions.specs.Questions.{plan_allowed}
@@ -47,7 +47,7 @@ allowed_row : (x : Region) → plan_allowed x ≡ true → (w : Row) × Allowed 
 unfolding plan_allowed
 allowed_row x e =
     let (plan, k, some_total) = any_out (allowed x) (plans x) e in
-    (record { cost = Option·getD (total x plan) 0; beds = plan }, record { fits = (plans_enumerate (counts x)).only plan k; priced = some_of (total x plan) 0 some_total })
+    (record { cost = option_get_or (total x plan) 0; beds = plan }, record { fits = (plans_enumerate (counts x)).only plan k; priced = some_of (total x plan) 0 some_total })
 
 row_allowed : (x : Region) (w : Row) → Allowed x w → plan_allowed x ≡ true
 unfolding plan_allowed

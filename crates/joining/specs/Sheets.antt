@@ -6,7 +6,7 @@ use Rattle.std.proofs.Math.Bool.{not-eq-not}
 use mathlib.Core.List.{append-nil, map-append, map-map}
 use borrow.Author.Tests.{eqb-true, not-true, not-false}
 use Rattle.std.proofs.lemmas.List.{length-map, take-append-le}
-use Rattle.definitions.specs.Basics.{ℕ, ◌+◌, ◌<◌, min, true, false, not, Option·getD, List, [], ◌++◌, map, length, take, eqb, keep, is_empty, contains, below, first_occurrences}
+use Rattle.definitions.specs.Basics.{ℕ, ◌+◌, ◌<◌, min, true, false, not, option_get_or, List, [], ◌++◌, map, length, take, eqb, keep, is_empty, contains, below, first_occurrences}
 use Rattle.definitions.specs.Syntax.{Patient, Region, patient_numbers, patient_at, patients_of}
 use Rattle.definitions.specs.Plans.{Plan, bed_of, cost_over, total, Row, list_of}
 use Rattle.definitions.specs.Questions.{clinic_present}
@@ -52,7 +52,7 @@ module _ {v : ℕ} {x j : Region} (stands : Stands v x j) (a : Accepted x) (c : 
   own_after : patients_of j c ≡ shifted v (patients_of x c) → own_tables j c ≡ map (table_after v) (own_tables x c)
       → (z w : Row) → ((q : ℕ) → q < length x.patients → bed_of z.beds (v + q) ≡ bed_of w.beds q) → own_row j c z ≡ own_row x c w
   unfolding own_row own_cost part cost_over own_tables patients_of
-  own_after patients tables z w beds = λ i. record { cost = Option·getD (cost i) 0; beds = own i }
+  own_after patients tables z w beds = λ i. record { cost = option_get_or (cost i) 0; beds = own i }
     where
       own : map (bed_of z.beds) (patients_of j c) ≡ map (bed_of w.beds) (patients_of x c)
       own =
@@ -98,7 +98,7 @@ module _ {v : ℕ} {x y j : Region} (half : Half v x y j) (c : ℕ) (fewer : j.p
   beds_there plan = map (λ q. bed_of plan (v + q)) (patient_numbers x)
 
   abbrev cut : Row → Row
-  cut z = record { cost = Option·getD (total x (beds_there z.beds)) 0; beds = beds_there z.beds }
+  cut z = record { cost = option_get_or (total x (beds_there z.beds)) 0; beds = beds_there z.beds }
 
   cut_is : (p q : Row) → Allowed x p → Allowed y q → cut (half.combine p q) ≡ p
   cut_is p q in_x in_y = λ i. record { cost = cost i; beds = beds i }
@@ -108,8 +108,8 @@ module _ {v : ℕ} {x y j : Region} (half : Half v x y j) (c : ℕ) (fewer : j.p
           map_same _ (bed_of p.beds) (patient_numbers x) (λ k i. half.beds p q in_x in_y k (below_out _ k i))
           ∙ ap (λ (n : ℕ). map (bed_of p.beds) (below n)) (sym (row_long x p in_x)) ∙ by_number p.beds 0
 
-      cost : Option·getD (total x (beds_there (half.combine p q).beds)) 0 ≡ p.cost
-      cost = ap (λ o. Option·getD o 0) (ap (total x) beds ∙ in_x.priced)
+      cost : option_get_or (total x (beds_there (half.combine p q).beds)) 0 ≡ p.cost
+      cost = ap (λ o. option_get_or o 0) (ap (total x) beds ∙ in_x.priced)
 
   own_cut : (z : Row) → Allowed j z → own_row j c z ≡ own_row x c (cut z)
   own_cut z in_j =

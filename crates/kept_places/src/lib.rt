@@ -1,4 +1,6 @@
 // The places of the tables' entries, kept while beds change: for each patient the tables that move with its bed.
+#![tactic(auto)]
+
 ghost use Rattle.std.specs.Prelude.{◌≡◌, ◌<◌};
 ghost use Rattle.bucket_words.specs.Kept.{low_stride, Bounded};
 ghost use Rattle.kept_places.specs.Moves.{move_at, Linked, AsksMove, GivesMove};

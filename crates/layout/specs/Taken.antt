@@ -3,14 +3,14 @@ use Rattle.std.specs.Prelude.{◌≡◌, ◌≤◌, max, take, drop}
 use Rattle.std.proofs.Math.Path.{refl, ap}
 use Rattle.std.proofs.Common.{sym, ◌∙◌, append-nil, arith, length-append, drop_of_length-le}
 use Rattle.std.proofs.Math.Seq.{append_snoc}
-use Rattle.definitions.specs.Basics.{ℕ, ◌-◌, ◌<◌, Option, none, some, Option·map, bind, List, [], ◌∷◌, ◌++◌, length}
+use Rattle.definitions.specs.Basics.{ℕ, ◌-◌, ◌<◌, Option, none, some, option_map, bind, List, [], ◌∷◌, ◌++◌, length}
 use Rattle.definitions.specs.Layout.{many, lines}
 use Rattle.line_reader.specs.Answers.{LineEnd}
 
 module _ {I A : Type 0} (f : I → Option A) where
   -- What was read, put in front of what is read after it.
   abbrev pub after : List A → Option (List A × List I) → Option (List A × List I)
-  after done o = Option·map (λ r. (done ++ r.0, r.1)) o
+  after done o = option_map (λ r. (done ++ r.0, r.1)) o
 
   after_none : (o : Option (List A × List I)) → after [] o ≡ o
   after_none none = refl

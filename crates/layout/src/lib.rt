@@ -1,4 +1,6 @@
 // The layout of a file, and what is held of what it says.
+#![tactic(auto)]
+
 pub mod patients;
 pub mod tables;
 
@@ -9,7 +11,7 @@ use patients::{NO_PATIENTS, Patients, read_patients};
 use tables::{NO_TABLES, Tables, read_tables};
 
 // Whether the file is laid out; V, T and m; patients and tables; n, and the place where the end line begins.
-#[derive(Drop)]
+#[derive(Clone, Copy)]
 pub struct Laid {
     pub found: bool,
     pub v: u32,

@@ -5,7 +5,7 @@ use held_region::{NO_PATIENT, Patient};
 use line_reader::{PatientLine, line_end, patient_line};
 
 // The first 32 patients of the lines from a place on, how many there are, and the place after them.
-#[derive(Drop)]
+#[derive(Clone, Copy)]
 pub struct Patients {
     pub first: [Patient; 32],
     pub count: usize,

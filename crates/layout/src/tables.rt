@@ -6,7 +6,7 @@ use line_reader::line_end;
 use table_reader::table_line;
 
 // The first 64 tables of the lines from a place on, how many there are, and the place after them.
-#[derive(Drop)]
+#[derive(Clone, Copy)]
 pub struct Tables {
     pub first: [Table; 64],
     pub count: usize,

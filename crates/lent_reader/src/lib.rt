@@ -1,4 +1,6 @@
 // The call of read: what a file says, laid in the three areas that the writer's call takes.
+#![tactic(auto)]
+
 ghost use Rattle.std.specs.Prelude.{◌≡◌, ◌≤◌};
 ghost use Rattle.definitions.specs.Boundary.{result_after, read_call};
 ghost use Rattle.theorems.specs.Accepted.{Accepted};

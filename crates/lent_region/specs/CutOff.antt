@@ -4,7 +4,7 @@ use Rattle.std.proofs.Common.{sym, ap, ◌∙◌, arith, le-ltb}
 use Rattle.std.proofs.Math.Bool.{and-false}
 use Rattle.std.proofs.Math.Decide.{dec_le}
 use Rattle.std.proofs.lemmas.Bool.{lt-leb}
-use Rattle.definitions.specs.Basics.{ℕ, ◌<◌, min, ◌&&◌, Option, none, some, Option·map, none_or, map, leb, ltb}
+use Rattle.definitions.specs.Basics.{ℕ, ◌<◌, min, ◌&&◌, Option, none, some, option_map, none_or, map, leb, ltb}
 use Rattle.definitions.specs.Limits.{Field, limits, within}
 use Rattle.definitions.specs.Syntax.{Patient, Table, Region}
 use Rattle.definitions.specs.Writer.{with_sum}
@@ -17,7 +17,7 @@ abbrev pub cut : ℕ → ℕ
 cut n = min n most
 
 abbrev pub cut_option : Option ℕ → Option ℕ
-cut_option o = Option·map cut o
+cut_option o = option_map cut o
 
 abbrev pub cut_patient : Patient → Patient
 cut_patient p = record { clinic = cut p.clinic; bed_count = cut p.bed_count; parent = cut_option p.parent; fixed_bed = cut_option p.fixed_bed }

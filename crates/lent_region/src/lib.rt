@@ -1,4 +1,6 @@
 // The region that a C program lends in three areas of eight-byte numbers: whether the areas are whole, and the region as it is held.
+#![tactic(auto)]
+
 ghost use Rattle.std.specs.Prelude.{◌≡◌, ◌+◌, ◌*◌, ◌/◌, ◌≤◌, min};
 ghost use Rattle.definitions.specs.Basics.{true, length, eqb};
 ghost use Rattle.definitions.specs.Boundary.{number_at, option_at, lent_patient, lent_table_count, lent_entries_before, lent_region, lent_whole};

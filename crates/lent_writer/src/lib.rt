@@ -1,4 +1,6 @@
 // The writer's call: the region that a C program lends, written as a file.
+#![tactic(auto)]
+
 ghost use Rattle.std.specs.Prelude.{◌≡◌};
 ghost use Rattle.definitions.specs.Boundary.{write_call};
 ghost use Rattle.lent_writer.specs.Answered.{lent_outcome};

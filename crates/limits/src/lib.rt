@@ -1,13 +1,15 @@
 // The limits stand once: a table of lowest and highest per field.
+#![tactic(auto)]
+
 ghost use Rattle.std.specs.Prelude.{◌≡◌, ◌<◌, min};
 ghost use Rattle.definitions.specs.Limits.{limits, within as isWithin};
 ghost use Rattle.limits.specs.Fields.{field_of, place_of, limit_of};
 
 // The lowest and the highest value of a field.
-#[derive(Drop)]
+#[derive(Clone, Copy)]
 struct Limit(usize, usize);
 
-#[derive(Drop)]
+#[derive(Clone, Copy)]
 pub enum Field {
     FileLength,
     DigitCount,

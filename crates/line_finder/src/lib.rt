@@ -1,4 +1,6 @@
 // The line of a file over some typed members: question 21, and the search for the line.
+#![tactic(auto)]
+
 ghost use Rattle.std.specs.Prelude.{◌≡◌};
 ghost use Rattle.definitions.specs.Layout.{lines};
 ghost use Rattle.definitions.specs.Lookup.{typed_right, first_line, line_outcome};
@@ -54,7 +56,7 @@ fn begins_with(line: &[u8], typed: &[u8]) -> bool
 }
 
 // The number of the question answered no, or 0, and the place and the length of the line, its line end left out.
-#[derive(Drop)]
+#[derive(Clone, Copy)]
 pub struct FoundLine {
     pub number: u64,
     pub start: usize,

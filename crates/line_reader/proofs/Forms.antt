@@ -9,7 +9,7 @@ use lib.Dec.{leb}
 use lib.ListN.{length, get_or, set, take, drop, length-set, drop_of_length-le}
 use lib.Seq.{drop-cons, take_all, take-suc-set}
 use borrow.Author.Tests.{leb-true, leb-false}
-use Rattle.definitions.specs.Basics.{Option, none, some, Option·map, bind}
+use Rattle.definitions.specs.Basics.{Option, none, some, option_map, bind}
 use Rattle.definitions.specs.Layout.{exactly, word, number, hyphen_or_number}
 use Rattle.scanner.specs.Words.{form_start}
 use Rattle.scanner.specs.Answers.{ReadAt, there, missing, code_of}
@@ -87,9 +87,9 @@ module _ {line opening : List ℕ} {kinds : List Bool} {values : List ℕ} {at i
         go false q l = sym (line_longer l (leb-false (length line) end q))
 
 -- What a line says, by the values of its fields.
-module _ {B : Type 0} (f : List ℕ → B) (values : List ℕ) {said : Option B} {o : Option (List ℕ)} (is : said ≡ Option·map f o) {there : Bool} (h : values_if there values ≡ o) where
+module _ {B : Type 0} (f : List ℕ → B) (values : List ℕ) {said : Option B} {o : Option (List ℕ)} (is : said ≡ option_map f o) {there : Bool} (h : values_if there values ≡ o) where
   pub said_there : there ≡ true → some (f values) ≡ said
-  said_there e = ap (λ t. Option·map f (values_if t values)) (sym e) ∙ ap (Option·map f) h ∙ sym is
+  said_there e = ap (λ t. option_map f (values_if t values)) (sym e) ∙ ap (option_map f) h ∙ sym is
 
   pub said_missing : there ≡ false → none ≡ said
-  said_missing e = ap (λ t. Option·map f (values_if t values)) (sym e) ∙ ap (Option·map f) h ∙ sym is
+  said_missing e = ap (λ t. option_map f (values_if t values)) (sym e) ∙ ap (option_map f) h ∙ sym is

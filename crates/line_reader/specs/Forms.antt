@@ -6,7 +6,7 @@ use Rattle.scanner.specs.Classes.{is_letter}
 use Rattle.scanner.specs.Answers.{mark, code_of, said_by}
 use Rattle.scanner.specs.Words.{form_start}
 use Rattle.scanner.specs.Tokens.{Form, token, gives, read}
-use Rattle.definitions.specs.Basics.{ℕ, ◌^◌, ◌<◌, ◌≡◌, refl, Bool, true, false, cond, Option, none, some, Option·map, bind, List, [], ◌∷◌, ◌++◌, get_or, length, text, every, none_or}
+use Rattle.definitions.specs.Basics.{ℕ, ◌^◌, ◌<◌, ◌≡◌, refl, Bool, true, false, cond, Option, none, some, option_map, bind, List, [], ◌∷◌, ◌++◌, get_or, length, text, every, none_or}
 use Rattle.definitions.specs.Limits.{digit_count, limits}
 use Rattle.definitions.specs.Spelling.{spellable}
 use Rattle.definitions.specs.Syntax.{Patient}
@@ -44,7 +44,7 @@ module _ {A B C : Type 0} where
   bind_bind none f g = refl
   bind_bind (some a) f g = refl
 
-  map_bind : (f : B → C) (o : Option A) (g : A → Option B) → Option·map f (bind o g) ≡ bind o (λ a. Option·map f (g a))
+  map_bind : (f : B → C) (o : Option A) (g : A → Option B) → option_map f (bind o g) ≡ bind o (λ a. option_map f (g a))
   unfolding bind
   map_bind f none g = refl
   map_bind f (some a) g = refl
@@ -54,7 +54,7 @@ module _ {A B : Type 0} where
   unfolding bind
   bind_some a f = refl
 
-  map_cond : (f : A → B) (t : Bool) (a : A) → Option·map f (cond t (some a) none) ≡ cond t (some (f a)) none
+  map_cond : (f : A → B) (t : Bool) (a : A) → option_map f (cond t (some a) none) ≡ cond t (some (f a)) none
   map_cond f true a = refl
   map_cond f false a = refl
 
@@ -93,14 +93,14 @@ abbrev pub end_said : List ℕ → ℕ
 end_said values = get_or values 0 0
 
 module _ (xs : List ℕ) where
-  pub region_form : whole region_line xs ≡ Option·map region_said (field_values (text "region") (false ∷ false ∷ false ∷ []) xs)
+  pub region_form : whole region_line xs ≡ option_map region_said (field_values (text "region") (false ∷ false ∷ false ∷ []) xs)
   unfolding region_line field_values
   region_form = simp (number_by_value, bind_bind, bind_some, map_bind, map_cond)
 
-  pub patient_form : whole patient_line xs ≡ Option·map patient_said (field_values (text "patient") (false ∷ false ∷ true ∷ true ∷ []) xs)
+  pub patient_form : whole patient_line xs ≡ option_map patient_said (field_values (text "patient") (false ∷ false ∷ true ∷ true ∷ []) xs)
   unfolding patient_line field_values
   patient_form = simp (hyphen_by_value, number_by_value, bind_bind, bind_some, map_bind, map_cond)
 
-  pub end_form : whole end_line xs ≡ Option·map end_said (field_values (text "end") (false ∷ []) xs)
+  pub end_form : whole end_line xs ≡ option_map end_said (field_values (text "end") (false ∷ []) xs)
   unfolding end_line field_values
   end_form = simp (number_by_value, bind_bind, bind_some, map_bind, map_cond)

@@ -1,4 +1,6 @@
 // Where a line ends, the checksum of some bytes, and what a line says.
+#![tactic(auto)]
+
 ghost use Rattle.std.specs.Prelude.{◌≡◌, ◌+◌, ◌≤◌, length};
 ghost use Rattle.definitions.specs.Layout.{whole, region_line, patient_line, end_line};
 ghost use Rattle.definitions.specs.Limits.{file_length, limits};
@@ -119,7 +121,7 @@ fn read_form(line: &[u8], word: &[u8], kinds: &[bool], values: &mut [u32]) -> bo
 }
 
 // The region line's counts of patients and tables, and the number of plans wanted.
-#[derive(Drop)]
+#[derive(Clone, Copy)]
 pub enum RegionLine {
     Is(u32, u32, u32),
     Other,
@@ -137,7 +139,7 @@ pub fn region_line(line: &[u8]) -> RegionLine
 }
 
 // A patient's clinic and count of beds; its parent, a hyphen at a root; its fixed bed, a hyphen where the patient is free.
-#[derive(Drop)]
+#[derive(Clone, Copy)]
 pub enum PatientLine {
     Is(u32, u32, Optional, Optional),
     Other,
@@ -160,7 +162,7 @@ pub fn patient_line(line: &[u8]) -> PatientLine
 }
 
 // The end line's sum.
-#[derive(Drop)]
+#[derive(Clone, Copy)]
 pub enum EndLine {
     Is(u32),
     Other,

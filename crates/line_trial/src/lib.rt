@@ -1,4 +1,6 @@
 // For the tests that are run: a caller of line from Rattle, which passes on the part that it gets, so that a test sees where it lies.
+#![tactic(auto)]
+
 ghost use Rattle.std.specs.Prelude.{◌≡◌};
 ghost use Rattle.definitions.specs.Lookup.{line_outcome};
 

@@ -1,7 +1,7 @@
 -- Laws of `keep`: what is kept was there and passes.
 use Rattle.std.proofs.Common.{sym, ap, ◌∙◌, inl, inr, true≢false, arith}
 use Rattle.std.specs.Prelude.{◌⊎◌, ◌≤◌}
-use Rattle.definitions.specs.Basics.{ℕ, suc, ◌≡◌, refl, Bool, true, false, not, ◌&&◌, ◌||◌, cond, Option, none, some, Option·elim, List, [], ◌∷◌, ◌++◌, map, filter_map, length, is_empty, every, any, every_two, keep, contains}
+use Rattle.definitions.specs.Basics.{ℕ, suc, ◌≡◌, refl, Bool, true, false, not, ◌&&◌, ◌||◌, cond, Option, none, some, option_elim, List, [], ◌∷◌, ◌++◌, map, filter_map, length, is_empty, every, any, every_two, keep, contains}
 use Rattle.lists.specs.Tests.{both, join, same_answer}
 use Rattle.lists.specs.Members.{◌∈◌, here, there, here_or_there, none_in_nil}
 use Rattle.lists.specs.Every.{every_in, every_all, contains_in, contains_out}
@@ -65,12 +65,12 @@ keep_append {A} f (x ∷ l) k = go (f x) (keep_append f l k)
 
 pub keep_filter_map : {A B : Type 0} (g : A → Option B) (f : B → Bool) (h : A → Bool) → ((a : A) (b : B) → g a ≡ some b → f b ≡ h a)
     → (l : List A) → keep f (filter_map g l) ≡ filter_map g (keep h l)
-unfolding filter_map Option·elim
+unfolding filter_map option_elim
 keep_filter_map g f h same [] = refl
 keep_filter_map {A} {B} g f h same (x ∷ l) = go (g x) refl (h x) refl (keep_filter_map g f h same l)
   where
     go : (o : Option B) → g x ≡ o → (b : Bool) → h x ≡ b → keep f (filter_map g l) ≡ filter_map g (keep h l)
-        → keep f (Option·elim o (filter_map g l) (λ y. y ∷ filter_map g l)) ≡ filter_map g (cond b (x ∷ keep h l) (keep h l))
+        → keep f (option_elim o (filter_map g l) (λ y. y ∷ filter_map g l)) ≡ filter_map g (cond b (x ∷ keep h l) (keep h l))
     go none e true q ih = ih ∙ rw e refl
     go none e false q ih = ih
     go (some y) e true q ih = rw (same x y e, q, e) (ap (λ (m : List B). y ∷ m) ih)

@@ -3,7 +3,7 @@ use Rattle.std.specs.Prelude.{◌≡◌, refl, ◌≤◌}
 use Rattle.std.proofs.Common.{sym, inl, inr, arith, ltb-true}
 use Rattle.std.proofs.lemmas.Bool.{false≢true}
 use Rattle.std.proofs.Math.Option.{none-ne-some, some-injective}
-use Rattle.definitions.specs.Basics.{ℕ, ◌<◌, true, false, none, some, Option·getD, List, [], ◌∷◌, ◌++◌, is_empty, ltb, every, every_two}
+use Rattle.definitions.specs.Basics.{ℕ, ◌<◌, true, false, none, some, option_get_or, List, [], ◌∷◌, ◌++◌, is_empty, ltb, every, every_two}
 use Rattle.definitions.specs.Parents.{last}
 use Rattle.lists.specs.Tests.{both}
 use Rattle.lists.specs.Members.{◌∈◌, here, there, here_or_there, none_in_nil}
@@ -19,7 +19,7 @@ pub last_none : (l : List ℕ) → is_empty l ≡ true → last l ≡ none
 last_none [] e = refl
 last_none (x ∷ l) e = absurd (false≢true e)
 
-pub last_some : (l : List ℕ) (d : ℕ) → is_empty l ≡ false → last l ≡ some (Option·getD (last l) d)
+pub last_some : (l : List ℕ) (d : ℕ) → is_empty l ≡ false → last l ≡ some (option_get_or (last l) d)
 last_some [] d e = absurd (false≢true (sym e))
 last_some (x ∷ []) d e = refl
 last_some (x ∷ y ∷ l) d e = last_some (y ∷ l) d refl

@@ -7,7 +7,7 @@ use Rattle.std.proofs.lemmas.List.{map-append}
 use Rattle.std.proofs.lemmas.Simd.{map-map}
 use Rattle.std.proofs.Math.Option.{none-ne-some}
 use Rattle.std.proofs.Math.Nat.{pow-zero, pow-succ'}
-use Rattle.definitions.specs.Basics.{ℕ, zero, suc, ◌<◌, ◌*◌, ◌^◌, ◌≡◌, refl, true, Option, none, some, Option·elim}
+use Rattle.definitions.specs.Basics.{ℕ, zero, suc, ◌<◌, ◌*◌, ◌^◌, ◌≡◌, refl, true, Option, none, some, option_elim}
 use Rattle.definitions.specs.Basics.{List, [], ◌∷◌, ◌++◌, map, length, get_or, take, drop, leb, product, flatten, flat_map, filter_map, drop_last, on_all, every}
 use Rattle.lists.specs.Tests.{both}
 use Rattle.lists.specs.Members.{◌∈◌, here, there, here_or_there, none_in_nil, in_cast, Distinct}
@@ -46,11 +46,11 @@ map_split {A} {B} f (x ∷ l) (z ∷ image) y rest e =
 -- What a partial function gives: each result comes from an element.
 module _ {A B : Type 0} (f : A → Option B) where
   pub filter_map_out : (l : List A) {b : B} → b ∈ filter_map f l → (a : A) × (a ∈ l) × (f a ≡ some b)
-  unfolding filter_map Option·elim
+  unfolding filter_map option_elim
   filter_map_out [] k = absurd (none_in_nil k)
   filter_map_out (x ∷ l) {b} k = go (f x) refl k (filter_map_out l)
     where
-      go : (o : Option B) → f x ≡ o → b ∈ Option·elim o (filter_map f l) (λ y. y ∷ filter_map f l)
+      go : (o : Option B) → f x ≡ o → b ∈ option_elim o (filter_map f l) (λ y. y ∷ filter_map f l)
           → (b ∈ filter_map f l → (a : A) × (a ∈ l) × (f a ≡ some b)) → (a : A) × (a ∈ x ∷ l) × (f a ≡ some b)
       go none e k ih = let (a, i, q) = ih k in (a, there i, q)
       go (some y) e k ih = elim (here_or_there k) [
@@ -59,22 +59,22 @@ module _ {A B : Type 0} (f : A → Option B) where
       ]
 
   pub filter_map_in : (l : List A) {a : A} {b : B} → a ∈ l → f a ≡ some b → b ∈ filter_map f l
-  unfolding filter_map Option·elim
+  unfolding filter_map option_elim
   filter_map_in [] i e = absurd (none_in_nil i)
   filter_map_in (x ∷ l) {a} {b} i e = go (f x) refl (here_or_there i) (λ t. filter_map_in l t e)
     where
-      go : (o : Option B) → f x ≡ o → (a ≡ x) ⊎ (a ∈ l) → (a ∈ l → b ∈ filter_map f l) → b ∈ Option·elim o (filter_map f l) (λ y. y ∷ filter_map f l)
+      go : (o : Option B) → f x ≡ o → (a ≡ x) ⊎ (a ∈ l) → (a ∈ l → b ∈ filter_map f l) → b ∈ option_elim o (filter_map f l) (λ y. y ∷ filter_map f l)
       go none q (inl s) ih = absurd (none-ne-some b (sym q ∙ ap f (sym s) ∙ e))
       go none q (inr t) ih = ih t
       go (some y) q (inl s) ih = let r : b ≡ y = cc (ap f s) in here r
       go (some y) q (inr t) ih = there (ih t)
 
   pub filter_map_distinct : (l : List A) → ((x y : A) (b : B) → f x ≡ some b → f y ≡ some b → x ≡ y) → Distinct l → Distinct (filter_map f l)
-  unfolding filter_map Option·elim
+  unfolding filter_map option_elim
   filter_map_distinct [] one d = tt
   filter_map_distinct (x ∷ l) one d = go (f x) refl (filter_map_distinct l one d.1)
     where
-      go : (o : Option B) → f x ≡ o → Distinct (filter_map f l) → Distinct (Option·elim o (filter_map f l) (λ y. y ∷ filter_map f l))
+      go : (o : Option B) → f x ≡ o → Distinct (filter_map f l) → Distinct (option_elim o (filter_map f l) (λ y. y ∷ filter_map f l))
       go none e ih = ih
       go (some y) e ih = (λ k. let (a, i, q) = filter_map_out l k in d.0 (in_cast (one x a y e q) i), ih)
 

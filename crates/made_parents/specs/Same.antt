@@ -3,7 +3,7 @@ use Rattle.std.specs.Prelude.{◌≡◌}
 use Rattle.std.proofs.Common.{sym, ◌∙◌}
 use Rattle.std.proofs.Math.Path.{ap}
 use Rattle.std.proofs.lemmas.Simd.{map-map}
-use Rattle.definitions.specs.Basics.{ℕ, not, cond, Option, none, some, Option·map, Option·getD, List, [], ◌∷◌, ◌++◌, map, get_or, take, filter_map, is_some, is_empty, eqb, below, sum, any, keep, on_all, sort, first_occurrences}
+use Rattle.definitions.specs.Basics.{ℕ, not, cond, Option, none, some, option_map, option_get_or, List, [], ◌∷◌, ◌++◌, map, get_or, take, filter_map, is_some, is_empty, eqb, below, sum, any, keep, on_all, sort, first_occurrences}
 use Rattle.definitions.specs.Syntax.{Patient, Table, Region, patient_numbers, patient_at, patients_of}
 use Rattle.definitions.specs.Plans.{Plan, bed_of, plans_for, plans, place, entry_for, cost_over, fixing, constraints, total, Row, compare_rows, list_of}
 use Rattle.definitions.specs.Sheets.{part, lowest, own_tables, own_cost, own_row, same_beds, sheet_of}
@@ -23,13 +23,13 @@ by_patient r f = sym (map-map f (patient_at r) (patient_numbers r)) ∙ ap (map 
 module _ {r s : Region} (same : Alike r s) where
   alike_cost : (tables : List Table) (plan : Plan) → cost_over tables r plan ≡ cost_over tables s plan
   unfolding cost_over entry_for
-  alike_cost tables plan = λ i. Option·map sum (on_all (λ t. get_or t.entries (place (map (λ q. (same.bed_count q i, bed_of plan q)) t.members)) none) tables)
+  alike_cost tables plan = λ i. option_map sum (on_all (λ t. get_or t.entries (place (map (λ q. (same.bed_count q i, bed_of plan q)) t.members)) none) tables)
 
   pub alike_total : (plan : Plan) → total r plan ≡ total s plan
   unfolding total constraints fixing
   alike_total plan =
       let fixed : (q : ℕ) → fixing r q ≡ fixing s q =
-      λ q i. Option·map (λ bed. record { members = q ∷ []; entries = map (λ b. cond (eqb b bed) (some 0) none) (below (same.bed_count q i)) }) (same.fixed_bed q i) in
+      λ q i. option_map (λ bed. record { members = q ∷ []; entries = map (λ b. cond (eqb b bed) (some 0) none) (below (same.bed_count q i)) }) (same.fixed_bed q i) in
       ap (λ l. cost_over l r plan) (λ i. same.tables i ++ filter_map (λ q. fixed q i) (below (same.many i))) ∙ alike_cost (constraints s) plan
 
   alike_plans : plans r ≡ plans s
@@ -37,7 +37,7 @@ module _ {r s : Region} (same : Alike r s) where
 
   pub alike_list : list_of r ≡ list_of s
   unfolding list_of
-  alike_list = λ i. take (same.plans_wanted i) (sort compare_rows (filter_map (λ plan. Option·map (λ t. record { cost = t; beds = plan }) (alike_total plan i)) (alike_plans i)))
+  alike_list = λ i. take (same.plans_wanted i) (sort compare_rows (filter_map (λ plan. option_map (λ t. record { cost = t; beds = plan }) (alike_total plan i)) (alike_plans i)))
 
   pub alike_patients : (c : ℕ) → patients_of r c ≡ patients_of s c
   unfolding patients_of
@@ -48,7 +48,7 @@ module _ {r s : Region} (same : Alike r s) where
   alike_row c w =
       let own : own_tables r c ≡ own_tables s c = λ i. keep (λ t. eqb (same.clinic (lowest t.members) i) c) (same.tables i) in
       let cost = ap (λ l. cost_over l r w.beds) own ∙ alike_cost (own_tables s c) w.beds in
-      λ i. record { cost = Option·getD (cost i) 0; beds = map (bed_of w.beds) (alike_patients c i) }
+      λ i. record { cost = option_get_or (cost i) 0; beds = map (bed_of w.beds) (alike_patients c i) }
 
   pub alike_sheet : (c : ℕ) → sheet_of r c ≡ sheet_of s c
   unfolding sheet_of

@@ -1,1 +1,2 @@
 // The laws stand in specs/: this crate has no code.
+#![tactic(auto)]

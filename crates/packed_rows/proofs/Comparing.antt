@@ -6,7 +6,7 @@ use Prim.Native.Nat.{◌≤◌}
 use borrow.Author.Tests.{eq-eqb, ne_eqb}
 use lib.ListN.{drop, drop_of_length-le}
 use lib.Seq.{drop-cons}
-use Rattle.definitions.specs.Basics.{ℕ, suc, ◌+◌, ◌<◌, compare, Ordering, Ordering·lt, Ordering·eq, Ordering·gt, Bool, true, false, ◌&&◌, eqb, List, [], ◌∷◌}
+use Rattle.definitions.specs.Basics.{ℕ, suc, ◌+◌, ◌<◌, compare, Ordering, ordering_lt, ordering_eq, ordering_gt, Bool, true, false, ◌&&◌, eqb, List, [], ◌∷◌}
 use Rattle.definitions.specs.Basics.{length, get_or, same}
 use Rattle.definitions.specs.Plans.{then_by, compare_beds, compare_rows}
 use Rattle.definitions.specs.Sheets.{same_beds}
@@ -31,14 +31,14 @@ module _ (x y : Row) where
     by_cost o e = ap (λ (p : Ordering). before_or tie (then_by p (compare_beds (packed_beds x.words) (packed_beds y.words)))) e
 
     pub cheaper : x.cost < y.cost → true ≡ answer tie x y
-    cheaper h = sym (by_cost Ordering·lt (less x.cost y.cost h))
+    cheaper h = sym (by_cost ordering_lt (less x.cost y.cost h))
 
     pub costlier : y.cost < x.cost → false ≡ answer tie x y
-    costlier h = sym (by_cost Ordering·gt (more x.cost y.cost h))
+    costlier h = sym (by_cost ordering_gt (more x.cost y.cost h))
 
   module _ (p : length x.words ≡ 4) (q : length y.words ≡ 4) where
     pub same_cost_lem : (tie : Bool) → y.cost ≤ x.cost → x.cost ≤ y.cost → answer tie x y ≡ answer_from tie x y 0
-    same_cost_lem tie h k = by_cost tie Ordering·eq (alike x.cost y.cost k h) ∙ ap (before_or tie) (packed_order x.words y.words (p ∙ sym q))
+    same_cost_lem tie h k = by_cost tie ordering_eq (alike x.cost y.cost k h) ∙ ap (before_or tie) (packed_order x.words y.words (p ∙ sym q))
 
     pub same_words : same_beds (row_of x) (row_of y) ≡ same_from x y 0
     same_words = packed_same x.words y.words (p ∙ sym q)
@@ -67,13 +67,13 @@ module _ (x y : Row) where
             ∙ ap (λ (r : Ordering). before_or tie (then_by r (compare_beds (drop (suc j) x.words) (drop (suc j) y.words)))) e
 
         pub smaller_word : get_or x.words j 0 < get_or y.words j 0 → answer_from tie x y j ≡ true
-        smaller_word t = by_word Ordering·lt (less (get_or x.words j 0) (get_or y.words j 0) t)
+        smaller_word t = by_word ordering_lt (less (get_or x.words j 0) (get_or y.words j 0) t)
 
         pub larger_word : get_or y.words j 0 < get_or x.words j 0 → answer_from tie x y j ≡ false
-        larger_word t = by_word Ordering·gt (more (get_or x.words j 0) (get_or y.words j 0) t)
+        larger_word t = by_word ordering_gt (more (get_or x.words j 0) (get_or y.words j 0) t)
 
         pub tied_word : get_or y.words j 0 ≤ get_or x.words j 0 → get_or x.words j 0 ≤ get_or y.words j 0 → answer_from tie x y j ≡ answer_from tie x y (j + 1)
-        tied_word t u = by_word Ordering·eq (alike (get_or x.words j 0) (get_or y.words j 0) u t) ∙ rw add-one
+        tied_word t u = by_word ordering_eq (alike (get_or x.words j 0) (get_or y.words j 0) u t) ∙ rw add-one
 
       by_test : (b : Bool) → eqb (get_or x.words j 0) (get_or y.words j 0) ≡ b → same_from x y j ≡ (b && same_from x y (suc j))
       by_test b e = ap₂ (same eqb) (one_left x.words p) (one_left y.words q) ∙ ap (λ (t : Bool). t && same_from x y (suc j)) e

@@ -1,5 +1,5 @@
 -- Rows whose beds are packed into words, four bits each: what they hold.
-use Rattle.definitions.specs.Basics.{ℕ, zero, suc, ◌+◌, ◌-◌, ◌/◌, ◌%◌, ◌<◌, Ordering, Ordering·lt, Ordering·eq, Ordering·gt, Bool, true, false}
+use Rattle.definitions.specs.Basics.{ℕ, zero, suc, ◌+◌, ◌-◌, ◌/◌, ◌%◌, ◌<◌, Ordering, ordering_lt, ordering_eq, ordering_gt, Bool, true, false}
 use Rattle.definitions.specs.Basics.{List, [], ◌∷◌, ◌++◌, map, flat_map, take, replicate}
 use Rattle.definitions.specs.Plans as Said
 use Rattle.definitions.specs.Plans.{bed_of}
@@ -20,9 +20,9 @@ row_of x = record { cost = x.cost; beds = packed_beds x.words }
 
 -- Does a comparison say "before", and what is said at a tie; "before", and not at a tie.
 abbrev pub before_or : Bool → Ordering → Bool
-before_or tie Ordering·lt = true
-before_or tie Ordering·eq = tie
-before_or tie Ordering·gt = false
+before_or tie ordering_lt = true
+before_or tie ordering_eq = tie
+before_or tie ordering_gt = false
 
 abbrev pub is_before : Ordering → Bool
 is_before o = before_or false o

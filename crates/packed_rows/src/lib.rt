@@ -1,5 +1,7 @@
 // Rows by value whose beds are packed: four bits to a bed, eight beds to a word.
 // The first patient's bed is in the highest four bits, so that the order of words is the order of beds.
+#![tactic(auto)]
+
 ghost use Rattle.std.specs.Prelude.{◌≡◌, ◌+◌, ◌%◌, ◌<◌, ◌≤◌, length};
 ghost use Rattle.std.proofs.lemmas.List.Edits.{sets};
 ghost use Rattle.definitions.specs.Plans.{bed_of, compare_rows};
@@ -9,7 +11,7 @@ ghost use Rattle.packed_rows.specs.Packed.{beds_of_word, packed_beds, row_of, be
 ghost use Rattle.packed_rows.specs.Laws.{beds_from};
 
 // A cost, and the beds of 32 patients.
-#[derive(Drop)]
+#[derive(Clone, Copy)]
 pub struct Row {
     pub cost: u64,
     pub words: [u32; 4],

@@ -1,4 +1,6 @@
 // The calls of price, line and join, whose result area holds two numbers.
+#![tactic(auto)]
+
 ghost use Rattle.std.specs.Prelude.{◌≡◌};
 ghost use Rattle.definitions.specs.Basics.{◌++◌};
 ghost use Rattle.definitions.specs.Questions.{first_no, asked_by_check, check_of};

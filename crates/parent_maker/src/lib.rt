@@ -1,4 +1,6 @@
 // Parents: a file read without asking for its parents, and written with those that its tables make.
+#![tactic(auto)]
+
 ghost use Rattle.std.specs.Prelude.{◌≡◌};
 ghost use Rattle.definitions.specs.Questions.{first_no};
 ghost use Rattle.definitions.specs.Parents.{asked_to_make, parents_outcome};

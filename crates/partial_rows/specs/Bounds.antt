@@ -2,7 +2,7 @@
 use Rattle.std.proofs.Common.{sym, ◌∙◌, le_refl, arith}
 use Rattle.std.proofs.Math.Option.{none-ne-some}
 use Rattle.std.specs.Prelude.{◌≤◌}
-use Rattle.definitions.specs.Basics.{ℕ, zero, suc, min, ◌≡◌, Option, none, some, Option·getD}
+use Rattle.definitions.specs.Basics.{ℕ, zero, suc, min, ◌≡◌, Option, none, some, option_get_or}
 use Rattle.definitions.specs.Basics.{List, [], ◌∷◌, map, get_or, sum}
 use Rattle.definitions.specs.Syntax.{Table, Region}
 use Rattle.definitions.specs.Plans.{Plan, entry_for, cost_over}
@@ -23,7 +23,7 @@ least_of (e ∷ es) = smaller e (least_of es)
 
 -- The least number of a table, or 0 where it has none.
 unfoldable pub least_entry : Table → ℕ
-least_entry t = Option·getD (least_of t.entries) 0
+least_entry t = option_get_or (least_of t.entries) 0
 
 -- It is at most every entry that is a number.
 abbrev AtMost : Option ℕ → ℕ → Type 0
@@ -49,7 +49,7 @@ least_entry_lem : (region : Region) (plan : Plan) (t : Table) (y : ℕ) → entr
 unfolding entry_for least_entry
 least_entry_lem region plan t y e = go (least_of t.entries) (least_at_most t.entries _ y e)
   where
-    go : (o : Option ℕ) → AtMost o y → Option·getD o 0 ≤ y
+    go : (o : Option ℕ) → AtMost o y → option_get_or o 0 ≤ y
     go none h = absurd h
     go (some x) h = h
 

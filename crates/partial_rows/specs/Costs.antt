@@ -1,6 +1,6 @@
 -- What a sum over tables depends on, and how the tables of a set fall into those of two parts.
 use Rattle.std.proofs.Common.{ap, ap₂, ◌∙◌}
-use Rattle.definitions.specs.Basics.{ℕ, ◌≡◌, refl, Bool, true, false, not, ◌&&◌, ◌||◌, none, Option·map, List, [], ◌∷◌, get_or, sum, keep, any}
+use Rattle.definitions.specs.Basics.{ℕ, ◌≡◌, refl, Bool, true, false, not, ◌&&◌, ◌||◌, none, option_map, List, [], ◌∷◌, get_or, sum, keep, any}
 use Rattle.definitions.specs.Syntax.{Table, Region, patient_at}
 use Rattle.definitions.specs.Plans.{Plan, bed_of, place, entry_for, cost_over, constraints}
 use Rattle.lists.specs.Members.{◌∈◌}
@@ -14,7 +14,7 @@ use Rattle.partial_rows.specs.Rows.{holds, tables_of, decided_tables}
 pub cost_same : (region : Region) (plan other : Plan) (tables : List Table)
     → ((t : Table) → t ∈ tables → (s : ℕ) → s ∈ t.members → bed_of plan s ≡ bed_of other s) → cost_over tables region plan ≡ cost_over tables region other
 unfolding cost_over entry_for
-cost_same region plan other tables h = ap (Option·map sum) (on_all_same (entry_for region plan) (entry_for region other) tables (λ t k.
+cost_same region plan other tables h = ap (option_map sum) (on_all_same (entry_for region plan) (entry_for region other) tables (λ t k.
     ap (λ pairs. get_or t.entries (place pairs) none) (map_same _ _ t.members (λ s i j. ((patient_at region s).bed_count, h t k s i j)))))
 
 -- The first table's entry and the sum over the others.

@@ -2,7 +2,7 @@
 use Rattle.std.proofs.Common.{sym, ap, ap₂, ◌∙◌, arith, length-append, take-append-drop, length-take-le, take_at, drop_at, get_or-drop}
 use Rattle.std.specs.Prelude.{drop, ◌≤◌}
 use Rattle.std.proofs.lemmas.List.{length-replicate}
-use Rattle.definitions.specs.Basics.{ℕ, zero, suc, ◌+◌, ◌-◌, compare, Ordering, Ordering·eq, ◌≡◌, refl}
+use Rattle.definitions.specs.Basics.{ℕ, zero, suc, ◌+◌, ◌-◌, compare, Ordering, ordering_eq, ◌≡◌, refl}
 use Rattle.definitions.specs.Basics.{List, [], ◌∷◌, ◌++◌, length, take, replicate, eqb, same}
 use Rattle.definitions.specs.Plans.{bed_of, then_by, compare_beds, Row, compare_rows}
 use Rattle.definitions.specs.Sheets.{same_beds}
@@ -22,10 +22,10 @@ pub record Padded (v : ℕ) (z : Row) : Type 0 where
 -- ---- lists of beds
 
 -- What stands behind two lists of one length, the same behind both, decides nothing.
-compare_self : (r : List ℕ) → compare_beds r r ≡ Ordering·eq
+compare_self : (r : List ℕ) → compare_beds r r ≡ ordering_eq
 compare_self r = go (list_view r r)
   where
-    go : {o : Ordering} → View ListLt r r o → o ≡ Ordering·eq
+    go : {o : Ordering} → View ListLt r r o → o ≡ ordering_eq
     go (before t) = absurd (list_irrefl r t)
     go (equal e) = refl
     go (after t) = absurd (list_irrefl r t)

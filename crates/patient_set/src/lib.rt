@@ -1,10 +1,12 @@
 // Sets of patients, as 32-bit words: patient p is in the set where bit p is 1.
+#![tactic(auto)]
+
 ghost use Rattle.std.specs.Prelude.{◌≡◌, ℕ, ◌<◌, ◌≤◌};
-ghost use Rattle.definitions.specs.Basics.{eqb, ltb, not, ◌&&◌, ◌||◌, Option·getD, length, is_empty};
+ghost use Rattle.definitions.specs.Basics.{eqb, ltb, not, ◌&&◌, ◌||◌, option_get_or, length, is_empty};
 ghost use Rattle.definitions.specs.Parents.{last};
 ghost use Rattle.patient_set.specs.Sets.{in_set, members, first};
 
-#[derive(Drop)]
+#[derive(Clone, Copy)]
 pub struct PatientSet(pub u32);
 
 impl PatientSet {
@@ -86,7 +88,7 @@ impl PatientSet {
 
     // The highest patient, 32 where there is none.
     pub fn highest(self) -> u32
-        ensures { result ≡ Option·getD (last (members self.0)) 32 }
+        ensures { result ≡ option_get_or (last (members self.0)) 32 }
     {
         if self.is_empty() {
             return 32;

@@ -1,4 +1,6 @@
 // The entries.
+#![tactic(auto)]
+
 ghost use Rattle.std.specs.Prelude.{◌≡◌};
 ghost use Rattle.definitions.specs.Basics.{length};
 ghost use Rattle.definitions.specs.Questions.{check_of};

@@ -1,4 +1,6 @@
 // The calls from C: the proved entries on numbers and byte areas.
+#![tactic(auto)]
+
 ghost use Rattle.std.specs.Prelude.{◌≡◌};
 ghost use Rattle.definitions.specs.Boundary.{check_call, list_call, sheet_call, price_call, write_call, line_call, join_call, parents_call, read_call, version_number};
 

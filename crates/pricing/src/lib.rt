@@ -1,4 +1,6 @@
 // Plans, and what they cost.
+#![tactic(auto)]
+
 pub mod beds;
 
 ghost use Rattle.std.specs.Prelude.{◌≡◌, ◌+◌, ◌<◌, ◌≤◌, set, length, take};
@@ -12,7 +14,7 @@ use bucket_words::{
 use held_region::FORBIDDEN;
 
 // A plan, step by step: the beds of the patients placed so far, bed 0 for all others, and how many are placed.
-#[derive(Drop)]
+#[derive(Clone, Copy)]
 pub struct Plan {
     pub beds: [u8; 32],
     pub len: usize,
@@ -41,7 +43,7 @@ impl Plan {
 }
 
 // The sum of some entries; a forbidden one makes it no number at all.
-#[derive(Drop)]
+#[derive(Clone, Copy)]
 pub enum Cost {
     Forbidden,
     Of(u64),

@@ -1,4 +1,6 @@
 // The printed text of a file: its list, and a sheet for each clinic that has patients.
+#![tactic(auto)]
+
 ghost use Rattle.printer.specs.Printing.{print_outcome};
 ghost use Rattle.printer.specs.Steps.{AsksClinic, GivesClinic, AsksSheets, GivesSheets, AsksText, GivesText};
 ghost use Rattle.std.specs.Prelude.{◌≡◌};

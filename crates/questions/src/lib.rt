@@ -1,4 +1,6 @@
 // Questions 5 to 10, asked of a held region in their order.
+#![tactic(auto)]
+
 pub mod fields;
 
 ghost use Rattle.std.specs.Prelude.{◌≡◌};

@@ -1,7 +1,7 @@
 -- Maps that keep how things compare: what they keep of inserting and sorting, of sorted and rising lists, and of the first m things of a set.
 use Rattle.std.proofs.Common.{sym, ap, ◌∙◌, inl, inr, arith}
 use Rattle.std.proofs.lemmas.List.{length-map}
-use Rattle.definitions.specs.Basics.{ℕ, Ordering, Ordering·lt, Ordering·eq, Ordering·gt, ◌≡◌, refl, List, [], ◌∷◌, map, insert, sort}
+use Rattle.definitions.specs.Basics.{ℕ, Ordering, ordering_lt, ordering_eq, ordering_gt, ◌≡◌, refl, List, [], ◌∷◌, map, insert, sort}
 use Rattle.lists.specs.Members.{◌∈◌, here, there, in_map, in_map_cases, in_cast}
 use Rattle.ranking.specs.Orders.{Order, View, before, equal, after}
 use Rattle.ranking.specs.First.{First, Sorted, FullBefore}
@@ -24,18 +24,18 @@ sorted_map O U f rising (x ∷ l) q s = (
 )
 
 -- The comparison says so exactly where one thing comes before another.
-says_before : {A : Type 0} (O : Order A) (x y : A) → O.Lt x y → O.cmp x y ≡ Ordering·lt
+says_before : {A : Type 0} (O : Order A) (x y : A) → O.Lt x y → O.cmp x y ≡ ordering_lt
 says_before O x y t = go (O.view x y)
   where
-    go : {o : Ordering} → View O.Lt x y o → o ≡ Ordering·lt
+    go : {o : Ordering} → View O.Lt x y o → o ≡ ordering_lt
     go (before u) = refl
     go (equal e) = absurd (O.irrefl (rw e at t))
     go (after u) = absurd (O.irrefl (O.trans t u))
 
-comes_before : {A : Type 0} (O : Order A) (x y : A) → O.cmp x y ≡ Ordering·lt → O.Lt x y
+comes_before : {A : Type 0} (O : Order A) (x y : A) → O.cmp x y ≡ ordering_lt → O.Lt x y
 comes_before O x y e = go (rw e at (O.view x y))
   where
-    go : View O.Lt x y Ordering·lt → O.Lt x y
+    go : View O.Lt x y ordering_lt → O.Lt x y
     go (before t) = t
 
 -- By any two comparisons that the map keeps for things of P: to insert or to sort and to map, in either order.
@@ -46,9 +46,9 @@ module _ {A B : Type 0} (cmp : A → A → Ordering) (other : B → B → Orderi
     where
       go : (o : Ordering) → insert other (f x) (map f l) ≡ map f (insert cmp x l)
           → step o (f x) (f y) (map f l) (insert other (f x) (map f l)) ≡ map f (step o x y l (insert cmp x l))
-      go Ordering·lt ih = refl
-      go Ordering·eq ih = refl
-      go Ordering·gt ih = ap {B = List B} (λ r. f y ∷ r) ih
+      go ordering_lt ih = refl
+      go ordering_eq ih = refl
+      go ordering_gt ih = ap {B = List B} (λ r. f y ∷ r) ih
 
   pub sort_map : (l : List A) → ((y : A) → y ∈ l → P y) → map f (sort cmp l) ≡ sort other (map f l)
   sort_map [] q = refl

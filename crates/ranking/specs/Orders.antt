@@ -2,14 +2,14 @@
 use Rattle.std.proofs.Common.{sym, ap, ◌∙◌, inl, inr, arith}
 use Rattle.std.specs.Prelude.{◌⊎◌}
 use Prim.Native.Nat.{zero-le, suc-le-suc}
-use Rattle.definitions.specs.Basics.{ℕ, zero, suc, ◌<◌, compare, Ordering, Ordering·lt, Ordering·eq, Ordering·gt, ◌≡◌, refl, List, [], ◌∷◌}
+use Rattle.definitions.specs.Basics.{ℕ, zero, suc, ◌<◌, compare, Ordering, ordering_lt, ordering_eq, ordering_gt, ◌≡◌, refl, List, [], ◌∷◌}
 use Rattle.definitions.specs.Plans.{then_by, compare_beds}
 
 -- The answer of a comparison, with its proof.
 pub data View {A : Type 0} (Lt : A → A → Type 0) (x y : A) : Ordering → Type 0 where
-  before : Lt x y → View Lt x y Ordering·lt
-  equal : x ≡ y → View Lt x y Ordering·eq
-  after : Lt y x → View Lt x y Ordering·gt
+  before : Lt x y → View Lt x y ordering_lt
+  equal : x ≡ y → View Lt x y ordering_eq
+  after : Lt y x → View Lt x y ordering_gt
 
 -- A strict total order, decided by a three-way comparison.
 pub record Order (A : Type 0) : Type 1 where

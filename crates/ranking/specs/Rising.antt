@@ -2,7 +2,7 @@
 use Rattle.std.specs.Prelude.{◌≡◌, refl, ◌≤◌}
 use Rattle.std.proofs.Common.{ap, arith}
 use Rattle.std.proofs.Math.Decide.{dec_lt}
-use Rattle.definitions.specs.Basics.{ℕ, zero, suc, ◌<◌, Ordering, Ordering·lt, Ordering·eq, Ordering·gt, List, [], ◌∷◌, length, get_or, take, insert, sort}
+use Rattle.definitions.specs.Basics.{ℕ, zero, suc, ◌<◌, Ordering, ordering_lt, ordering_eq, ordering_gt, List, [], ◌∷◌, length, get_or, take, insert, sort}
 use Rattle.lists.specs.Members.{◌∈◌, here, there}
 use Rattle.ranking.specs.Orders.{Order, View, before, equal, after}
 use Rattle.ranking.specs.First.{Sorted}
@@ -30,9 +30,9 @@ module _ {A : Type 0} (O : Order A) where
   none_insert : (x z : A) (l : List A) → (O.Lt z x → ⊥) → NoneBefore x l → NoneBefore x (insert O.cmp z l)
   none_insert x z [] h n = (h, tt)
   none_insert x z (y ∷ l) h n = elim (O.cmp z y) as (λ o. NoneBefore x (step o z y l (insert O.cmp z l))) [
-    | Ordering·lt ↦ (h, n)
-    | Ordering·eq ↦ (h, n)
-    | Ordering·gt ↦ (n.0, none_insert x z l h n.1)
+    | ordering_lt ↦ (h, n)
+    | ordering_eq ↦ (h, n)
+    | ordering_gt ↦ (n.0, none_insert x z l h n.1)
   ]
 
   rising_insert : (z : A) (l : List A) → Rising l → Rising (insert O.cmp z l)

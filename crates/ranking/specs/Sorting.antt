@@ -1,7 +1,7 @@
 -- Sorting by insertion: what it keeps, where a new element goes, and that it finds the first m of a set.
 use Rattle.std.proofs.Common.{sym, ap, ◌∙◌, inl, inr, arith, length-take, take-take}
 use Rattle.std.specs.Prelude.{◌⊎◌, ◌≤◌, drop}
-use Rattle.definitions.specs.Basics.{ℕ, zero, suc, ◌<◌, min, Ordering, Ordering·lt, Ordering·eq, Ordering·gt}
+use Rattle.definitions.specs.Basics.{ℕ, zero, suc, ◌<◌, min, Ordering, ordering_lt, ordering_eq, ordering_gt}
 use Rattle.definitions.specs.Basics.{◌≡◌, refl, List, [], ◌∷◌, ◌++◌, length, get_or, take, insert, sort}
 use Rattle.lists.specs.Members.{◌∈◌, ◌⊆◌, Distinct, Enumerates, here, there, here_or_there, none_in_nil}
 use Rattle.ranking.specs.Orders.{Order, View, before, equal, after}
@@ -9,7 +9,7 @@ use Rattle.ranking.specs.First.{First, Past, first_iff, first_zero, first_none, 
 
 -- One step of insertion: z goes in front of x, or into the rest.
 abbrev pub step : {A : Type 0} → Ordering → A → A → List A → List A → List A
-step o z x l rest = elim o [ Ordering·lt ↦ z ∷ x ∷ l | Ordering·eq ↦ z ∷ x ∷ l | Ordering·gt ↦ x ∷ rest ]
+step o z x l rest = elim o [ ordering_lt ↦ z ∷ x ∷ l | ordering_eq ↦ z ∷ x ∷ l | ordering_gt ↦ x ∷ rest ]
 
 -- By any comparison, sorting keeps the elements, their number and that they are distinct.
 module _ {A : Type 0} (cmp : A → A → Ordering) where
@@ -18,9 +18,9 @@ module _ {A : Type 0} (cmp : A → A → Ordering) where
   insert_out {y} {z} (x ∷ l) h = go (cmp z x) h (insert_out l)
     where
       go : (o : Ordering) → y ∈ step o z x l (insert cmp z l) → (y ∈ insert cmp z l → (y ≡ z) ⊎ (y ∈ l)) → (y ≡ z) ⊎ (y ∈ x ∷ l)
-      go Ordering·lt k ih = here_or_there k
-      go Ordering·eq k ih = here_or_there k
-      go Ordering·gt k ih = elim (here_or_there k) [ inl e ↦ inr (here e) | inr t ↦ elim (ih t) [ inl e ↦ inl e | inr u ↦ inr (there u) ] ]
+      go ordering_lt k ih = here_or_there k
+      go ordering_eq k ih = here_or_there k
+      go ordering_gt k ih = elim (here_or_there k) [ inl e ↦ inr (here e) | inr t ↦ elim (ih t) [ inl e ↦ inl e | inr u ↦ inr (there u) ] ]
 
   insert_in : {y z : A} (l : List A) → (y ≡ z) ⊎ (y ∈ l) → y ∈ insert cmp z l
   insert_in [] h = elim h [ inl e ↦ here e | inr k ↦ absurd (none_in_nil k) ]
@@ -30,24 +30,24 @@ module _ {A : Type 0} (cmp : A → A → Ordering) where
       front = elim h [ inl e ↦ here e | inr k ↦ there k ]
 
       go : (o : Ordering) → ((y ≡ z) ⊎ (y ∈ l) → y ∈ insert cmp z l) → y ∈ step o z x l (insert cmp z l)
-      go Ordering·lt ih = front
-      go Ordering·eq ih = front
-      go Ordering·gt ih = elim h [ inl e ↦ there (ih (inl e)) | inr k ↦ elim (here_or_there k) [ inl e ↦ here e | inr t ↦ there (ih (inr t)) ] ]
+      go ordering_lt ih = front
+      go ordering_eq ih = front
+      go ordering_gt ih = elim h [ inl e ↦ there (ih (inl e)) | inr k ↦ elim (here_or_there k) [ inl e ↦ here e | inr t ↦ there (ih (inr t)) ] ]
 
   insert_length : (z : A) (l : List A) → length (insert cmp z l) ≡ suc (length l)
   insert_length z [] = refl
   insert_length z (x ∷ l) = elim (cmp z x) as (λ o. length (step o z x l (insert cmp z l)) ≡ suc (suc (length l))) [
-    | Ordering·lt ↦ refl
-    | Ordering·eq ↦ refl
-    | Ordering·gt ↦ ap suc (insert_length z l)
+    | ordering_lt ↦ refl
+    | ordering_eq ↦ refl
+    | ordering_gt ↦ ap suc (insert_length z l)
   ]
 
   insert_distinct : (z : A) (l : List A) → (z ∈ l → ⊥) → Distinct l → Distinct (insert cmp z l)
   insert_distinct z [] new d = (new, tt)
   insert_distinct z (x ∷ l) new d = elim (cmp z x) as (λ o. Distinct (step o z x l (insert cmp z l))) [
-    | Ordering·lt ↦ (new, d)
-    | Ordering·eq ↦ (new, d)
-    | Ordering·gt ↦ (λ k. elim (insert_out l k) [ inl e ↦ new (here (sym e)) | inr t ↦ d.0 t ], insert_distinct z l (λ k. new (there k)) d.1)
+    | ordering_lt ↦ (new, d)
+    | ordering_eq ↦ (new, d)
+    | ordering_gt ↦ (λ k. elim (insert_out l k) [ inl e ↦ new (here (sym e)) | inr t ↦ d.0 t ], insert_distinct z l (λ k. new (there k)) d.1)
   ]
 
   pub sort_out : {y : A} (l : List A) → y ∈ sort cmp l → y ∈ l
@@ -78,9 +78,9 @@ module _ {A : Type 0} (cmp : A → A → Ordering) where
 
       go : (o : Ordering) → take m (insert cmp z (take m l)) ≡ take m (insert cmp z l)
           → take (suc m) (step o z x (take m l) (insert cmp z (take m l))) ≡ take (suc m) (step o z x l (insert cmp z l))
-      go Ordering·lt ih = ap {B = List A} (λ r. z ∷ r) (one m)
-      go Ordering·eq ih = ap {B = List A} (λ r. z ∷ r) (one m)
-      go Ordering·gt ih = ap {B = List A} (λ r. x ∷ r) ih
+      go ordering_lt ih = ap {B = List A} (λ r. z ∷ r) (one m)
+      go ordering_eq ih = ap {B = List A} (λ r. z ∷ r) (one m)
+      go ordering_gt ih = ap {B = List A} (λ r. x ∷ r) ih
 
 module _ {A : Type 0} (O : Order A) where
   -- The place of a new element: past all that come before it.

@@ -1,4 +1,6 @@
 // From the bytes of a file to the held region and its store: questions 1 to 4, then those that what is held answers.
+#![tactic(auto)]
+
 ghost use Rattle.std.specs.Prelude.{length, ◌≡◌};
 ghost use Rattle.reader.specs.Loading.{FileRead, LoadedFrom, refused_with, region_held};
 
@@ -9,7 +11,7 @@ use line_reader::checksum_of;
 use questions::judge;
 
 // The answer to the questions that were asked; where it is fine, what is held of the file.
-#[derive(Drop)]
+#[derive(Clone, Copy)]
 pub struct Loaded {
     pub answer: Judged,
     pub region: Region,

@@ -1,4 +1,6 @@
 // What list and price answer of the region of an accepted file.
+#![tactic(auto)]
+
 ghost use Rattle.theorems.specs.Accepted.{Accepted};
 ghost use Rattle.held_region.specs.Meaning.{said};
 ghost use Rattle.region_answers.specs.Prices.{RegionPriced};

@@ -1,4 +1,6 @@
 // A held region laid in the three areas in which a C program holds it: eight bytes a number, one patient, table or entry behind the other.
+#![tactic(auto)]
+
 ghost use Rattle.std.specs.Prelude.{◌≡◌, ◌+◌, ◌*◌, ◌≤◌, ◌<◌};
 ghost use Rattle.definitions.specs.Basics.{below, flat_map, get_or, length};
 ghost use Rattle.definitions.specs.Outcomes.{written};

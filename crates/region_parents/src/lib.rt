@@ -1,4 +1,6 @@
 // The parents that the tables of a held region make.
+#![tactic(auto)]
+
 ghost use Rattle.std.specs.Prelude.{◌≡◌, ℕ, length};
 ghost use Rattle.definitions.specs.Basics.{List};
 ghost use Rattle.definitions.specs.Parents.{last, parents_made, with_parent, with_parents};

@@ -1,4 +1,6 @@
 // Reads a region file from standard input, and prints its list and its sheets, or its refusal.
+#![tactic(auto)]
+
 ghost use Rattle.std.specs.Prelude.{◌≡◌, ◌≤◌};
 ghost use Rattle.definitions.specs.Basics.{length, sets};
 ghost use Rattle.definitions.specs.Output.{printed};
@@ -8,7 +10,7 @@ use libc::{STDIN_FILENO, STDOUT_FILENO};
 use printer::print;
 
 // What was read: so many bytes up to the input's end or the area's, or a read failed.
-#[derive(Drop)]
+#[derive(Clone, Copy)]
 enum Input {
     Failed,
     Bytes(usize),

@@ -1,4 +1,6 @@
 // Clinics, members and ancestors as sets of patients, and question 10, which is asked of them.
+#![tactic(auto)]
+
 ghost use Rattle.std.specs.Prelude.{◌≡◌, ℕ, ◌<◌};
 ghost use Rattle.definitions.specs.Basics.{some, List, ltb, every, keep};
 ghost use Rattle.definitions.specs.Syntax.{patients_of};

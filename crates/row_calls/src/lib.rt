@@ -1,4 +1,6 @@
 // The calls of list and sheet: their costs in eight bytes each, and the row count in the result area.
+#![tactic(auto)]
+
 ghost use Rattle.std.specs.Prelude.{◌≡◌};
 ghost use Rattle.definitions.specs.Boundary.{list_call, sheet_call};
 

@@ -1,5 +1,7 @@
 // Rows in a lent area of 32-bit numbers: the list of the cheapest rows found so far.
 // A row takes six words: its cost in two, the low one first, then its packed beds in four.
+#![tactic(auto)]
+
 ghost use Rattle.std.specs.Prelude.{◌≡◌, not, ◌&&◌, ◌+◌, ◌-◌, ◌*◌, ◌/◌, ◌%◌, ◌<◌, ◌≤◌, eqb, length};
 ghost use Rattle.definitions.specs.Plans.{compare_rows};
 ghost use Rattle.packed_rows.specs.Packed.{row_of, is_before};

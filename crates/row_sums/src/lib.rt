@@ -1,5 +1,7 @@
 // The cheapest sums of a row of one list and a row of another.
 // The work area has three parts of 384 words: the list so far, the next list, and their sums.
+#![tactic(auto)]
+
 ghost use Rattle.std.specs.Prelude.{◌≡◌, ◌<◌, ◌≤◌, length};
 ghost use Rattle.row_sums.specs.Sums.{Asks, Gives};
 ghost use Rattle.row_sums.specs.Steps.{exceeds_last, AsksRow, GivesRow, Copied};

@@ -1,4 +1,6 @@
 // The areas that a caller lends: whether they are long enough, a list's rows written to them, and the work area cleared behind them.
+#![tactic(auto)]
+
 ghost use Rattle.std.specs.Prelude.{◌≡◌, ◌<◌, ◌≤◌, length, take, replicate};
 ghost use Rattle.std.proofs.lemmas.List.Edits.{sets};
 ghost use Rattle.packed_rows.specs.Packed.{packed_beds};

@@ -1,7 +1,7 @@
 -- What each answer says, in the terms of the definition's readers.
 use Rattle.std.proofs.Common.{sym, ap, ◌∙◌}
 use Rattle.std.specs.Prelude.{◌≤◌, max, drop}
-use Rattle.definitions.specs.Basics.{ℕ, ◌≡◌, Bool, true, false, cond, Option, none, some, Option·map, List, length, eqb}
+use Rattle.definitions.specs.Basics.{ℕ, ◌≡◌, Bool, true, false, cond, Option, none, some, option_map, List, length, eqb}
 use Rattle.definitions.specs.Layout.{Reader}
 use Rattle.scanner.specs.declared.Passed.{Passed}
 use Rattle.scanner.specs.declared.Passed.TheVariants.{At, Nothing as NotPassed}
@@ -16,7 +16,7 @@ use Rattle.scanner.specs.declared.ItemStep.TheVariants.{Next, Closed, Nothing as
 
 -- What was read and the place after it, as a reader of s says it.
 abbrev pub resting : {A : Type 0} → List ℕ → Option (A × ℕ) → Option (A × List ℕ)
-resting s found = Option·map (λ r. (r.0, drop r.1 s)) found
+resting s found = option_map (λ r. (r.0, drop r.1 s)) found
 
 -- The place after what was read lies ahead, and in the slice unless the reading began behind its end.
 abbrev pub Ahead : {A : Type 0} → List ℕ → ℕ → Option (A × ℕ) → Type 0

@@ -2,7 +2,7 @@
 use Rattle.std.proofs.Common.{sym, ap, ◌∙◌, arith, eqb-true, leb-true, ne_eqb}
 use Rattle.std.proofs.lemmas.Bool.{false≢true}
 use Prim.Native.Char.{code}
-use Rattle.definitions.specs.Basics.{ℕ, ◌≡◌, refl, Bool, true, false, Option, none, some, Option·map, List, [], ◌∷◌, ◌++◌, eqb, leb, every, none_or}
+use Rattle.definitions.specs.Basics.{ℕ, ◌≡◌, refl, Bool, true, false, Option, none, some, option_map, List, [], ◌∷◌, ◌++◌, eqb, leb, every, none_or}
 use Rattle.definitions.specs.Layout.{give_if, is_digit, number_of, number, hyphen_or_number}
 use Rattle.lists.specs.Tests.{both}
 use Rattle.scanner.specs.declared.Class.TheVariants.{Hyphen, Other}
@@ -18,10 +18,10 @@ digit_inside b h =
     let l = leb-true (code "0") b (both (leb (code "0") b) h).0 in
     rw (ne_eqb b (code " ") (λ e. omega arith), ne_eqb b (code ")") (λ e. omega arith))
 
-number_before : (xs : List ℕ) → number xs ≡ Option·map (λ r. (r.0, r.1 ++ drop_while in_item xs)) (number (take_while in_item xs))
+number_before : (xs : List ℕ) → number xs ≡ option_map (λ r. (r.0, r.1 ++ drop_while in_item xs)) (number (take_while in_item xs))
 number_before xs = rw (number_span xs, number_span (take_while in_item xs), take_while_take_while is_digit in_item digit_inside xs) (go (number_of (take_while is_digit xs)))
   where
-    go : (o : Option ℕ) → give_if o (drop_while is_digit xs) ≡ Option·map (λ r. (r.0, r.1 ++ drop_while in_item xs)) (give_if o (drop_while is_digit (take_while in_item xs)))
+    go : (o : Option ℕ) → give_if o (drop_while is_digit xs) ≡ option_map (λ r. (r.0, r.1 ++ drop_while in_item xs)) (give_if o (drop_while is_digit (take_while in_item xs)))
     go none = refl
     go (some v) = ap (λ l. some (v, l)) (sym (drop_while_take_while is_digit in_item digit_inside xs))
 
@@ -45,12 +45,12 @@ hyphen_first (b ∷ bs) e = go (in_item b) refl
     go false q = absurd (let n = rw (take_while_off in_item b bs q) at e in let z : ◌≡◌ {A = ℕ} 0 1 = cc in omega arith)
 
 module _ (xs : List ℕ) where
-  hyphen_by_number : (first_class xs ≡ Hyphen → ⊥) → hyphen_or_number xs ≡ Option·map (λ r. (r.0, r.1 ++ drop_while in_item xs)) (hyphen_or_number (take_while in_item xs))
+  hyphen_by_number : (first_class xs ≡ Hyphen → ⊥) → hyphen_or_number xs ≡ option_map (λ r. (r.0, r.1 ++ drop_while in_item xs)) (hyphen_or_number (take_while in_item xs))
   hyphen_by_number n =
       rw (hyphen_missing xs n, hyphen_missing (take_while in_item xs) (λ e. n (hyphen_first xs e)), number_before xs) (go (number (take_while in_item xs)))
     where
-      go : (o : Option (ℕ × List ℕ)) → Option·map {A = ℕ × List ℕ} {B = Option ℕ × List ℕ} (λ r. (some r.0, r.1)) (Option·map (λ r. (r.0, r.1 ++ drop_while in_item xs)) o)
-          ≡ Option·map {A = Option ℕ × List ℕ} {B = Option ℕ × List ℕ} (λ r. (r.0, r.1 ++ drop_while in_item xs)) (Option·map (λ r. (some r.0, r.1)) o)
+      go : (o : Option (ℕ × List ℕ)) → option_map {A = ℕ × List ℕ} {B = Option ℕ × List ℕ} (λ r. (some r.0, r.1)) (option_map (λ r. (r.0, r.1 ++ drop_while in_item xs)) o)
+          ≡ option_map {A = Option ℕ × List ℕ} {B = Option ℕ × List ℕ} (λ r. (r.0, r.1 ++ drop_while in_item xs)) (option_map (λ r. (some r.0, r.1)) o)
       go none = refl
       go (some r) = refl
 
@@ -70,7 +70,7 @@ first_hyphen (b ∷ bs) = go (eqb b (code "-")) refl
     go true e = rw (eqb-true b (code "-") e) (stands bs)
     go false e = stands_not (λ c. false≢true (sym e ∙ class_says b c))
 
-hyphen_before : {xs : List ℕ} → FirstHyphen xs → hyphen_or_number xs ≡ Option·map (λ r. (r.0, r.1 ++ drop_while in_item xs)) (hyphen_or_number (take_while in_item xs))
+hyphen_before : {xs : List ℕ} → FirstHyphen xs → hyphen_or_number xs ≡ option_map (λ r. (r.0, r.1 ++ drop_while in_item xs)) (hyphen_or_number (take_while in_item xs))
 unfolding class_of
 hyphen_before (stands bs) =
     rw (hyphen_there (code "-" ∷ bs) refl, hyphen_there (code "-" ∷ take_while in_item bs) refl) (ap (λ l. some (none, l)) (sym (take_while_drop_while in_item bs)))
@@ -81,7 +81,7 @@ unfolding class_of
 hyphen_rest (stands bs) h = rw (hyphen_there (code "-" ∷ bs) refl) h
 hyphen_rest {p} (stands_not n) h = rw (hyphen_missing p n) (go (number p) (number_rest p h))
   where
-    go : (o : Option (ℕ × List ℕ)) → none_or (λ r. every in_item r.1) o ≡ true → none_or (λ r. every in_item r.1) (Option·map {B = Option ℕ × List ℕ} (λ r. (some r.0, r.1)) o) ≡ true
+    go : (o : Option (ℕ × List ℕ)) → none_or (λ r. every in_item r.1) o ≡ true → none_or (λ r. every in_item r.1) (option_map {B = Option ℕ × List ℕ} (λ r. (some r.0, r.1)) o) ≡ true
     go none q = refl
     go (some r) q = q
 

@@ -3,7 +3,7 @@ use Rattle.std.proofs.Math.Path.{sym, ap}
 use Rattle.std.proofs.Common.{◌∙◌, eqb-true}
 use Rattle.std.proofs.lemmas.Bool.{false≢true}
 use Prim.Native.Char.{code}
-use Rattle.definitions.specs.Basics.{ℕ, ◌≡◌, refl, Bool, true, false, not, ◌&&◌, cond, Option, none, some, bind, Option·map, List, [], ◌∷◌, ◌++◌, eqb, every, is_empty, none_or, on_all}
+use Rattle.definitions.specs.Basics.{ℕ, ◌≡◌, refl, Bool, true, false, not, ◌&&◌, cond, Option, none, some, bind, option_map, List, [], ◌∷◌, ◌++◌, eqb, every, is_empty, none_or, on_all}
 use Rattle.definitions.specs.Layout.{Reader, ◌>>=◌, ◌>>◌, give, give_if, many, passing, word, whole, pieces, onto_first, items}
 use Rattle.lists.specs.Tests.{both}
 use Rattle.scanner.specs.Spans.{take_while, drop_while, take_while_on, drop_while_on, many_span, take_while_passes, drop_while_fails}
@@ -68,7 +68,7 @@ after_list_lem (b ∷ bs) = after_by b bs (kind b) (after_list_lem bs)
 
 -- An item reader that looks at nothing behind an item: it reads an item alone as it does before other bytes, and leaves none of those.
 pub record Bounded {A : Type 0} (item : Reader ℕ A) : Type 0 where
-  pub before : (xs : List ℕ) → item xs ≡ Option·map (λ r. (r.0, r.1 ++ drop_while in_item xs)) (item (take_while in_item xs))
+  pub before : (xs : List ℕ) → item xs ≡ option_map (λ r. (r.0, r.1 ++ drop_while in_item xs)) (item (take_while in_item xs))
   pub rest : (p : List ℕ) → every in_item p ≡ true → none_or (λ r. every in_item r.1) (item p) ≡ true
 
 module _ {A : Type 0} (item : Reader ℕ A) where
@@ -87,7 +87,7 @@ module _ {A : Type 0} (item : Reader ℕ A) where
   nowhere none = refl
   nowhere (some b) = refl
 
-  onto_all : (a : A) (w : Option (Unit {0} × List ℕ)) (o : Option (List A)) → bind w (λ q. give_if (Option·map (λ l. a ∷ l) o) q.1) ≡ bind (bind w (λ q. give_if o q.1)) (λ r. give (a ∷ r.0) r.1)
+  onto_all : (a : A) (w : Option (Unit {0} × List ℕ)) (o : Option (List A)) → bind w (λ q. give_if (option_map (λ l. a ∷ l) o) q.1) ≡ bind (bind w (λ q. give_if o q.1)) (λ r. give (a ∷ r.0) r.1)
   unfolding bind
   onto_all a none o = refl
   onto_all a (some q) none = refl
@@ -95,7 +95,7 @@ module _ {A : Type 0} (item : Reader ℕ A) where
 
   -- After a whole item.
   after_whole : (a : A) (b : ℕ) (bs : List ℕ) → Kind b → in_item b ≡ false
-      → bind (word ")" (after_list (b ∷ bs))) (λ q. give_if (Option·map (λ l. a ∷ l) (on_all (whole item) (more_pieces (b ∷ bs)))) q.1) ≡ after_item a (b ∷ bs)
+      → bind (word ")" (after_list (b ∷ bs))) (λ q. give_if (option_map (λ l. a ∷ l) (on_all (whole item) (more_pieces (b ∷ bs)))) q.1) ≡ after_item a (b ∷ bs)
   unfolding after_item items_from separator bind
   after_whole a b bs (space e) f = rw (e, many_span in_list bs) (onto_all a (word ")" (drop_while in_list bs)) (on_all (whole item) (pieces (take_while in_list bs))))
   after_whole a b bs (close e) f = rw e
@@ -114,7 +114,7 @@ module _ {A : Type 0} (item : Reader ℕ A) where
 
   -- After what an item's reader leaves, which must be nothing.
   after_item_lem : (a : A) (ys : List ℕ) → every in_item ys ≡ true → (c : List ℕ) → ((b : ℕ) (bs : List ℕ) → c ≡ b ∷ bs → in_item b ≡ false)
-      → bind (word ")" (after_list c)) (λ q. give_if (bind (cond (is_empty ys) (some a) none) (λ a. Option·map (λ l. a ∷ l) (on_all (whole item) (more_pieces c)))) q.1) ≡ after_item a (ys ++ c)
+      → bind (word ")" (after_list c)) (λ q. give_if (bind (cond (is_empty ys) (some a) none) (λ a. option_map (λ l. a ∷ l) (on_all (whole item) (more_pieces c)))) q.1) ≡ after_item a (ys ++ c)
   unfolding bind
   after_item_lem a [] h [] f = sym (after_end a)
   after_item_lem a [] h (b ∷ bs) f = after_whole a b bs (kind b) (f b bs refl)
@@ -126,8 +126,8 @@ module _ {A : Type 0} (item : Reader ℕ A) where
   items_step k xs = first_item xs ∙ go (item (take_while in_item xs)) refl ∙ ap (λ o. bind o (λ r. after_item r.0 r.1)) (sym (k.before xs))
     where
       go : (o : Option (A × List ℕ)) → item (take_while in_item xs) ≡ o
-          → bind (word ")" (after_list (drop_while in_item xs))) (λ q. give_if (bind (bind o (λ r. cond (is_empty r.1) (some r.0) none)) (λ a. Option·map (λ l. a ∷ l) (on_all (whole item) (more_pieces (drop_while in_item xs))))) q.1)
-          ≡ bind {A = A × List ℕ} (Option·map (λ r. (r.0, r.1 ++ drop_while in_item xs)) o) (λ r. after_item r.0 r.1)
+          → bind (word ")" (after_list (drop_while in_item xs))) (λ q. give_if (bind (bind o (λ r. cond (is_empty r.1) (some r.0) none)) (λ a. option_map (λ l. a ∷ l) (on_all (whole item) (more_pieces (drop_while in_item xs))))) q.1)
+          ≡ bind {A = A × List ℕ} (option_map (λ r. (r.0, r.1 ++ drop_while in_item xs)) o) (λ r. after_item r.0 r.1)
       go none e = nowhere (word ")" (after_list (drop_while in_item xs)))
       go (some r) e =
           after_item_lem r.0 r.1 (sym (ap (none_or (λ r. every in_item r.1)) e) ∙ k.rest (take_while in_item xs) (take_while_passes in_item xs)) (drop_while in_item xs) (drop_while_fails in_item xs)
@@ -143,11 +143,11 @@ module _ {A : Type 0} (item : Reader ℕ A) where
       unfolding bind
       next = items_step k xs ∙ rw e
 
-      pub items_more : {zs : List ℕ} → separator ys ≡ some (true, zs) → items_from item xs ≡ Option·map (λ r. (a ∷ r.0, r.1)) (items_from item zs)
+      pub items_more : {zs : List ℕ} → separator ys ≡ some (true, zs) → items_from item xs ≡ option_map (λ r. (a ∷ r.0, r.1)) (items_from item zs)
       unfolding bind after_item
       items_more {zs} q = next ∙ rw q (go (items_from item zs))
         where
-          go : (o : Option (List A × List ℕ)) → bind {B = List A × List ℕ} o (λ r. some (a ∷ r.0, r.1)) ≡ Option·map (λ r. (a ∷ r.0, r.1)) o
+          go : (o : Option (List A × List ℕ)) → bind {B = List A × List ℕ} o (λ r. some (a ∷ r.0, r.1)) ≡ option_map (λ r. (a ∷ r.0, r.1)) o
           go none = refl
           go (some r) = refl
 

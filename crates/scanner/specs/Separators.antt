@@ -2,7 +2,7 @@
 use Rattle.std.proofs.Common.{sym, ap, arith, eqb-true, ne_eqb, length-drop}
 use Rattle.std.specs.Prelude.{◌≤◌, ◌<◌, drop}
 use Prim.Native.Char.{code}
-use Rattle.definitions.specs.Basics.{ℕ, suc, ◌≡◌, refl, Bool, true, false, cond, Option, none, some, bind, or_else, Option·map, Option·getD, List, [], ◌∷◌, length, eqb}
+use Rattle.definitions.specs.Basics.{ℕ, suc, ◌≡◌, refl, Bool, true, false, cond, Option, none, some, bind, or_else, option_map, option_get_or, List, [], ◌∷◌, length, eqb}
 use Rattle.definitions.specs.Layout.{Reader, one, give_if, number, hyphen_or_number}
 use Rattle.scanner.specs.declared.Class.TheVariants.{Space, Close, Hyphen}
 use Rattle.scanner.specs.Answers.{ReadAt}
@@ -39,7 +39,7 @@ separator_one (b ∷ bs) m ys e = go (another b) e
   where
     go : (o : Option Bool) → give_if o bs ≡ some (m, ys) → suc (length bs) ≡ suc (length ys)
     go none q = absurd (let z : ◌≡◌ {A = ℕ} 0 1 = cc in omega arith)
-    go (some n) q = ap (λ o. Option·getD (Option·map (λ r. suc (length r.1)) o) 0) q
+    go (some n) q = ap (λ o. option_get_or (option_map (λ r. suc (length r.1)) o) 0) q
 
 pub separator_ahead : {s : List ℕ} {at next : ℕ} {m : Bool} → ReadAt separator s at (some (m, next)) → (at < next) × (next ≤ length s)
 separator_ahead {s} {at} {next} {m} h =
@@ -53,10 +53,10 @@ module _ (xs : List ℕ) where
   unfolding hyphen_or_number bind or_else class_of
   hyphen_there e = rw (byte_there (code "-") (λ b. refl) refl [] xs e)
 
-  pub hyphen_missing : (first_class xs ≡ Hyphen → ⊥) → hyphen_or_number xs ≡ Option·map (λ r. (some r.0, r.1)) (number xs)
+  pub hyphen_missing : (first_class xs ≡ Hyphen → ⊥) → hyphen_or_number xs ≡ option_map (λ r. (some r.0, r.1)) (number xs)
   unfolding hyphen_or_number or_else bind class_of
   hyphen_missing n = rw (byte_missing (code "-") (λ b. refl) refl [] xs n) (go (number xs))
     where
-      go : (o : Option (ℕ × List ℕ)) → bind {B = Option ℕ × List ℕ} o (λ r. some (some r.0, r.1)) ≡ Option·map (λ r. (some r.0, r.1)) o
+      go : (o : Option (ℕ × List ℕ)) → bind {B = Option ℕ × List ℕ} o (λ r. some (some r.0, r.1)) ≡ option_map (λ r. (some r.0, r.1)) o
       go none = refl
       go (some r) = refl

@@ -1,4 +1,5 @@
 // The pieces of a region file's lines, read from any place of a slice.
+#![tactic(auto)]
 
 ghost use Rattle.std.specs.Prelude.{◌≡◌, drop};
 ghost use Rattle.definitions.specs.Basics.{true, eqb, every};
@@ -11,7 +12,7 @@ ghost use Rattle.scanner.specs.Separators.{separator};
 use limits::DIGITS;
 
 // The reader's class of a byte; a digit comes with its value, a letter with its byte.
-#[derive(Drop)]
+#[derive(Clone, Copy)]
 pub enum Class {
     Digit(u32),
     Open,
@@ -59,7 +60,7 @@ pub fn is_line_end(b: u8) -> bool
 }
 
 // The place after what was passed.
-#[derive(Drop)]
+#[derive(Clone, Copy)]
 pub enum Passed {
     At(usize),
     Nothing,
@@ -159,7 +160,7 @@ pub fn form_start_at(s: &[u8], at: usize, word: &[u8]) -> Passed
 }
 
 // A number and the place after it.
-#[derive(Drop)]
+#[derive(Clone, Copy)]
 pub enum Number {
     Value(u32, usize),
     Nothing,
@@ -196,7 +197,7 @@ pub fn number_at(s: &[u8], at: usize) -> Number
 }
 
 // A hyphen, which says that there is none, or a number.
-#[derive(Drop)]
+#[derive(Clone, Copy)]
 pub enum Optional {
     Hyphen,
     Number(u32),
@@ -226,7 +227,7 @@ pub fn said_by(code: u32) -> Optional
 }
 
 // A hyphen or a number, and the place after it.
-#[derive(Drop)]
+#[derive(Clone, Copy)]
 pub enum Entry {
     Is(Optional, usize),
     Nothing,
@@ -245,7 +246,7 @@ pub fn hyphen_or_number_at(s: &[u8], at: usize) -> Entry
 }
 
 // What stands after an item: a space before the next one, or the bracket that closes the list.
-#[derive(Drop)]
+#[derive(Clone, Copy)]
 pub enum ItemStep {
     Next(usize),
     Closed(usize),

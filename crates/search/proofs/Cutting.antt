@@ -3,7 +3,7 @@ use mathlib.Core.Path.{◌≡◌, sym, ap}
 use borrow.Author.Tests.{eq-eqb, ne_eqb}
 use native.Mathlib.Omega.{arith}
 use Prim.Native.Nat.{◌≤◌}
-use Rattle.definitions.specs.Basics.{ℕ, ◌-◌, ◌<◌, Ordering, Ordering·lt, Ordering·gt, compare, true, false, not, List, take}
+use Rattle.definitions.specs.Basics.{ℕ, ◌-◌, ◌<◌, Ordering, ordering_lt, ordering_gt, compare, true, false, not, List, take}
 use Rattle.definitions.specs.Plans.{then_by, compare_beds}
 use Rattle.packed_rows.specs.Packed.{is_before}
 use Rattle.packed_rows.specs.Numbers.{less, more}
@@ -23,7 +23,7 @@ module _ (v n m : ℕ) (area : List ℕ) (cost : ℕ) (beds : List ℕ) where
     by_cost o e = rw (eq-eqb n m (omega (arith, room.held))) (ap (λ c. not (is_before (then_by c (compare_beds (take v beds) (row_in v area (m - 1)).beds)))) e)
 
     pub cheaper : cost < (row_in v area (m - 1)).cost → false ≡ is_past v n m area cost beds
-    cheaper h = sym (by_cost Ordering·lt (less cost (row_in v area (m - 1)).cost h))
+    cheaper h = sym (by_cost ordering_lt (less cost (row_in v area (m - 1)).cost h))
 
     pub costlier : (row_in v area (m - 1)).cost < cost → true ≡ is_past v n m area cost beds
-    costlier h = sym (by_cost Ordering·gt (more cost (row_in v area (m - 1)).cost h))
+    costlier h = sym (by_cost ordering_gt (more cost (row_in v area (m - 1)).cost h))

@@ -1,4 +1,6 @@
 // The cheapest plans of a region, found tree by tree.
+#![tactic(auto)]
+
 pub mod walk;
 
 ghost use Rattle.patient_set.specs.Sets.{members};

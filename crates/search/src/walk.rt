@@ -12,7 +12,7 @@ use pricing::{Cost, Plan};
 use row_list::{cost_at, insert, is_past};
 
 // The head of a branch: who is left, how many are placed, the cost so far, and a lower bound of what the rest costs.
-#[derive(Drop)]
+#[derive(Clone, Copy)]
 pub struct Head {
     pub left: PatientSet,
     pub placed: usize,
@@ -21,7 +21,7 @@ pub struct Head {
 }
 
 // What is left of a head without its lowest patient.
-#[derive(Drop)]
+#[derive(Clone, Copy)]
 pub struct Rest {
     pub left: PatientSet,
     pub bound: u64,

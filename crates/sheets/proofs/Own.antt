@@ -4,7 +4,7 @@ use Prim.Native.Nat.{◌≤◌}
 use native.Mathlib.Omega.{arith}
 use borrow.Author.Tests.{ltb-true, lt-ltb}
 use lib.Seq.{get_or-take, length-take-le}
-use Rattle.definitions.specs.Basics.{ℕ, ◌<◌, true, Option·getD, List, map, length, get_or, take, ltb, below, every, keep, contains}
+use Rattle.definitions.specs.Basics.{ℕ, ◌<◌, true, option_get_or, List, map, length, get_or, take, ltb, below, every, keep, contains}
 use Rattle.definitions.specs.Syntax.{Region, patient_at, patients_of}
 use Rattle.definitions.specs.Plans as Said
 use Rattle.definitions.specs.Plans.{bed_of, entry_for, cost_over}
@@ -82,7 +82,7 @@ module _ {r : Region} {clinic : ℕ} {store patients terms : List ℕ} {v set : 
   unfolding own_cost cost_over entry_for patient_at
   own_cost_lem beds cost first fits priced =
       priced (with_tables r (counts_for set)) own.prepared (with_fits beds fits) own.all
-      ∙ ap (λ tables. Option·getD (cost_over tables r (take v beds)) 0) tables_own
+      ∙ ap (λ tables. option_get_or (cost_over tables r (take v beds)) 0) tables_own
 
 -- The row that is packed.
 pub own_made : {store patients terms : List ℕ} {v : ℕ} (row : Row) (set : ℕ) (result : Row) (beds taken : List ℕ) (k first : ℕ)

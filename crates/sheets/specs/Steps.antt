@@ -1,6 +1,6 @@
 -- What the steps of a sheet ask for and give: a clinic's part, its own cost, its own row, and the rows kept.
 use Rattle.std.specs.Prelude.{◌≤◌}
-use Rattle.definitions.specs.Basics.{ℕ, ◌+◌, ◌<◌, ◌≡◌, cond, Option·getD, List, [], ◌∷◌, ◌++◌, map, length, take, any}
+use Rattle.definitions.specs.Basics.{ℕ, ◌+◌, ◌<◌, ◌≡◌, cond, option_get_or, List, [], ◌∷◌, ◌++◌, map, length, take, any}
 use Rattle.definitions.specs.Syntax.{Region, patients_of}
 use Rattle.definitions.specs.Plans as Said
 use Rattle.definitions.specs.Plans.{bed_of, cost_over, list_of}
@@ -23,7 +23,7 @@ PartTaken beds patients taken = take (length patients) taken ≡ map (bed_of bed
 -- What the tables cost for a plan, 0 where one of them forbids it.
 abbrev pub Priced : List ℕ → List ℕ → List ℕ → ℕ → List ℕ → ℕ → Type 0
 Priced store patients terms v beds n =
-    (r : Region) → Prepared r store patients terms → Fitting r beds → v ≡ length r.patients → n ≡ Option·getD (cost_over r.tables r (take v beds)) 0
+    (r : Region) → Prepared r store patients terms → Fitting r beds → v ≡ length r.patients → n ≡ option_get_or (cost_over r.tables r (take v beds)) 0
 
 -- ---- a row of the list
 

@@ -1,4 +1,6 @@
 // The rows of a clinic's sheet, collected behind the list in the work area.
+#![tactic(auto)]
+
 ghost use Rattle.std.specs.Prelude.{◌≡◌, ◌*◌, ◌≤◌, length};
 ghost use Rattle.definitions.specs.Basics.{any};
 ghost use Rattle.definitions.specs.Sheets.{same_beds};

@@ -2,7 +2,7 @@
 use Rattle.std.specs.Prelude.{◌≡◌, refl, ◌≤◌, drop}
 use Rattle.std.proofs.Common.{sym, ap, ◌∙◌, arith, length-append}
 use Rattle.std.proofs.Math.Seq.{append_snoc}
-use Rattle.definitions.specs.Basics.{ℕ, ◌+◌, ◌<◌, true, false, Option, none, some, Option·map, bind, List, [], ◌∷◌, ◌++◌, length}
+use Rattle.definitions.specs.Basics.{ℕ, ◌+◌, ◌<◌, true, false, Option, none, some, option_map, bind, List, [], ◌∷◌, ◌++◌, length}
 use Rattle.definitions.specs.Layout.{Reader, word, items}
 use Rattle.scanner.specs.Answers.{ReadAt}
 use Rattle.scanner.specs.Separators.{separator, separator_ahead}
@@ -10,13 +10,13 @@ use Rattle.scanner.specs.Items.{Bounded, items_from, items_open, items_missing, 
 
 -- What was read, put in front of what is read after it.
 abbrev onto : {A : Type 0} → List A → Option (List A × List ℕ) → Option (List A × List ℕ)
-onto done o = Option·map (λ r. (done ++ r.0, r.1)) o
+onto done o = option_map (λ r. (done ++ r.0, r.1)) o
 
 onto_none : {A : Type 0} (o : Option (List A × List ℕ)) → onto [] o ≡ o
 onto_none none = refl
 onto_none (some r) = refl
 
-onto_more : {A : Type 0} (done : List A) (a : A) (o : Option (List A × List ℕ)) → onto done (Option·map (λ r. (a ∷ r.0, r.1)) o) ≡ onto (done ++ a ∷ []) o
+onto_more : {A : Type 0} (done : List A) (a : A) (o : Option (List A × List ℕ)) → onto done (option_map (λ r. (a ∷ r.0, r.1)) o) ≡ onto (done ++ a ∷ []) o
 onto_more done a none = refl
 onto_more {A} done a (some r) = ap {B = Option (List A × List ℕ)} (λ l. some (l, r.1)) (sym (append_snoc done a r.0))
 

@@ -1,4 +1,6 @@
 // One table line: its list of members, its list of entries, which go to the store, and the line.
+#![tactic(auto)]
+
 ghost use Rattle.std.specs.Prelude.{◌+◌, [], ◌∷◌};
 ghost use Rattle.table_reader.specs.TableReading.{MembersRead, Adds, EntriesRead, TableRead};
 
@@ -9,7 +11,7 @@ use scanner::{
 };
 
 // The first four members of a list, how many there are, and the place after it; or no list was found.
-#[derive(Drop)]
+#[derive(Clone, Copy)]
 pub struct Members {
     pub found: bool,
     pub first: [u32; 4],
@@ -73,7 +75,7 @@ fn put(store: &mut [u32; 4096], used: usize, count: usize, code: u32)
 }
 
 // How many entries a list has, and the place after it.
-#[derive(Drop)]
+#[derive(Clone, Copy)]
 pub enum Entries {
     Are(usize, usize),
     Nothing,
@@ -110,7 +112,7 @@ pub fn entries_at(line: &[u8], at: usize, store: &mut [u32; 4096], used: usize) 
 }
 
 // The table of a line, or none was found.
-#[derive(Drop)]
+#[derive(Clone, Copy)]
 pub struct TableLine {
     pub found: bool,
     pub table: Table,

@@ -8,7 +8,7 @@ use Rattle.std.proofs.Math.Decide.{dec_lt}
 use native.Mathlib.Omega.{arith}
 use borrow.Author.Tests.{leb-true, ltb-true, eqb-true}
 use Rattle.std.proofs.Math.ListN.{get_or-eq_default}
-use Rattle.definitions.specs.Basics.{ℕ, ◌*◌, ◌<◌, Bool, true, false, ◌&&◌, ◌||◌, Option, none, some, Option·getD}
+use Rattle.definitions.specs.Basics.{ℕ, ◌*◌, ◌<◌, Bool, true, false, ◌&&◌, ◌||◌, Option, none, some, option_get_or}
 use Rattle.definitions.specs.Basics.{List, [], ◌∷◌, map, length, get_or, leb, ltb, eqb, sum, product, every, every_two, keep, contains, none_or, is_some}
 use Rattle.definitions.specs.Limits.{Field, patient_count, table_count, plans_wanted, clinic, bed_count, member_count, entry_count, entry, limits, within}
 use Rattle.definitions.specs.Syntax.{Patient, Table, Region, patient_numbers, patient_at, bed_counts}
@@ -92,7 +92,7 @@ unfolding limits
 most_total_lem = refl
 
 -- The file says its region.
-pub some_of : {A : Type 0} (o : Option A) (d : A) → is_some o ≡ true → o ≡ some (Option·getD o d)
+pub some_of : {A : Type 0} (o : Option A) (d : A) → is_some o ≡ true → o ≡ some (option_get_or o d)
 some_of none d e = absurd (true≢false (sym e))
 some_of (some a) d e = refl
 
@@ -297,7 +297,7 @@ module _ (r : Region) (a : Accepted r) where
   unfolding own_cost own_tables
   own_small c w = go (cost_over (own_tables r c) r w.beds) (tables_small _ w.beds)
     where
-      go : (o : Option ℕ) → ((n : ℕ) → o ≡ some n → n ≤ most_total) → Option·getD o 0 ≤ most_total
+      go : (o : Option ℕ) → ((n : ℕ) → o ≡ some n → n ≤ most_total) → option_get_or o 0 ≤ most_total
       go none h = omega arith
       go (some n) h = h n refl
 

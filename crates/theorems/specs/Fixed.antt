@@ -6,7 +6,7 @@ use Rattle.std.proofs.Math.Option.{none-ne-some, some-injective}
 use Rattle.std.proofs.Math.Decide.{dec_lt}
 use native.Mathlib.Omega.{arith}
 use Rattle.std.proofs.Math.ListN.{get_or-eq_default}
-use Rattle.definitions.specs.Basics.{ℕ, ◌+◌, ◌*◌, ◌<◌, ◌≡◌, refl, Bool, true, false, not, ◌&&◌, cond, Option, none, some, Option·map, Option·elim, none_or, is_some}
+use Rattle.definitions.specs.Basics.{ℕ, ◌+◌, ◌*◌, ◌<◌, ◌≡◌, refl, Bool, true, false, not, ◌&&◌, cond, Option, none, some, option_map, option_elim, none_or, is_some}
 use Rattle.definitions.specs.Basics.{List, [], ◌∷◌, ◌++◌, map, length, get_or, filter_map, eqb, below, every, keep}
 use Rattle.definitions.specs.Syntax.{Table, Region, patient_numbers, patient_at}
 use Rattle.definitions.specs.Plans.{Plan, bed_of, plans, plans_for, place, entry_for, cost_over, fixing, constraints, total}
@@ -62,7 +62,7 @@ fixing_members : (region : Region) (s : ℕ) (t : Table) → fixing region s ≡
 unfolding fixing
 fixing_members region s t e = go (patient_at region s).fixed_bed e
   where
-    go : (o : Option ℕ) → Option·map (λ fixed. record { members = s ∷ []; entries = map (fixed_entry fixed) (below (patient_at region s).bed_count) }) o ≡ some t → t.members ≡ s ∷ []
+    go : (o : Option ℕ) → option_map (λ fixed. record { members = s ∷ []; entries = map (fixed_entry fixed) (below (patient_at region s).bed_count) }) o ≡ some t → t.members ≡ s ∷ []
     go none q = absurd (none-ne-some t q)
     go (some fixed) q = ap (λ (u : Table). u.members) (sym (some-injective _ t q))
 
@@ -95,7 +95,7 @@ module _ (region : Region) (plan : Plan) where
 
   -- The constraints of some patients' fixed beds cost what their fixed beds do.
   pub cost_fixing : (l : List ℕ) → cost_over (filter_map (fixing region) l) region plan ≡ sum_over (fixed_cost region plan) l
-  unfolding cost_over fixing filter_map Option·elim
+  unfolding cost_over fixing filter_map option_elim
   cost_fixing [] = refl
   cost_fixing (s ∷ l) = go (patient_at region s).fixed_bed (cost_fixing l) ∙ sym (sum_cons (fixed_cost region plan) s l)
     where
@@ -103,10 +103,10 @@ module _ (region : Region) (plan : Plan) where
       entries fixed = map (fixed_entry fixed) (below (patient_at region s).bed_count)
 
       one : Option ℕ → Option Table
-      one o = Option·map (λ fixed. record { members = s ∷ []; entries = entries fixed }) o
+      one o = option_map (λ fixed. record { members = s ∷ []; entries = entries fixed }) o
 
       go : (o : Option ℕ) → sum_over (entry_for region plan) (filter_map (fixing region) l) ≡ sum_over (fixed_cost region plan) l
-          → sum_over (entry_for region plan) (Option·elim (one o) (filter_map (fixing region) l) (λ t. t ∷ filter_map (fixing region) l))
+          → sum_over (entry_for region plan) (option_elim (one o) (filter_map (fixing region) l) (λ t. t ∷ filter_map (fixing region) l))
           ≡ plus (keeping (patient_at region s).bed_count o (bed_of plan s)) (sum_over (fixed_cost region plan) l)
       go none rest = rest ∙ sym (zero_plus (sum_over (fixed_cost region plan) l))
       go (some fixed) rest = sum_cons (entry_for region plan) (record { members = s ∷ []; entries = entries fixed }) (filter_map (fixing region) l) ∙ ap₂ plus (entry_alone s (entries fixed)) rest
@@ -173,7 +173,7 @@ total_fixed region plan fits =
 
 -- Where all are free, the constraints are the tables; and fixed beds do not change which plans there are.
 none_fixing : (region : Region) (l : List ℕ) → ((s : ℕ) → s ∈ l → (patient_at region s).fixed_bed ≡ none) → filter_map (fixing region) l ≡ []
-unfolding filter_map Option·elim fixing
+unfolding filter_map option_elim fixing
 none_fixing region [] h = refl
 none_fixing region (s ∷ l) h = rw (h s (here refl)) (none_fixing region l (λ q k. h q (there k)))
 

@@ -4,7 +4,7 @@ use Rattle.std.proofs.Common.{◌∙◌, inl, inr, arith}
 use Rattle.std.proofs.lemmas.Simd.{map-map}
 use Rattle.std.specs.Prelude.{◌≤◌}
 use Rattle.std.proofs.lemmas.List.{length-map}
-use Rattle.definitions.specs.Basics.{ℕ, suc, ◌+◌, ◌<◌, ◌≡◌, refl, Bool, false, not, Option, some, Option·getD}
+use Rattle.definitions.specs.Basics.{ℕ, suc, ◌+◌, ◌<◌, ◌≡◌, refl, Bool, false, not, Option, some, option_get_or}
 use Rattle.definitions.specs.Basics.{List, [], ◌∷◌, map, length, take, eqb, any, keep, contains, below}
 use Rattle.definitions.specs.Syntax.{Patient, Table, Region, patient_numbers, patient_at, bed_counts, patients_of}
 use Rattle.definitions.specs.Plans.{Plan, bed_of, entry_for, cost_over, total, Row, list_of}
@@ -99,10 +99,10 @@ module _ (region : Region) (c m : ℕ) (members : MembersPatients region) (apart
       keep_in (λ s. not (mine s)) (patient_numbers region) (below_in (length region.patients) ((members t kept).1 s i)) (ap not (sym (among_as_one t kept s i)) ∙ outside)
 
   -- So the own cost of a row is what the clinic alone charges for its part: it depends on nothing else.
-  pub own_alone : (w : Row) → own_cost region c w ≡ Option·getD (cost_over (tables_among region c) own (part region c w.beds)) 0
+  pub own_alone : (w : Row) → own_cost region c w ≡ option_get_or (cost_over (tables_among region c) own (part region c w.beds)) 0
   unfolding own_cost part tables_among
   own_alone w =
-      ap (λ o. Option·getD o 0)
+      ap (λ o. option_get_or o 0)
       (ap (λ l. cost_over l region w.beds) own_apart ∙ sym (cost_alone region patients m w.beds their_tables (tables_among region c) own_members))
 
   -- The total is that of the clinic alone and that of the rest: of the tables and of the fixed beds.
@@ -219,7 +219,7 @@ module _ (region : Region) (c m : ℕ) (members : MembersPatients region) (apart
       beds = (sides v w p q).0
 
       cost : own_cost region c (combine v w) ≡ v.cost
-      cost = ap (λ o. Option·getD o 0) (own_tables_lem (combine v w).beds v.cost (ap (total own) beds ∙ p.priced))
+      cost = ap (λ o. option_get_or o 0) (own_tables_lem (combine v w).beds v.cost (ap (total own) beds ∙ p.priced))
 
   rising : Rising row_order row_order row_order combine Own Rest
   rising = record { in_left = in_left_lem; in_right = in_right_lem }

@@ -4,8 +4,8 @@ use Rattle.std.specs.Prelude.{◌⊎◌, ◌↔◌, ◌≤◌}
 use mathlib.Core.List.{head-eq_of_cons-eq, tail-eq_of_cons-eq}
 use Rattle.std.proofs.Math.Option.{none-ne-some}
 use Rattle.std.proofs.Math.Dec.{eqb-suc-suc, eqb-suc-zero, eqb-zero-suc}
-use Rattle.definitions.specs.Basics.{ℕ, suc, ◌+◌, ◌<◌, min, ◌≡◌, refl, Bool, true, false, Option, none, some, Option·map}
-use Rattle.definitions.specs.Basics.{Option·elim, List, [], ◌∷◌, map, length, filter_map, below, is_some, every, keep, get_or, cond, ◌&&◌, eqb, ltb}
+use Rattle.definitions.specs.Basics.{ℕ, suc, ◌+◌, ◌<◌, min, ◌≡◌, refl, Bool, true, false, Option, none, some, option_map}
+use Rattle.definitions.specs.Basics.{option_elim, List, [], ◌∷◌, map, length, filter_map, below, is_some, every, keep, get_or, cond, ◌&&◌, eqb, ltb}
 use Rattle.definitions.specs.Syntax.{Patient, Region, patient_at}
 use Rattle.definitions.specs.Plans.{Plan, plans_for, plans, total, allowed, Row, row_of, compare_rows, list_of}
 use Rattle.definitions.specs.Questions.{plan_allowed, plan_fits}
@@ -115,12 +115,12 @@ pub record Allowed (region : Region) (w : Row) : Type 0 where
 row_out : (region : Region) (plan : Plan) (w : Row) → row_of region plan ≡ some w → (w.beds ≡ plan) × (total region plan ≡ some w.cost)
 row_out region plan w e = go (total region plan) refl e
   where
-    go : (o : Option ℕ) → total region plan ≡ o → Option·map (λ t. record { cost = t; beds = plan }) o ≡ some w → (w.beds ≡ plan) × (o ≡ some w.cost)
+    go : (o : Option ℕ) → total region plan ≡ o → option_map (λ t. record { cost = t; beds = plan }) o ≡ some w → (w.beds ≡ plan) × (o ≡ some w.cost)
     go none q e = absurd (none-ne-some w e)
     go (some t) q e = let r : w ≡ record { cost = t; beds = plan } = cc in (ap (λ (v : Row). v.beds) r, ap {B = Option ℕ} (λ v. some v.cost) (sym r))
 
 row_in : (region : Region) (w : Row) → total region w.beds ≡ some w.cost → row_of region w.beds ≡ some w
-row_in region w e = ap (Option·map (λ t. record { cost = t; beds = w.beds })) e
+row_in region w e = ap (option_map (λ t. record { cost = t; beds = w.beds })) e
 
 pub rows_enumerate : (region : Region) → Enumerates (Allowed region) (filter_map (row_of region) (plans region))
 rows_enumerate region = record {
@@ -150,7 +150,7 @@ abbrev pub allowed_count : Region → ℕ
 allowed_count region = length (keep (allowed region) (plans region))
 
 rows_count : (region : Region) (l : List Plan) → length (filter_map (row_of region) l) ≡ length (keep (allowed region) l)
-unfolding filter_map Option·elim
+unfolding filter_map option_elim
 rows_count region [] = refl
 rows_count region (plan ∷ l) = go (total region plan) (rows_count region l)
   where
@@ -158,7 +158,7 @@ rows_count region (plan ∷ l) = go (total region plan) (rows_count region l)
     rest = filter_map (row_of region) l
 
     go : (o : Option ℕ) → length rest ≡ length (keep (allowed region) l)
-        → length (Option·elim (Option·map (λ t. record { cost = t; beds = plan }) o) rest (λ w. w ∷ rest))
+        → length (option_elim (option_map (λ t. record { cost = t; beds = plan }) o) rest (λ w. w ∷ rest))
         ≡ length (cond (is_some o) (plan ∷ keep (allowed region) l) (keep (allowed region) l))
     go none ih = ih
     go (some t) ih = ap suc ih

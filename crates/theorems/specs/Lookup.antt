@@ -8,7 +8,7 @@ use Rattle.std.proofs.Math.Option.{some-injective, none-ne-some}
 use native.Mathlib.Omega.{arith}
 use Rattle.std.proofs.Math.ListN.{length-append}
 use Rattle.std.proofs.Math.Seq.{take-append_seam, drop-append_seam}
-use Rattle.definitions.specs.Basics.{ℕ, zero, suc, ◌+◌, ◌-◌, ◌≡◌, refl, Bool, true, false, cond, Option, none, some, bind, Option·getD, List, [], ◌∷◌, ◌++◌, map, length, take, drop, text}
+use Rattle.definitions.specs.Basics.{ℕ, zero, suc, ◌+◌, ◌-◌, ◌≡◌, refl, Bool, true, false, cond, Option, none, some, bind, option_get_or, List, [], ◌∷◌, ◌++◌, map, length, take, drop, text}
 use Rattle.definitions.specs.Basics.{flatten, eqb, same, is_some, every, any}
 use Rattle.definitions.specs.Syntax.{Patient, Table, Region}
 use Rattle.definitions.specs.Layout.{whole, number, exactly, lines, items, table_line}
@@ -48,7 +48,7 @@ pub begins_only : (typed line : List ℕ) → begins typed line ≡ true → (re
 unfolding begins
 begins_only typed line h =
     let read = some_of (exactly (opening typed) line) (tt, []) h in
-    ((Option·getD (exactly (opening typed) line) (tt, [])).1, ((exactly_reads (opening typed)).only read).1)
+    ((option_get_or (exactly (opening typed) line) (tt, [])).1, ((exactly_reads (opening typed)).only read).1)
 
 opening_is : (typed rest : List ℕ) → opening typed ++ rest ≡ text "(cost " ++ (typed ++ 32 ∷ 40 ∷ rest)
 opening_is typed rest = ap (λ (l : List ℕ). text "(cost " ++ l) (append_assoc typed (text " (") rest)
@@ -217,7 +217,7 @@ is_over_lem typed line right = (only (whole table_line line) refl, each)
 
     each : Over typed line → is_over (typed_members typed) line ≡ true
     each o = over_is line o.line_says (typed_members typed) ∙ numbers_tests.same_alike o.table.members (typed_members typed)
-        (sym (ap (λ (r : Option (List ℕ)). Option·getD r []) o.typed_says))
+        (sym (ap (λ (r : Option (List ℕ)). option_get_or r []) o.typed_says))
 
 no_over : (typed : List ℕ) → typed_right typed ≡ true → (ls : List (List ℕ)) → any (is_over (typed_members typed)) ls ≡ false
     → (l : List ℕ) → l ∈ ls → Over typed l → ⊥

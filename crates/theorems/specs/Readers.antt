@@ -4,7 +4,7 @@ use Rattle.std.proofs.Math.Path.{ap}
 use Rattle.std.proofs.lemmas.Bool.{false≢true}
 use Rattle.std.proofs.Math.Option.{bind-eq-some_iff, map-eq-some_iff, some-injective, none-ne-some}
 use Prim.Native.String.{String}
-use Rattle.definitions.specs.Basics.{ℕ, ◌≡◌, refl, Bool, true, false, cond, Option, none, some, bind, Option·map, List, [], ◌∷◌, ◌++◌, map}
+use Rattle.definitions.specs.Basics.{ℕ, ◌≡◌, refl, Bool, true, false, cond, Option, none, some, bind, option_map, List, [], ◌∷◌, ◌++◌, map}
 use Rattle.definitions.specs.Basics.{eqb, text, every, is_empty, on_all}
 use Rattle.definitions.specs.Layout.{Reader, give_if, give, whole, one, many, passing, exactly, word}
 use Rattle.lists.specs.Tests.{both, join}
@@ -136,7 +136,7 @@ module _ {I A : Type 0} {f : I → Option A} {spell : A → I} {ok : A → Bool}
   all_only : {l : List A} (xs : List I) → on_all f xs ≡ some l → (every ok l ≡ true) × (xs ≡ map spell l)
   all_only {l} [] e = let is = some-injective [] l e in (ap (every ok) (sym is), ap (map spell) is)
   all_only {l} (x ∷ xs) e =
-      let (a, took, rest_took) = (bind-eq-some_iff (f x) (λ a. Option·map (λ l. a ∷ l) (on_all f xs))).0 e in
+      let (a, took, rest_took) = (bind-eq-some_iff (f x) (λ a. option_map (λ l. a ∷ l) (on_all f xs))).0 e in
       let (m, others, is) = (map-eq-some_iff (λ l. a ∷ l) (on_all f xs)).0 rest_took in
       let (ok_a, x_is) = law.only took in
       let (ok_m, xs_is) = all_only xs others in

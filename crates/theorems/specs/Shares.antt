@@ -1,6 +1,6 @@
 -- Request #104: the clinics' shares of an allowed plan add up to its total, and where no table joins the figures are what they were.
 use Rattle.std.proofs.Common.{sym, ap, ◌∙◌, true≢false, arith}
-use Rattle.definitions.specs.Basics.{ℕ, ◌+◌, ◌≡◌, refl, Bool, true, false, not, cond, some, Option·getD, List, [], ◌∷◌, map, is_empty, below, sum, any, keep, contains}
+use Rattle.definitions.specs.Basics.{ℕ, ◌+◌, ◌≡◌, refl, Bool, true, false, not, cond, some, option_get_or, List, [], ◌∷◌, map, is_empty, below, sum, any, keep, contains}
 use Rattle.definitions.specs.Limits.{clinic, limits}
 use Rattle.definitions.specs.Syntax.{Region, patient_at, patients_of}
 use Rattle.definitions.specs.Plans.{entry_for, cost_over, total, Row, list_of}
@@ -31,11 +31,11 @@ list_shares file e w k = shares_add_up_lem (region_of file) w (accepted file e).
 
 -- Where no table joins the clinic, its own cost is what it was before: the sum over the tables whose members are all its patients.
 pub figures_stay : (file : List ℕ) → check_of file ≡ 0 → (c : ℕ) → any (joins (region_of file) c) (region_of file).tables ≡ false → (w : Row)
-    → own_cost (region_of file) c w ≡ Option·getD (cost_over (keep (is_among (region_of file) c) (region_of file).tables) (region_of file) w.beds) 0
+    → own_cost (region_of file) c w ≡ option_get_or (cost_over (keep (is_among (region_of file) c) (region_of file).tables) (region_of file) w.beds) 0
 unfolding own_cost
 figures_stay file e c apart w =
     let region = region_of file in
-    ap (λ tables. Option·getD (cost_over tables region w.beds) 0) (own_apart region c 0 (members_known region (accepted file e).region) apart)
+    ap (λ tables. option_get_or (cost_over tables region w.beds) 0) (own_apart region c 0 (members_known region (accepted file e).region) apart)
 
 -- ---- the clinics that have patients
 
@@ -43,7 +43,7 @@ figures_stay file e c apart w =
 pub no_share : (region : Region) → Accepted region → (c : ℕ) → clinic_present region c ≡ false → (w : Row) → own_cost region c w ≡ 0
 unfolding own_cost own_tables cost_over
 no_share region a c absent w =
-    ap (λ tables. Option·getD (cost_over tables region w.beds) 0) (keep_none _ region.tables (λ t k.
+    ap (λ tables. option_get_or (cost_over tables region w.beds) 0) (keep_none _ region.tables (λ t k.
     let right = table_right region a k in
     sym (clinic_patient region c (lowest t.members) (right.known (lowest_in_lem t.members right.some))) ∙ ap (λ l. contains l (lowest t.members)) nobody))
   where

@@ -3,7 +3,7 @@ use Rattle.std.proofs.Common.{sym, ap, ap₂, ◌∙◌, arith, zero-add, add-ze
 use Rattle.std.proofs.Math.Option.{none-ne-some, some-injective}
 use Rattle.std.proofs.lemmas.Bool.{eqb-false, not-true}
 use Rattle.std.specs.Prelude.{◌≤◌}
-use Rattle.definitions.specs.Basics.{ℕ, zero, suc, ◌+◌, ◌<◌, ◌≡◌, refl, Bool, true, false, not, ◌&&◌, cond, Option, none, some, Option·map, Option·getD, bind}
+use Rattle.definitions.specs.Basics.{ℕ, zero, suc, ◌+◌, ◌<◌, ◌≡◌, refl, Bool, true, false, not, ◌&&◌, cond, Option, none, some, option_map, option_get_or, bind}
 use Rattle.definitions.specs.Basics.{List, [], ◌∷◌, ◌++◌, map, length, eqb, sum, numbers_from, keep, on_all}
 use Rattle.lists.specs.Members.{◌∈◌, here, there}
 use Rattle.lists.specs.Keep.{keep_out, keep_keep, keep_same}
@@ -65,13 +65,13 @@ halves (some x) (some y) n e = record { x = x; y = y; left = refl; right = refl;
 
 -- The sum of the entries of some tables.
 abbrev pub sum_over : {A : Type 0} → (A → Option ℕ) → List A → Option ℕ
-sum_over entry l = Option·map sum (on_all entry l)
+sum_over entry l = option_map sum (on_all entry l)
 
 pub sum_cons : {A : Type 0} (entry : A → Option ℕ) (x : A) (l : List A) → sum_over entry (x ∷ l) ≡ plus (entry x) (sum_over entry l)
 unfolding bind
 sum_cons entry x l = go (entry x) (on_all entry l)
   where
-    go : (o : Option ℕ) (r : Option (List ℕ)) → Option·map sum (bind o (λ y. Option·map (λ ys. y ∷ ys) r)) ≡ plus o (Option·map sum r)
+    go : (o : Option ℕ) (r : Option (List ℕ)) → option_map sum (bind o (λ y. option_map (λ ys. y ∷ ys) r)) ≡ plus o (option_map sum r)
     go none r = refl
     go (some y) none = refl
     go (some y) (some ys) = refl
@@ -96,11 +96,11 @@ sum_split {A} entry f (x ∷ l) = go (f x) (sum_split entry f l)
 -- The sums over what has each key, one after the other, add up to the sum over all.
 module _ {A : Type 0} (entry : A → Option ℕ) (key : A → ℕ) where
   abbrev sum_at : List A → ℕ → ℕ
-  sum_at l k = Option·getD (sum_over entry (keep (λ x. eqb (key x) k) l)) 0
+  sum_at l k = option_get_or (sum_over entry (keep (λ x. eqb (key x) k) l)) 0
 
   -- What has a later key stands among what does not have this one.
   later_at : (a : ℕ) (l : List A) (k : ℕ) → a < k → sum_at l k ≡ sum_at (keep (λ x. not (eqb (key x) a)) l) k
-  later_at a l k h = ap (λ m. Option·getD (sum_over entry m) 0)
+  later_at a l k h = ap (λ m. option_get_or (sum_over entry m) 0)
       (keep_same _ _ l (λ x i. go (key x) (eqb (key x) a) refl) ∙ sym (keep_keep (λ x. eqb (key x) k) (λ x. not (eqb (key x) a)) l))
     where
       go : (n : ℕ) (b : Bool) → eqb n a ≡ b → eqb n k ≡ (not b && eqb n k)
@@ -113,7 +113,7 @@ module _ {A : Type 0} (entry : A → Option ℕ) (key : A → ℕ) where
   sum_by_key a zero (x ∷ l) keys total e = absurd (omega (arith, (keys x (here refl)).0, (keys x (here refl)).1))
   sum_by_key a (suc n) l keys total e =
       let parts = halves (sum_over entry (keep (λ x. eqb (key x) a) l)) (sum_over entry rest) total (sym (sum_split entry (λ x. eqb (key x) a) l) ∙ e) in
-      let first : sum_at l a ≡ parts.x = ap (λ o. Option·getD o 0) parts.left in
+      let first : sum_at l a ≡ parts.x = ap (λ o. option_get_or o 0) parts.left in
       let same = map_same (sum_at l) (sum_at rest) (numbers_from (suc a) n) (λ k i. later_at a l k ((numbers_enumerate (suc a) n).only k i).0) in
       let others : sum (map (sum_at l) (numbers_from (suc a) n)) ≡ parts.y = ap sum same ∙ sum_by_key (suc a) n rest rest_keys parts.y parts.right in
       ap₂ (λ p q. p + q) first others ∙ sym parts.whole

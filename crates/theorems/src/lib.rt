@@ -1,1 +1,2 @@
 // The theorems stand in specs/: this crate has no code.
+#![tactic(auto)]

@@ -1,4 +1,6 @@
 // Checks each file that an argument names, and prints its name and check's number.
+#![tactic(auto)]
+
 use answers::checked_number;
 use libc::STDOUT_FILENO;
 use planner::check;

@@ -1,4 +1,6 @@
 // The writer: a held region as its file.
+#![tactic(auto)]
+
 ghost use Rattle.std.specs.Prelude.{◌≡◌};
 ghost use Rattle.definitions.specs.Spelling.{spell};
 ghost use Rattle.definitions.specs.Writer.{write_outcome};
@@ -30,7 +32,7 @@ fn write_file(text: &mut [u8], region: Region, store: &[u32; 4096]) -> usize
 }
 
 // The file stands in the output area, or that is too short for it.
-#[derive(Drop)]
+#[derive(Clone, Copy)]
 pub enum Placed {
     Short,
     Bytes(usize),

@@ -2,7 +2,7 @@ use borrow.Author.Rules.{rules}
 use mathlib.Core.Path.{sym, ap}
 use native.Mathlib.Omega.{arith}
 use Prim.Native.Nat.{◌+◌}
-use Rattle.definitions.specs.Basics.{Option·map}
+use Rattle.definitions.specs.Basics.{option_map}
 use Rattle.held_region.specs.Meaning.{optional}
 use Rattle.joined_region.proofs.parent_after.Statement.{statement}
 use Rattle.joined_region.proofs.parent_after.Tie as tie
@@ -22,7 +22,7 @@ returns : tie.Need-returns
 returns c = search rules
 
 returns-2 : tie.Need-returns-2
-returns-2 c = sym (ap (λ o. Option·map (λ q. c.before.before.before.args.v + q) (optional o)) c.before.parent.given.1)
+returns-2 c = sym (ap (λ o. option_map (λ q. c.before.before.before.args.v + q) (optional o)) c.before.parent.given.1)
 
 pub parent-after-spec : {M : Type 1} → statement M
 parent-after-spec = tie.close (tie.spec enum_told enum-known-parent add-t5 returns returns-2)
