@@ -152,14 +152,14 @@ module _ {A : Type 0} {O : Order A} where
   first_unique {m = suc m} {P} {l = x ∷ l} {k = y ∷ k} h g =
       let e = first_head h g in
       let rest : First O m (Past O P x) k = rw e (first_tail g) in
-      ap₂ {C = List A} (λ a b. a ∷ b) e (first_unique (first_tail h) rest)
+      ap₂ {C = List A} (λ a b. a ∷ b) e (first_unique {m = m} {l = l} {k = k} (first_tail h) rest)
 
   -- The first n of the first m; so, of two lists for one set, the shorter begins the longer.
   pub first_take : {n m : ℕ} {P : A → Type 0} {l : List A} → n ≤ m → First O m P l → First O n P (take n l)
   first_take {n = zero} le h = first_zero
   first_take {n = suc n} {m = zero} le h = absurd (omega arith)
   first_take {n = suc n} {m = suc m} {l = []} le h = first_none (first_nil h)
-  first_take {n = suc n} {m = suc m} {l = x ∷ l} le h = first_cons (h.sound (here refl)) (first_least h) (first_take (omega arith) (first_tail h))
+  first_take {n = suc n} {m = suc m} {l = x ∷ l} le h = first_cons (h.sound (here refl)) (first_least h) (first_take {n = n} {m = m} {l = l} (omega arith) (first_tail h))
 
   pub first_prefix : {n m : ℕ} {P : A → Type 0} {l k : List A} → n ≤ m → First O n P l → First O m P k → l ≡ take n k
   first_prefix le h g = first_unique h (first_take le g)
@@ -172,7 +172,7 @@ module _ {A : Type 0} {O : Order A} where
   first_full {m = suc m} [] s f g le h = absurd (omega arith)
   first_full {m = suc m} {l = []} (y ∷ k) s f g le h = absurd (first_nil h y (f y (here refl)))
   first_full {m = suc m} {l = x ∷ l} {z} (y ∷ k) s f g le h = full_cons (up z (g y (here refl)))
-      (first_full k s.1 (λ w e. (f w (there e), up w (s.0 w e))) (λ w e. g w (there e)) (omega arith) (first_tail h))
+      (first_full {m = m} {l = l} k s.1 (λ w e. (f w (there e), up w (s.0 w e))) (λ w e. g w (there e)) (omega arith) (first_tail h))
     where
       up : (w : A) → O.Lt y w → O.Lt x w
       up w t = elim (first_least h y (f y (here refl))) [ inl e ↦ rw (← e) t | inr u ↦ O.trans u t ]

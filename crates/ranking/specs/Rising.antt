@@ -1,6 +1,6 @@
 -- Lists in which none comes before an earlier one, equal ones allowed: how things are inserted into them.
 use Rattle.std.specs.Prelude.{◌≡◌, refl, ◌≤◌}
-use Rattle.std.proofs.Common.{ap, arith}
+use Rattle.std.proofs.Common.{sym, ap, subst, arith}
 use Rattle.std.proofs.Math.Decide.{dec_lt}
 use Rattle.definitions.specs.Basics.{ℕ, zero, suc, ◌<◌, Ordering, ordering_lt, ordering_eq, ordering_gt, List, [], ◌∷◌, length, get_or, take, insert, sort}
 use Rattle.lists.specs.Members.{◌∈◌, here, there}
@@ -41,7 +41,7 @@ module _ {A : Type 0} (O : Order A) where
     where
       go : {o : Ordering} → View O.Lt z x o → Rising (insert O.cmp z l) → Rising (step o z x l (insert O.cmp z l))
       go (before t) ih = ((λ u. O.irrefl (O.trans t u), none_earlier x z l t r.0), r)
-      go (equal e) ih = ((λ u. O.irrefl (rw e at u), rw e r.0), r)
+      go (equal e) ih = ((λ u. O.irrefl (rw e at u), subst (λ (w : A). NoneBefore w l) (sym e) r.0), r)
       go (after t) ih = (none_insert x z l (λ u. O.irrefl (O.trans t u)) r.0, ih)
 
   pub rising_sort : (l : List A) → Rising (sort O.cmp l)

@@ -116,7 +116,7 @@ module _ {A : Type 0} {O : Order A} where
       only : (y : A) → Q y → y ≡ z
       only y t = elim (g y t) [ inl p ↦ absurd (first_nil h y p) | inr e ↦ e ]
   first_insert {m = suc m} {P} {Q} {l = x ∷ l} z new f q g h = go (O.view z x)
-      (λ t. first_insert z (λ p. new p.0) (λ y u. (f y u.0, u.1)) (q, t) old (first_tail h))
+      (λ t. first_insert {m = m} {l = l} z (λ p. new p.0) (λ y u. (f y u.0, u.1)) (q, t) old (first_tail h))
     where
       old : (y : A) → Past O Q x y → Past O P x y ⊎ (y ≡ z)
       old y u = elim (g y u.0) [ inl p ↦ inl (p, u.1) | inr e ↦ inr e ]

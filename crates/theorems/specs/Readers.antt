@@ -120,7 +120,7 @@ module _ {I A : Type 0} {f : I → Option A} {spell : A → I} {ok : A → Bool}
 
   many_only : {rest : List I} {l : List A} (xs : List I) → many f xs ≡ some (l, rest) → Spelt (map spell) (every ok) xs l rest
   many_only [] e = none_more e
-  many_only (x ∷ xs) e = one_more_lem x xs (f x) refl (λ m. many_only xs) e
+  many_only {rest} {l} (x ∷ xs) e = one_more_lem x xs (f x) refl (λ m. many_only {rest = rest} {l = m} xs) e
 
   many_each : (l : List A) (rest : List I) → every ok l ≡ true → Stops f rest → many f (map spell l ++ rest) ≡ some (l, rest)
   unfolding bind
@@ -139,7 +139,7 @@ module _ {I A : Type 0} {f : I → Option A} {spell : A → I} {ok : A → Bool}
       let (a, took, rest_took) = (bind-eq-some_iff (f x) (λ a. option_map (λ l. a ∷ l) (on_all f xs))).0 e in
       let (m, others, is) = (map-eq-some_iff (λ l. a ∷ l) (on_all f xs)).0 rest_took in
       let (ok_a, x_is) = law.only took in
-      let (ok_m, xs_is) = all_only xs others in
+      let (ok_m, xs_is) = all_only {l = m} xs others in
       (rw (← is) (join ok_a ok_m), (λ i. x_is i ∷ xs_is i) ∙ ap (map spell) is)
 
   all_each : (l : List A) → every ok l ≡ true → on_all f (map spell l) ≡ some l
