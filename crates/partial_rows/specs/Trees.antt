@@ -40,7 +40,7 @@ data Rooted (region : Region) (r : ℕ) : ℕ → Type 0 where
 
 module _ {region : Region} where
   -- It ends at one patient.
-  rooted_one : {s r q : ℕ} → Rooted region r s → Rooted region q s → r ≡ q
+  rooted_one : {r s q : ℕ} → Rooted region r s → Rooted region q s → r ≡ q
   rooted_one (top e h) (top d k) = h ∙ sym k
   rooted_one (top e h) (up p d k) = absurd (none-ne-some p (sym e ∙ d))
   rooted_one (up p e h) (top d k) = absurd (none-ne-some p (sym d ∙ e))

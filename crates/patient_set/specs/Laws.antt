@@ -150,7 +150,7 @@ module _ (w low o r : ℕ) (some : is_empty (members w) ≡ false) (lowest : low
     where
       go : (m : List ℕ) → is_empty m ≡ false → low ≡ first 32 m → every_two ltb m ≡ true → m ≡ low ∷ keep (λ q. not (eqb q low)) m
       go [] h e up = absurd (false≢true (sym h))
-      go (x ∷ m) h e up = rw e (ap (λ k. x ∷ k) (sym (keep_rest x m up)))
+      go (x ∷ m) h e up = subst (λ (w : ℕ). x ∷ m ≡ w ∷ keep (λ q. not (eqb q w)) (x ∷ m)) (sym e) (ap (λ k. x ∷ k) (sym (keep_rest x m up)))
 
   -- The rest is smaller: the measure of a recursion.
   pub rest_smaller : length (members r) < length (members w)

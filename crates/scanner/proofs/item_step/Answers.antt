@@ -1,0 +1,26 @@
+use mathlib.Core.Path.{sym, ◌∙◌}
+use native.Mathlib.Omega.{arith}
+use Rattle.scanner.proofs.Classes.{class_within}
+use Rattle.scanner.proofs.Steps.{step_next, step_closed, step_missing}
+use Rattle.scanner.proofs.item_step.Goals as goal
+
+pub overflow_add-result : goal.overflow_add-result
+overflow_add-result c =
+    let k = c in
+    let start = k.args in
+    omega (arith, class_within start.s.now start.at tt (sym k.class_at.ensures ∙ c.in-Space.is))
+
+pub overflow_add-result-in-Close : goal.overflow_add-result-in-Close
+overflow_add-result-in-Close c =
+    let k = c in
+    let start = k.args in
+    omega (arith, class_within start.s.now start.at tt (sym k.class_at.ensures ∙ c.in-Close.is))
+
+pub returns-in-Space : goal.returns-in-Space
+returns-in-Space c = step_next _ _ (sym c.class_at.ensures ∙ c.in-Space.is)
+
+pub returns-in-Close : goal.returns-in-Close
+returns-in-Close c = step_closed _ _ (sym c.class_at.ensures ∙ c.in-Close.is)
+
+pub returns-in_default : goal.returns-in_default
+returns-in_default c = step_missing _ _ c.class_at.ensures c.in_default.in_default-own.keys3
