@@ -23,32 +23,27 @@ use Rattle.scanner.specs.Words.{byte_there, byte_missing}
 use Rattle.scanner.specs.Answers.{ReadAt, Ahead}
 use Rattle.scanner.proofs.Classes.{apart, class_within}
 
--- The tags of all other classes.
-abbrev pub others : Class → List ℕ
-others c = keep (λ k. not (eqb k (tag_of the_type c))) (0 ∷ 1 ∷ 2 ∷ 3 ∷ 4 ∷ 5 ∷ 6 ∷ 7 ∷ [])
-
 -- A class that one byte alone has.
 pub record ClassOfOne (c : Class) (w : ℕ) : Type 0 where
   pub says : (b : ℕ) → is_of c b ≡ eqb b w
   pub class : class_of w ≡ c
   pub there : T (not (has_key (7 ∷ []) (tag_of the_type c)))
-  pub only : T (not (has_key (others c) (tag_of the_type c)))
 
 pub opening : ClassOfOne Open (code "(")
 unfolding class_of
-opening = record { says = λ b. refl; class = refl; there = tt; only = tt }
+opening = record { says = λ b. refl; class = refl; there = tt }
 
 pub closing : ClassOfOne Close (code ")")
 unfolding class_of
-closing = record { says = λ b. refl; class = refl; there = tt; only = tt }
+closing = record { says = λ b. refl; class = refl; there = tt }
 
 pub space : ClassOfOne Space (code " ")
 unfolding class_of
-space = record { says = λ b. refl; class = refl; there = tt; only = tt }
+space = record { says = λ b. refl; class = refl; there = tt }
 
 pub line_end : ClassOfOne LineEnd 10
 unfolding class_of
-line_end = record { says = λ b. refl; class = refl; there = tt; only = tt }
+line_end = record { says = λ b. refl; class = refl; there = tt }
 
 module _ {c : Class} {w : ℕ} (one : ClassOfOne c w) {k : Class} where
   -- Whether a byte is that one.
@@ -56,8 +51,8 @@ module _ {c : Class} {w : ℕ} (one : ClassOfOne c w) {k : Class} where
     pub byte_is : k ≡ c → true ≡ eqb b w
     byte_is e = sym (class_says b (sym q ∙ e)) ∙ one.says b
 
-    pub byte_is_not : OneOf (others c) (tag_of the_type k) → false ≡ eqb b w
-    byte_is_not t = sym (ne_eqb b w (λ e. apart k c (others c) one.only t (q ∙ ap class_of e ∙ one.class)))
+    pub byte_is_not : (k ≡ c → ⊥) → false ≡ eqb b w
+    byte_is_not t = sym (ne_eqb b w (λ e. t (q ∙ ap class_of e ∙ one.class)))
 
   module _ (s : List ℕ) (at : ℕ) (q : k ≡ first_class (drop at s)) where
     pub byte_within : k ≡ c → at < length s
@@ -80,8 +75,8 @@ module _ {c : Class} {w : ℕ} (one : ClassOfOne c w) {k : Class} where
     pub byte_read : k ≡ c → ReadAt (exactly (w ∷ [])) s at (some (tt, at + 1))
     byte_read e = byte_then [] e (record { says = refl; ahead = (omega arith, omega arith) })
 
-    pub byte_not_read : (ws : List ℕ) → OneOf (others c) (tag_of the_type k) → ReadAt (exactly (w ∷ ws)) s at none
+    pub byte_not_read : (ws : List ℕ) → (k ≡ c → ⊥) → ReadAt (exactly (w ∷ ws)) s at none
     byte_not_read ws t = record {
-      says = sym (byte_missing w one.says one.class ws (drop at s) (λ e. apart k c (others c) one.only t (q ∙ e)));
+      says = sym (byte_missing w one.says one.class ws (drop at s) (λ e. t (q ∙ e)));
       ahead = tt;
     }

@@ -64,12 +64,8 @@ module _ (s : List ℕ) (at : ℕ) where
 pub apart : (c x : Class) (ks : List ℕ) → T (not (has_key ks (tag_of the_type x))) → OneOf ks (tag_of the_type c) → c ≡ x → ⊥
 apart c x ks n t e = miss ks (tag_of the_type x) n (rw e at t)
 
--- The tags of the classes that are no digits.
-abbrev no_digits : List ℕ
-no_digits = 1 ∷ 2 ∷ 3 ∷ 4 ∷ 5 ∷ 6 ∷ 7 ∷ []
-
-pub not_digit : {c x : Class} → c ≡ x → OneOf no_digits (tag_of the_type c) → NoDigit x
-not_digit {c} q t d e = apart c (Digit d) no_digits tt t (q ∙ e)
+pub not_digit : {c x : Class} → c ≡ x → ((d : ℕ) → c ≡ Digit d → ⊥) → NoDigit x
+not_digit q none d e = none d (q ∙ e)
 
 pub digit_small : (xs : List ℕ) {d : ℕ} → first_class xs ≡ Digit d → d ≤ 9
 digit_small [] e = absurd (other_not e)

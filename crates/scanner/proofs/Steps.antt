@@ -22,13 +22,6 @@ use Rattle.scanner.specs.Answers.{ReadAt, number_read, entry_read, step_read}
 use Rattle.scanner.specs.Separators.{separator, separator_space, separator_close, separator_missing, hyphen_there, hyphen_missing}
 use Rattle.scanner.proofs.Classes.{apart, class_within}
 
--- The tags of the classes that are no separators, and of those that are no hyphens.
-abbrev no_separators : List ℕ
-no_separators = 0 ∷ 1 ∷ 4 ∷ 5 ∷ 6 ∷ 7 ∷ []
-
-abbrev no_hyphens : List ℕ
-no_hyphens = 0 ∷ 1 ∷ 2 ∷ 3 ∷ 5 ∷ 6 ∷ 7 ∷ []
-
 module _ (s : List ℕ) (at : ℕ) where
   -- A reader that took one byte.
   one_byte : {A : Type 0} {reader : Reader ℕ A} {a : A} → at < length s → reader (drop at s) ≡ some (a, drop 1 (drop at s)) → ReadAt reader s at (some (a, at + 1))
@@ -40,18 +33,18 @@ module _ (s : List ℕ) (at : ℕ) where
   pub step_closed : first_class (drop at s) ≡ Close → ReadAt separator s at (step_read (Closed (at + 1)))
   step_closed e = one_byte (class_within s at tt e) (separator_close (drop at s) e)
 
-  pub step_missing : {c : Class} → c ≡ first_class (drop at s) → OneOf no_separators (tag_of the_type c) → ReadAt separator s at (step_read NoStep)
-  step_missing {c} q t = record {
-    says = sym (separator_missing (drop at s) (λ e. apart c Space no_separators tt t (q ∙ e)) (λ e. apart c Close no_separators tt t (q ∙ e)));
+  pub step_missing : {c : Class} → c ≡ first_class (drop at s) → (c ≡ Space → ⊥) → (c ≡ Close → ⊥) → ReadAt separator s at (step_read NoStep)
+  step_missing q no_space no_close = record {
+    says = sym (separator_missing (drop at s) (λ e. no_space (q ∙ e)) (λ e. no_close (q ∙ e)));
     ahead = tt;
   }
 
   pub entry_hyphen : first_class (drop at s) ≡ Hyphen → ReadAt hyphen_or_number s at (entry_read (IsEntry IsHyphen (at + 1)))
   entry_hyphen e = one_byte (class_within s at tt e) (hyphen_there (drop at s) e)
 
-  module _ {c : Class} (q : c ≡ first_class (drop at s)) (t : OneOf no_hyphens (tag_of the_type c)) where
+  module _ {c : Class} (q : c ≡ first_class (drop at s)) (t : c ≡ Hyphen → ⊥) where
     by_number : hyphen_or_number (drop at s) ≡ map (λ r. (some r.0, r.1)) (number (drop at s))
-    by_number = hyphen_missing (drop at s) (λ e. apart c Hyphen no_hyphens tt t (q ∙ e))
+    by_number = hyphen_missing (drop at s) (λ e. t (q ∙ e))
 
     pub entry_number : {n : Number} {v next : ℕ} → ReadAt number s at (number_read n) → n ≡ Value v next → ReadAt hyphen_or_number s at (entry_read (IsEntry (IsNumber v) next))
     entry_number r e =

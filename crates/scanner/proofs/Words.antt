@@ -22,10 +22,6 @@ use Rattle.scanner.specs.Answers.{ReadAt, passed}
 use Rattle.scanner.specs.Words.{exactly_short, exactly_same, exactly_other}
 use Rattle.scanner.proofs.Classes.{apart, letter_class, class_there, class_within}
 
--- The tags of the classes that are no letters.
-abbrev no_letters : List ℕ
-no_letters = 0 ∷ 1 ∷ 2 ∷ 3 ∷ 4 ∷ 6 ∷ 7 ∷ []
-
 pub record Passing (w s : List ℕ) (at i k : ℕ) : Type 0 where
   pub low : at ≤ i
   pub high : i ≤ max at (length s)
@@ -76,8 +72,8 @@ module _ {w s : List ℕ} {at i k : ℕ} (p : Passing w s at i k) where
     letter_other hk n = passing_other hk letter_within (λ e. n (e ∙ sym is))
 
   -- No letter, where the word has one.
-  pub letter_missing : every is_letter w ≡ true → k < length w → {c : Class} → c ≡ first_class (drop i s) → OneOf no_letters (tag_of the_type c) → ReadAt (exactly w) s at (passed Nothing)
+  pub letter_missing : every is_letter w ≡ true → k < length w → {c : Class} → c ≡ first_class (drop i s) → ((l : ℕ) → c ≡ Letter l → ⊥) → ReadAt (exactly w) s at (passed Nothing)
   letter_missing letters hk {c} q t = elim (dec_lt i (length s)) [
-    | yes h ↦ passing_other hk h (λ e. apart c (Letter (get_or s i 0)) no_letters tt t (q ∙ sym (class_there s i h) ∙ letter_class (get_or s i 0) (rw e at (every_at is_letter w k 0 hk letters))))
+    | yes h ↦ passing_other hk h (λ e. t (get_or s i 0) (q ∙ sym (class_there s i h) ∙ letter_class (get_or s i 0) (rw e at (every_at is_letter w k 0 hk letters))))
     | no h ↦ passing_short hk (omega arith)
   ]

@@ -13,4 +13,4 @@ pub returns-in-Close : goal.returns-in-Close
 returns-in-Close c = byte_then closing _ _ c.class_at.ensures (10 ∷ []) c.in-Close.is c.line_end_at.ensures
 
 pub returns-in_default : goal.returns-in_default
-returns-in_default c = byte_not_read closing _ _ c.class_at.ensures (10 ∷ []) c.in_default.in_default-own.keys2
+returns-in_default c = byte_not_read closing _ _ c.class_at.ensures (10 ∷ []) c.in_default.not-Close

@@ -12,4 +12,4 @@ pub returns-in-Open : goal.returns-in-Open
 returns-in-Open c = byte_then opening _ _ c.class_at.ensures c.args.word.now c.in-Open.is c.letters_at.ensures
 
 pub returns-in_default : goal.returns-in_default
-returns-in_default c = byte_not_read opening _ _ c.class_at.ensures c.args.word.now c.in_default.in_default-own.keys2
+returns-in_default c = byte_not_read opening _ _ c.class_at.ensures c.args.word.now c.in_default.not-Open

@@ -16,9 +16,9 @@ returns-in-Hyphen c = entry_hyphen _ _ (sym c.class_at.ensures ∙ c.in-Hyphen.i
 pub returns-in-Value : goal.returns-in-Value
 returns-in-Value c =
     let n = c in
-    entry_number _ _ n.class_at.ensures n.in_default.in_default-own.keys2 n.number_at.ensures c.in-Value.is
+    entry_number _ _ n.class_at.ensures n.in_default.not-Hyphen n.number_at.ensures c.in-Value.is
 
 pub returns-in-Nothing : goal.returns-in-Nothing
 returns-in-Nothing c =
     let n = c in
-    entry_missing _ _ n.class_at.ensures n.in_default.in_default-own.keys2 n.number_at.ensures c.in-Nothing.is
+    entry_missing _ _ n.class_at.ensures n.in_default.not-Hyphen n.number_at.ensures c.in-Nothing.is

@@ -23,4 +23,4 @@ pub returns-in-Close : goal.returns-in-Close
 returns-in-Close c = step_closed _ _ (sym c.class_at.ensures ∙ c.in-Close.is)
 
 pub returns-in_default : goal.returns-in_default
-returns-in_default c = step_missing _ _ c.class_at.ensures c.in_default.in_default-own.keys3
+returns-in_default c = step_missing _ _ c.class_at.ensures c.in_default.not-Space c.in_default.not-Close

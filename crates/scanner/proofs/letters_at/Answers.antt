@@ -28,7 +28,7 @@ loop-k-preserved c =
 pub returns-in_default : goal.returns-in_default
 returns-in_default c =
     let l = c in
-    letter_missing l.loop-k.invariant l.requires l.loop-k-test.true c.class_at.ensures c.in_default.in_default-own.keys2
+    letter_missing l.loop-k.invariant l.requires l.loop-k-test.true c.class_at.ensures c.in_default.not-Letter
 
 pub returns : goal.returns
 returns c = passing_done c.loop-k.invariant c.loop-k-test.false

@@ -13,4 +13,4 @@ pub returns-in-LineEnd : goal.returns-in-LineEnd
 returns-in-LineEnd c = byte_read line_end _ _ c.class_at.ensures c.in-LineEnd.is
 
 pub returns-in_default : goal.returns-in_default
-returns-in_default c = byte_not_read line_end _ _ c.class_at.ensures [] c.in_default.in_default-own.keys2
+returns-in_default c = byte_not_read line_end _ _ c.class_at.ensures [] c.in_default.not-LineEnd

@@ -1,11 +1,11 @@
 use mathlib.Core.Path.{sym, ◌∙◌}
-use mathlib.Core.Logic.{⊎_elim}
 use Prim.Native.Nat.{◌-◌}
 use native.Mathlib.Omega.{arith}
 use Rattle.definitions.specs.Limits.{limits}
 use Rattle.scanner.proofs.Classes.{not_digit}
 use Rattle.scanner.proofs.Numbers.{reading_start, reading_ends, reading_missing, reading_within, reading_long, reading_zero, reading_fits, reading_more}
 use Rattle.scanner.proofs.number_at.Goals as goal
+use Rattle.scanner.proofs.number_at.Goals.{then-value-eq0+else-i-at, else-value-eq0}
 
 pub loop-d-init : goal.loop-d-init
 loop-d-init c = reading_start _ _
@@ -47,10 +47,11 @@ pub loop-d-preserved : goal.loop-d-preserved
 unfolding limits
 loop-d-preserved c =
     let m = c in
-    reading_more m.loop-d.invariant (sym m.class_at.ensures ∙ m.in-Digit.is) c.if-i-at-eq-DIGITS.false (⊎_elim (λ w z. w.1.left) (λ w z. absurd (w.left z)) c.if-value-eq0.branch)
+    reading_more m.loop-d.invariant (sym m.class_at.ensures ∙ m.in-Digit.is) c.if-i-at-eq-DIGITS.false
+    (elim c.if-value-eq0.branch [ then-value-eq0+else-i-at w ↦ λ z. omega arith | else-value-eq0 w ↦ λ z. absurd (w.if-value-eq0.false z) ])
 
 pub returns-then-i-at-2 : goal.returns-then-i-at-2
-returns-then-i-at-2 c = reading_missing c.loop-d.invariant (not_digit c.class_at.ensures c.in_default.in_default-own.keys2) c.if-i-at-2.true
+returns-then-i-at-2 c = reading_missing c.loop-d.invariant (not_digit c.class_at.ensures c.in_default.not-Digit) c.if-i-at-2.true
 
 pub returns-in_default : goal.returns-in_default
-returns-in_default c = reading_ends c.loop-d.invariant (not_digit c.class_at.ensures c.in_default.in_default-own.keys2) c.if-i-at-2.false
+returns-in_default c = reading_ends c.loop-d.invariant (not_digit c.class_at.ensures c.in_default.not-Digit) c.if-i-at-2.false

@@ -13,4 +13,4 @@ pub returns-in-Open : goal.returns-in-Open
 returns-in-Open c = byte_read opening _ _ c.class_at.ensures c.in-Open.is
 
 pub returns-in_default : goal.returns-in_default
-returns-in_default c = byte_not_read opening _ _ c.class_at.ensures [] c.in_default.in_default-own.keys2
+returns-in_default c = byte_not_read opening _ _ c.class_at.ensures [] c.in_default.not-Open

@@ -13,4 +13,4 @@ pub returns-in-Space : goal.returns-in-Space
 returns-in-Space c = byte_read space _ _ c.class_at.ensures c.in-Space.is
 
 pub returns-in_default : goal.returns-in_default
-returns-in_default c = byte_not_read space _ _ c.class_at.ensures [] c.in_default.in_default-own.keys2
+returns-in_default c = byte_not_read space _ _ c.class_at.ensures [] c.in_default.not-Space
