@@ -1,0 +1,16 @@
+use borrow.Author.Rules.{rules}
+use Prim.Native.Nat.{◌-◌}
+use native.Mathlib.Omega.{arith}
+use Rattle.lists.specs.Filling.{filled_none, filled_more, filled_all}
+use Rattle.lent_region.proofs.store_entries.Goals as goal
+
+pub loop-k-init : goal.loop-k-init
+loop-k-init c = (search rules, filled_none)
+
+pub loop-k-preserved : goal.loop-k-preserved
+loop-k-preserved c =
+    let turn = c in
+    (search rules, filled_more c.code_at.result turn.loop-k.invariant.1 (omega arith) c.code_at.ensures)
+
+pub returns : goal.returns
+returns c = filled_all _ c.loop-k.invariant.1 (omega arith)

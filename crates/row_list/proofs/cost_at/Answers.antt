@@ -1,0 +1,6 @@
+use Rattle.row_list.specs.Rows.{whole_row}
+use Rattle.row_list.proofs.cost_at.Goals as goal
+
+pub returns : goal.returns
+unfolding whole_row
+returns c = c.cost_of.ensures
