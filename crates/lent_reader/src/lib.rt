@@ -56,7 +56,7 @@ fn lay_region(
     res: &mut [u8],
 ) -> u64
     requires { Accepted (said region store.now) }
-    ensures* { λ n. ⌜ record { number = n; patients = patients.new; tables = tables.new; entries = entries.new; result = res.new } ≡ read_accepted (said region store.now) patients.old tables.old entries.old res.old ⌝ }
+    ensures { record { number = result; patients = patients.new; tables = tables.new; entries = entries.new; result = res.new } ≡ read_accepted (said region store.now) patients.old tables.old entries.old res.old }
 {
     let total = entry_total(region);
     if !has_room(
@@ -90,7 +90,7 @@ pub fn read_call(
     entries: &mut [u8],
     res: &mut [u8],
 ) -> u64
-    ensures* { λ n. ⌜ record { number = n; patients = patients.new; tables = tables.new; entries = entries.new; result = res.new } ≡ read_call file.now patients.old tables.old entries.old res.old ⌝ }
+    ensures { record { number = result; patients = patients.new; tables = tables.new; entries = entries.new; result = res.new } ≡ read_call file.now patients.old tables.old entries.old res.old }
 {
     let mut store = [FORBIDDEN; 4096];
     let loaded = load(file, &mut store, true);

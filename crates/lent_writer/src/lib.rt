@@ -44,7 +44,7 @@ pub fn write_lent(
     output: &mut [u8],
     res: &mut [u8],
 ) -> u64
-    ensures* { λ n. ⌜ record { number = n; output = output.new; result = res.new } ≡ write_call patients.now tables.now entries.now m output.old res.old ⌝ }
+    ensures { record { number = result; output = output.new; result = res.new } ≡ write_call patients.now tables.now entries.now m output.old res.old }
 {
     let room = 8 <= res.len();
     let written = answer_lent(patients, tables, entries, m, output, room);

@@ -23,7 +23,7 @@ fn number_without_room(file: &[u8]) -> u64
 }
 
 pub fn price_call(file: &[u8], plan: &[u8], res: &mut [u8]) -> u64
-    ensures* { λ n. ⌜ record { number = n; result = res.new } ≡ price_call file.now plan.now res.old ⌝ }
+    ensures { record { number = result; result = res.new } ≡ price_call file.now plan.now res.old }
 {
     if res.len() < PAIR {
         return number_without_room(file);
@@ -35,7 +35,7 @@ pub fn price_call(file: &[u8], plan: &[u8], res: &mut [u8]) -> u64
 
 // The part's start and length, zeros on a refusal.
 pub fn line_call(file: &[u8], typed: &[u8], res: &mut [u8]) -> u64
-    ensures* { λ n. ⌜ record { number = n; result = res.new } ≡ line_call file.now typed.now res.old ⌝ }
+    ensures { record { number = result; result = res.new } ≡ line_call file.now typed.now res.old }
 {
     if res.len() < PAIR {
         return number_without_room(file);
@@ -63,7 +63,7 @@ fn join_without_room(first: &[u8], second: &[u8]) -> u64
 
 // The byte count, and which file the number is about, on a refusal too.
 pub fn join_call(first: &[u8], second: &[u8], output: &mut [u8], res: &mut [u8]) -> u64
-    ensures* { λ n. ⌜ record { number = n; output = output.new; result = res.new } ≡ join_call first.now second.now output.old res.old ⌝ }
+    ensures { record { number = result; output = output.new; result = res.new } ≡ join_call first.now second.now output.old res.old }
 {
     if res.len() < PAIR {
         return join_without_room(first, second);

@@ -44,7 +44,7 @@ fn number_without_room(file: &[u8]) -> u64
 
 // The result area holds one number: the byte count.
 pub fn parents_call(file: &[u8], output: &mut [u8], res: &mut [u8]) -> u64
-    ensures* { λ n. ⌜ record { number = n; output = output.new; result = res.new } ≡ parents_call file.now output.old res.old ⌝ }
+    ensures { record { number = result; output = output.new; result = res.new } ≡ parents_call file.now output.old res.old }
 {
     if res.len() < 8 {
         return number_without_room(file);

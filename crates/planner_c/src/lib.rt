@@ -28,7 +28,7 @@ pub extern "C" fn rigbasen_list(
     costs: &mut [u8],
     res: &mut [u8],
 ) -> u64
-    ensures* { λ n. ⌜ record { number = n; beds = beds.new; costs = costs.new; result = res.new } ≡ list_call file.now beds.old costs.old res.old ⌝ }
+    ensures { record { number = result; beds = beds.new; costs = costs.new; result = res.new } ≡ list_call file.now beds.old costs.old res.old }
 {
     list_call(file, beds, costs, res)
 }
@@ -42,7 +42,7 @@ pub extern "C" fn rigbasen_sheet(
     costs: &mut [u8],
     res: &mut [u8],
 ) -> u64
-    ensures* { λ n. ⌜ record { number = n; beds = beds.new; costs = costs.new; result = res.new } ≡ sheet_call file.now clinic beds.old costs.old res.old ⌝ }
+    ensures { record { number = result; beds = beds.new; costs = costs.new; result = res.new } ≡ sheet_call file.now clinic beds.old costs.old res.old }
 {
     sheet_call(file, clinic, beds, costs, res)
 }
@@ -50,7 +50,7 @@ pub extern "C" fn rigbasen_sheet(
 // The result area holds two numbers: allowed and the total.
 #[unsafe(no_mangle)]
 pub extern "C" fn rigbasen_price(file: &[u8], plan: &[u8], res: &mut [u8]) -> u64
-    ensures* { λ n. ⌜ record { number = n; result = res.new } ≡ price_call file.now plan.now res.old ⌝ }
+    ensures { record { number = result; result = res.new } ≡ price_call file.now plan.now res.old }
 {
     price_call(file, plan, res)
 }
@@ -58,7 +58,7 @@ pub extern "C" fn rigbasen_price(file: &[u8], plan: &[u8], res: &mut [u8]) -> u6
 // The result area holds two numbers: the start and the length of the line in the file.
 #[unsafe(no_mangle)]
 pub extern "C" fn rigbasen_line(file: &[u8], typed: &[u8], res: &mut [u8]) -> u64
-    ensures* { λ n. ⌜ record { number = n; result = res.new } ≡ line_call file.now typed.now res.old ⌝ }
+    ensures { record { number = result; result = res.new } ≡ line_call file.now typed.now res.old }
 {
     line_call(file, typed, res)
 }
@@ -73,7 +73,7 @@ pub extern "C" fn rigbasen_write(
     output: &mut [u8],
     res: &mut [u8],
 ) -> u64
-    ensures* { λ n. ⌜ record { number = n; output = output.new; result = res.new } ≡ write_call patients.now tables.now entries.now m output.old res.old ⌝ }
+    ensures { record { number = result; output = output.new; result = res.new } ≡ write_call patients.now tables.now entries.now m output.old res.old }
 {
     write_lent(patients, tables, entries, m, output, res)
 }
@@ -87,7 +87,7 @@ pub extern "C" fn rigbasen_read(
     entries: &mut [u8],
     res: &mut [u8],
 ) -> u64
-    ensures* { λ n. ⌜ record { number = n; patients = patients.new; tables = tables.new; entries = entries.new; result = res.new } ≡ read_call file.now patients.old tables.old entries.old res.old ⌝ }
+    ensures { record { number = result; patients = patients.new; tables = tables.new; entries = entries.new; result = res.new } ≡ read_call file.now patients.old tables.old entries.old res.old }
 {
     read_call(file, patients, tables, entries, res)
 }
@@ -100,7 +100,7 @@ pub extern "C" fn rigbasen_join(
     output: &mut [u8],
     res: &mut [u8],
 ) -> u64
-    ensures* { λ n. ⌜ record { number = n; output = output.new; result = res.new } ≡ join_call first.now second.now output.old res.old ⌝ }
+    ensures { record { number = result; output = output.new; result = res.new } ≡ join_call first.now second.now output.old res.old }
 {
     join_call(first, second, output, res)
 }
@@ -108,7 +108,7 @@ pub extern "C" fn rigbasen_join(
 // The same file with the parents that its tables make. The result area holds one number: the byte count.
 #[unsafe(no_mangle)]
 pub extern "C" fn rigbasen_parents(file: &[u8], output: &mut [u8], res: &mut [u8]) -> u64
-    ensures* { λ n. ⌜ record { number = n; output = output.new; result = res.new } ≡ parents_call file.now output.old res.old ⌝ }
+    ensures { record { number = result; output = output.new; result = res.new } ≡ parents_call file.now output.old res.old }
 {
     parents_call(file, output, res)
 }

@@ -6,55 +6,49 @@ ghost use Rattle.definitions.specs.Basics.{length, sets};
 ghost use Rattle.definitions.specs.Output.{printed};
 ghost use Rattle.region_print.specs.Inputs.{Within};
 
-use libc::{STDIN_FILENO, STDOUT_FILENO};
 use printer::print;
+use std::io;
+use std::io::Read;
 
 // What was read: so many bytes up to the input's end or the area's, or a read failed.
 #[derive(Clone, Copy)]
 enum Input {
-    Failed,
+    Failed(io::Error),
     Bytes(usize),
 }
 
 // Reads until the area is full or the input ends. A pipe gives its bytes in parts.
-fn read_file(area: &mut [u8]) -> Input
+fn read_file<R: Read>(input: &mut R, area: &mut [u8]) -> Input
     ensures { Within result area.new }
 {
     let mut done: usize = 0;
     while done < area.len() {
-        let rest = &mut area[done..];
-        let got = libc::read(STDIN_FILENO, rest);
-        if got < 0 {
-            return Input::Failed;
+        match input.read(&mut area[done..]) {
+            Err(error) => return Input::Failed(error),
+            Ok(0) => return Input::Bytes(done),
+            Ok(more) => done += more,
         }
-        let more = io::count(got, rest);
-        if more == 0 {
-            return Input::Bytes(done);
-        }
-        done += more;
     }
     Input::Bytes(done)
 }
 
 // Prints a file's text, which the area has room for.
-fn print_text(file: &[u8], text: &mut [u8])
+fn print_text<P: Print>(to: &P, file: &[u8], text: &mut [u8]) -> io::Result<()>
     requires { 32_106 ≤ length text.old }
     ensures { text.new ≡ sets text.old 0 (printed file.now) }
 {
     let n = print(file, text);
-    if !io::write_all(STDOUT_FILENO, &text[..n]) {
-        os::fail(b"standard output");
-    }
+    to.write_all(&text[..n])
 }
 
-// A read or a write that fails is said on standard error.
-fn main() {
+// A read or a write that fails is main's error, which is said on standard error.
+fn main(rt: HostRuntime) -> io::Result<()> {
     // One byte more than a region file may have, so that a longer one is seen to be too long.
-    let mut file = io::large_buffer();
-    let mut text = io::large_buffer();
-    let input = read_file(&mut file);
+    let mut file = [0u8; 65536];
+    let mut text = [0u8; 65536];
+    let input = read_file(&mut rt.stdin(), &mut file);
     match input {
-        Input::Failed => os::fail(b"standard input"),
-        Input::Bytes(n) => print_text(&file[..n], &mut text),
+        Input::Failed(error) => Err(error),
+        Input::Bytes(n) => print_text(&rt, &file[..n], &mut text),
     }
 }

@@ -10,7 +10,7 @@ use planner::{list, sheet};
 use row_writer::WORK;
 
 pub fn list_call(file: &[u8], beds: &mut [u8], costs: &mut [u8], res: &mut [u8]) -> u64
-    ensures* { λ n. ⌜ record { number = n; beds = beds.new; costs = costs.new; result = res.new } ≡ list_call file.now beds.old costs.old res.old ⌝ }
+    ensures { record { number = result; beds = beds.new; costs = costs.new; result = res.new } ≡ list_call file.now beds.old costs.old res.old }
 {
     let room = cost_room(costs.len(), res.len());
     let mut held = [0u32; 64];
@@ -29,7 +29,7 @@ pub fn sheet_call(
     costs: &mut [u8],
     res: &mut [u8],
 ) -> u64
-    ensures* { λ n. ⌜ record { number = n; beds = beds.new; costs = costs.new; result = res.new } ≡ sheet_call file.now clinic beds.old costs.old res.old ⌝ }
+    ensures { record { number = result; beds = beds.new; costs = costs.new; result = res.new } ≡ sheet_call file.now clinic beds.old costs.old res.old }
 {
     let room = cost_room(costs.len(), res.len());
     let mut held = [0u32; 64];

@@ -1,38 +1,69 @@
 // Checks each file that an argument names, and prints its name and check's number.
 #![tactic(auto)]
 
+ghost use Rattle.std.specs.Prelude.{◌≤◌, IfOk, length};
+
 use answers::checked_number;
-use libc::STDOUT_FILENO;
 use planner::check;
+use std::env::{Env, FillError};
+use std::io::Read;
+use std::{fs, io, str};
 
-fn try_file(path: &[u8]) {
-    let fd = os::open_read(path);
-    if fd < 0 {
-        os::fail(path);
-        return;
+// Reads until the area is full or the file ends.
+fn read_file<R: Read>(from: &mut R, area: &mut [u8]) -> io::Result<usize>
+    ensures { IfOk result (λ n. n ≤ length area.new) }
+{
+    let mut done: usize = 0;
+    while done < area.len() {
+        match from.read(&mut area[done..]) {
+            Err(error) => return Err(error),
+            Ok(0) => return Ok(done),
+            Ok(more) => done += more,
+        }
     }
-    // One byte more than a region file may have, so that a longer one is seen to be too long.
-    let mut file = io::large_buffer();
-    let n = io::read_full(fd, &mut file);
-    libc::close(fd);
-    io::write_all(STDOUT_FILENO, path);
-    io::write_all(STDOUT_FILENO, b" ");
-    let answer = check(&file[..n]);
-    io::print_decimal(STDOUT_FILENO, checked_number(answer));
-    io::write_all(STDOUT_FILENO, b"\n");
+    Ok(done)
 }
 
-fn try_argument(i: usize) {
-    let mut path = io::buffer();
-    let n = os::arg(i, &mut path);
-    try_file(&path[..n]);
+// A file that cannot be opened is said on standard error.
+fn try_file(rt: &HostRuntime, path: &str) -> io::Result<()> {
+    match fs::open(rt, path) {
+        Err(error) => eprintln!(rt; "{path}: {error}"),
+        Ok(mut from) => {
+            // One byte more than a region file may have, so that a longer one is seen to be too long.
+            let mut file = [0u8; 65536];
+            let n = read_file(&mut from, &mut file)?;
+            let answer = check(&file[..n]);
+            let number = checked_number(answer);
+            println!(rt; "{path} {number}")
+        }
+    }
 }
 
-fn main() {
-    let count = os::arg_count();
-    let mut i = 1;
-    while i < count {
-        try_argument(i);
-        i += 1;
+// Is there an argument of this number? It is tried.
+fn try_argument(rt: &HostRuntime, i: usize) -> io::Result<bool> {
+    // A path has at most 4,095 bytes.
+    let mut path = [0u8; 4096];
+    match rt.arg(i, &mut path) {
+        Err(FillError::NotPresent) => Ok(false),
+        Err(FillError::TooLong) => {
+            eprintln!(rt; "argument {i} is too long")?;
+            Ok(true)
+        }
+        Ok(n) => {
+            match str::from_utf8(&path[..n]) {
+                Err(_) => eprintln!(rt; "argument {i} is no text")?,
+                Ok(name) => try_file(rt, name)?,
+            }
+            Ok(true)
+        }
     }
+}
+
+fn main(rt: HostRuntime) -> io::Result<()> {
+    for i in 1..usize::MAX {
+        if !try_argument(&rt, i)? {
+            break;
+        }
+    }
+    Ok(())
 }
