@@ -10,7 +10,7 @@ loop-s-init c = (search rules, filled_none)
 pub loop-s-preserved : goal.loop-s-preserved
 loop-s-preserved c =
     let turn = c in
-    (search rules, filled_more c.Patient-at.result turn.loop-s.invariant.1 (omega arith) c.Patient-at.ensures)
+    (search rules, filled_more c.patient_at.result turn.loop-s.invariant.1 (omega arith) c.patient_at.ensures)
 
 pub returns : goal.returns
 returns c = filled_all _ c.loop-s.invariant.1 (omega arith)

@@ -1,0 +1,12 @@
+use mathlib.Core.Path.{◌≡◌}
+use Prim.Native.Nat.{ℕ, ◌-◌, ◌≤◌}
+use Rattle.definitions.specs.Basics.{◌&&◌, eqb, ltb}
+use Rattle.patient_set.specs.Sets.{in_set}
+use Rattle.held_region.specs.Meaning.{patient_in}
+use Rattle.region_sets.proofs.clinic_set.Given as goal
+
+abbrev pub invariant-loop-s : goal.invariant-loop-s
+invariant-loop-s l = (l.s ≤ l.region.v) × ((q : ℕ) → in_set l.set.0 q ≡ (ltb q l.s && eqb (patient_in l.region q).clinic l.clinic))
+
+abbrev pub decreases-loop-s : goal.decreases-loop-s
+decreases-loop-s l = l.region.v - l.s
