@@ -1,5 +1,5 @@
 //! Links the proved archives: `libplanner_c.a`, and `libline_trial.a` of the trial of what line hands back. Their directory is
-//! `RIGBASEN_STATICLIB`, or else the place where `make archives` puts them.
+//! `RIGBASEN_STATICLIB`, or else the place where `make proved` puts them.
 
 use std::env;
 use std::path::PathBuf;
@@ -17,7 +17,7 @@ fn main() {
     for name in ["planner_c", "line_trial"] {
         let archive = directory.join(format!("lib{name}.a"));
         if !archive.is_file() {
-            panic!("{} is missing: run 'make archives', or set {PLACE} to its directory", archive.display());
+            panic!("{} is missing: run 'make proved', or set {PLACE} to its directory", archive.display());
         }
         println!("cargo:rerun-if-changed={}", archive.display());
         println!("cargo:rustc-link-lib=static={name}");
