@@ -38,20 +38,23 @@ help:
 	@echo "make uninstall             takes away what install put there"
 	@echo "make bundle GATE=FILE      an archive for sites without the kit and without a compiler, below target/bundle;"
 	@echo "                           FILE is what a run of .ci/run printed, of which the last lines go with it"
+	@echo "make proved                proves and builds what the kit makes: the archives and the printing program, below target"
 	@echo "make clean                 takes away $(BUILT) and target/bundle"
 	@echo "CC, CFLAGS and LDFLAGS are heeded; LDFLAGS=-static makes programs that need no C library."
 
 # ---- What the kit makes.
 
-# (rt check proves two crates at a time, rt staticlib one after the other.)
 $(ARCHIVE):
-	@command -v rt > /dev/null || { echo "$@ is missing, and so is the kit that makes it (rt staticlib planner_c)" >&2; exit 1; }
-	rt check planner_c
-	rt staticlib planner_c
+	@command -v rt > /dev/null || { echo "$@ is missing, and so is the kit that makes it (make proved)" >&2; exit 1; }
+	packaging/make_proved planner_c
 
 $(PRINTER):
-	@command -v rt > /dev/null || { echo "$@ is missing, and so is the kit that makes it (rt check region_print)" >&2; exit 1; }
-	rt check region_print
+	@command -v rt > /dev/null || { echo "$@ is missing, and so is the kit that makes it (make proved)" >&2; exit 1; }
+	packaging/make_proved region_print
+
+# After a change of a crate; with the archive of the trial that the tests are linked with.
+proved:
+	packaging/make_proved planner_c line_trial region_print
 
 # ---- The package.
 
@@ -130,4 +133,4 @@ clean:
 	rm -rf $(BUILT) target/bundle
 
 .DELETE_ON_ERROR:
-.PHONY: all help install uninstall bundle clean
+.PHONY: all help proved install uninstall bundle clean

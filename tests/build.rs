@@ -1,5 +1,5 @@
 //! Links the proved archives: `libplanner_c.a`, and `libline_trial.a` of the trial of what line hands back. Their directory is
-//! `RIGBASEN_STATICLIB`, or else the place where `rt staticlib` writes them.
+//! `RIGBASEN_STATICLIB`, or else the place where `make proved` puts them.
 
 use std::env;
 use std::path::PathBuf;
@@ -17,11 +17,9 @@ fn main() {
     for name in ["planner_c", "line_trial"] {
         let archive = directory.join(format!("lib{name}.a"));
         if !archive.is_file() {
-            panic!("{} is missing: run 'rt staticlib {name}', or set {PLACE} to its directory", archive.display());
+            panic!("{} is missing: run 'make proved', or set {PLACE} to its directory", archive.display());
         }
         println!("cargo:rerun-if-changed={}", archive.display());
         println!("cargo:rustc-link-lib=static={name}");
     }
-    // What the trial passes to `pwrite` goes to `boundary` instead; nothing else here calls that function.
-    println!("cargo:rustc-link-arg=-Wl,--wrap=pwrite");
 }

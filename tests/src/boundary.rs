@@ -2,7 +2,6 @@
 
 use crate::areas::{Areas, Arrays, Outputs};
 use crate::lent::Lent;
-use std::cell::Cell;
 
 extern "C" {
     fn rigbasen_check(file: *const u8, file_length: usize) -> u64;
@@ -97,8 +96,14 @@ extern "C" {
 
     fn rigbasen_version() -> u64;
 
-    /// Of the trial's archive: line's entry in Rattle, which hands back a part of the file. The trial passes it on to `pwrite`.
-    fn rigbasen_trial_line(file: *const u8, file_length: usize, typed: *const u8, typed_length: usize) -> u64;
+    /// Of the trial's archive: line's entry in Rattle, which hands back a part of the file. The trial lays that part down.
+    fn rigbasen_trial_line(
+        file: *const u8,
+        file_length: usize,
+        typed: *const u8,
+        typed_length: usize,
+        handed: *mut HandedBack,
+    ) -> u64;
 }
 
 /// A part of memory.
@@ -108,24 +113,23 @@ pub struct Part {
     pub length: usize,
 }
 
-thread_local! {
-    /// The part that a trial passed on last.
-    static PASSED_ON: Cell<Option<Part>> = const { Cell::new(None) };
+/// A part as the trial lays it down: the address of its first byte, and its length.
+#[repr(C)]
+struct HandedBack {
+    bytes: *const u8,
+    length: usize,
 }
 
-/// The linker gives the trial this in place of the C library's `pwrite`. It writes nothing, and notes where the bytes lie.
-#[no_mangle]
-extern "C" fn __wrap_pwrite(_: i32, bytes: *const u8, length: usize, _: i64) -> isize {
-    PASSED_ON.set(Some(Part { address: bytes as usize, length }));
-    length as isize
-}
+/// No file lies here, so that a trial which lays down no part is seen.
+static NOWHERE: [u8; 1] = [0];
 
 /// The number of line's entry in Rattle, and the very part that it hands back.
 pub fn line_part(file: &[u8], typed: &[u8]) -> (u64, Option<Part>) {
-    PASSED_ON.set(None);
-    // Each pointer and length are those of one slice.
-    let number = unsafe { rigbasen_trial_line(file.as_ptr(), file.len(), typed.as_ptr(), typed.len()) };
-    (number, PASSED_ON.take())
+    let mut handed = HandedBack { bytes: NOWHERE.as_ptr(), length: 0 };
+    // Each pointer and length are those of one slice, and the part is written to a place of its own.
+    let number = unsafe { rigbasen_trial_line(file.as_ptr(), file.len(), typed.as_ptr(), typed.len(), &mut handed) };
+    let part = Part { address: handed.bytes as usize, length: handed.length };
+    (number, (handed.bytes != NOWHERE.as_ptr()).then_some(part))
 }
 
 /// Check's number of a file.

@@ -9,6 +9,7 @@ ghost use Rattle.region_print.specs.Inputs.{Within};
 use printer::print;
 use std::io;
 use std::io::Read;
+use std::process::ExitCode;
 
 // What was read: so many bytes up to the input's end or the area's, or a read failed.
 #[derive(Clone, Copy)]
@@ -41,14 +42,23 @@ fn print_text<P: Print>(to: &P, file: &[u8], text: &mut [u8]) -> io::Result<()>
     to.write_all(&text[..n])
 }
 
-// A read or a write that fails is main's error, which is said on standard error.
-fn main(rt: HostRuntime) -> io::Result<()> {
+// Says on standard error what failed.
+fn fail<E: Eprint>(to: &E, what: &str, error: io::Error) -> ExitCode {
+    let _ = eprintln!(to; "{what}: {error}");
+    ExitCode::FAILURE
+}
+
+// A read or a write that fails is said on standard error.
+fn main(rt: HostRuntime) -> ExitCode {
     // One byte more than a region file may have, so that a longer one is seen to be too long.
     let mut file = [0u8; 65536];
     let mut text = [0u8; 65536];
     let input = read_file(&mut rt.stdin(), &mut file);
     match input {
-        Input::Failed(error) => Err(error),
-        Input::Bytes(n) => print_text(&rt, &file[..n], &mut text),
+        Input::Failed(error) => fail(&rt, "standard input", error),
+        Input::Bytes(n) => match print_text(&rt, &file[..n], &mut text) {
+            Ok(()) => ExitCode::SUCCESS,
+            Err(error) => fail(&rt, "standard output", error),
+        },
     }
 }
