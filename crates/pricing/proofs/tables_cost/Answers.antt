@@ -1,0 +1,22 @@
+use Prim.Native.Nat.{◌-◌}
+use native.Mathlib.Omega.{arith}
+use Rattle.pricing.proofs.Totals.{adds_start, adds_done, adds_forbidden, adds_small, adds_next, asks_one}
+use Rattle.pricing.proofs.tables_cost.Goals as goal
+
+pub loop-s-init : goal.loop-s-init
+loop-s-init c = adds_start
+
+pub bucket_cost-cost-requires : goal.bucket_cost-cost-requires
+bucket_cost-cost-requires c = asks_one c.requires c.loop-s-test.true
+
+pub returns-in-Forbidden : goal.returns-in-Forbidden
+returns-in-Forbidden c = adds_forbidden c.loop-s.invariant c.loop-s-test.true c.bucket_cost-cost.ensures c.in-Forbidden.is
+
+pub overflow_add-sum : goal.overflow_add-sum
+overflow_add-sum c = omega (arith, adds_small c.loop-s.invariant c.loop-s-test.true c.bucket_cost-cost.ensures _ c.in-Of.is, c.loop-s.invariant.few)
+
+pub loop-s-preserved : goal.loop-s-preserved
+loop-s-preserved c = adds_next c.loop-s.invariant c.loop-s-test.true c.bucket_cost-cost.ensures _ c.in-Of.is
+
+pub returns : goal.returns
+returns c = adds_done c.loop-s.invariant c.loop-s-test.false
