@@ -1,7 +1,7 @@
 -- The number of a call from C, by whether its result area is long enough.
 use Rattle.std.specs.Prelude.{◌≡◌, refl}
-use Rattle.std.proofs.Common.{sym, ap, ◌∙◌}
-use Rattle.definitions.specs.Basics.{ℕ, zero, suc, true, false, ◌∷◌}
+use Rattle.std.proofs.Common.{sym, ap, ◌∙◌, ◌∷◌}
+use Rattle.definitions.specs.Basics.{ℕ, zero, suc, true, false}
 use Rattle.definitions.specs.Questions.{first_no, Asks, entry_asks, call_asks}
 use Rattle.theorems.specs.Answers.{Numbered, says, yes_then, no_then, yes_between}
 

@@ -1,6 +1,6 @@
 -- The kept place of a term's entry: from the start of its entries on, what the beds of all members but the highest make of it.
-use Rattle.std.specs.Prelude.{◌≤◌}
-use Rattle.definitions.specs.Basics.{ℕ, suc, ◌*◌, ◌<◌, ◌≡◌, cond, List, map, length, get_or, eqb, below, sum}
+use Rattle.std.specs.Prelude.{◌≤◌, ◌*◌, ◌<◌, ◌≡◌}
+use Rattle.definitions.specs.Basics.{ℕ, suc, cond, List, map, length, get_or, eqb, below, sum}
 use Rattle.definitions.specs.Plans.{Plan, bed_of}
 use Rattle.bucket_words.specs.Words.{member_at, stride_at}
 

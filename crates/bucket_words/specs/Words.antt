@@ -1,5 +1,6 @@
 -- What the words of the buckets say, by their places.
-use Rattle.definitions.specs.Basics.{ℕ, ◌+◌, ◌*◌, List, get_or}
+use Rattle.std.specs.Prelude.{◌+◌, ◌*◌}
+use Rattle.definitions.specs.Basics.{ℕ, List, get_or}
 
 -- ---- the words of a patient: its count of beds, its first permitted bed and their end, the sum of its bucket's least numbers, and its bucket's first term
 

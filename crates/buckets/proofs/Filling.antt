@@ -8,7 +8,8 @@ use native.Mathlib.Omega.{arith}
 use borrow.Author.Tests.{eq-eqb, ne_eqb}
 use lib.ListN.{drop, replicate, drop_of_length-le}
 use lib.Seq.{drop-cons}
-use Rattle.definitions.specs.Basics.{ℕ, suc, ◌+◌, ◌-◌, ◌*◌, ◌<◌, Bool, true, false, cond, List, [], ◌∷◌, map, length, get_or, eqb, sum, keep}
+use Rattle.std.specs.Prelude.{◌+◌, ◌-◌, ◌*◌, ◌<◌, ◌∷◌}
+use Rattle.definitions.specs.Basics.{ℕ, suc, Bool, true, false, cond, List, [], map, length, get_or, eqb, sum, keep}
 use Rattle.definitions.specs.Syntax as Said
 use Rattle.definitions.specs.Syntax.{patient_at}
 use Rattle.theorems.specs.Accepted.{Accepted, member_at_lem, patients_few, tables_few, entries_few, beds_few}

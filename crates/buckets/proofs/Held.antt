@@ -4,7 +4,8 @@ use Prim.Native.Nat.{◌≤◌}
 use native.Mathlib.Omega.{arith}
 use borrow.Author.Tests.{lt-ltb}
 use lib.ListN.{drop, length-drop}
-use Rattle.definitions.specs.Basics.{ℕ, zero, suc, ◌+◌, ◌-◌, ◌*◌, ◌<◌, refl, Bool, true, false, ◌&&◌, cond, Option, none, some, option_get_or, none_or, List, [], ◌∷◌, map, length, get_or, ltb, sum, every, keep}
+use Rattle.std.specs.Prelude.{◌+◌, ◌-◌, ◌*◌, ◌<◌, ◌&&◌, ◌∷◌}
+use Rattle.definitions.specs.Basics.{ℕ, zero, suc, refl, Bool, true, false, cond, Option, none, some, option_get_or, none_or, List, [], map, length, get_or, ltb, sum, every, keep}
 use Rattle.definitions.specs.Limits.{limits, within, clinic, bed_count, entry}
 use Rattle.definitions.specs.Questions.{entries_within}
 use Rattle.definitions.specs.Syntax as Said

@@ -1,11 +1,11 @@
 -- When the words of a term are right, and what leaves a chain of terms as it is.
 use Rattle.std.proofs.Math.Path.{sym, ap, ap₂, subst}
-use Rattle.std.proofs.Common.{◌∙◌, le_trans, arith}
+use Rattle.std.proofs.Common.{◌∙◌, le_trans, arith, ◌+◌, ◌-◌, ◌*◌, ◌<◌, ◌≡◌, ◌∷◌}
 use Rattle.std.specs.Prelude.{◌≤◌, set}
 use Rattle.std.proofs.Math.Decide.{dec_lt}
 use borrow.Author.Tests.{eqb-true}
 use Rattle.std.proofs.Math.ListN.{get_or-eq_default}
-use Rattle.definitions.specs.Basics.{ℕ, zero, suc, ◌+◌, ◌-◌, ◌*◌, ◌<◌, ◌≡◌, refl, true, cond, List, [], ◌∷◌, map, length, get_or, eqb, numbers_from, sum, product}
+use Rattle.definitions.specs.Basics.{ℕ, zero, suc, refl, true, cond, List, [], map, length, get_or, eqb, numbers_from, sum, product}
 use Rattle.definitions.specs.Syntax.{Table, Region, patient_at}
 use Rattle.definitions.specs.Plans.{Plan, bed_of, entry_for}
 use Rattle.lists.specs.Members.{◌∈◌, get_d_in}

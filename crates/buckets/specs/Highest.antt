@@ -1,8 +1,8 @@
 -- A table is in the bucket of its last member.
-use Rattle.std.proofs.Common.{sym, ap, ◌∙◌, true≢false, arith, ltb-true, lt-ltb, le-ltb, eqb-true}
+use Rattle.std.proofs.Common.{sym, ap, ◌∙◌, true≢false, arith, ltb-true, lt-ltb, le-ltb, eqb-true, ◌-◌, ◌<◌, ◌≡◌, ◌&&◌, ◌||◌, ◌∷◌}
 use Rattle.std.proofs.Math.Bool.{and-false}
 use Rattle.std.proofs.lemmas.Bool.{not-true}
-use Rattle.definitions.specs.Basics.{ℕ, suc, ◌-◌, ◌<◌, ◌≡◌, refl, Bool, true, false, not, ◌&&◌, ◌||◌, List, [], ◌∷◌, length, get_or, eqb, ltb, every, every_two, any}
+use Rattle.definitions.specs.Basics.{ℕ, suc, refl, Bool, true, false, not, List, [], length, get_or, eqb, ltb, every, every_two, any}
 use Rattle.definitions.specs.Syntax.{Table}
 use Rattle.lists.specs.Tests.{both}
 use Rattle.lists.specs.Members.{◌∈◌}

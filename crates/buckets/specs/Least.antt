@@ -1,10 +1,10 @@
 -- The least number of a part of the store, and what it is of a table's entries.
 use Rattle.std.proofs.Math.Path.{sym, ap}
-use Rattle.std.proofs.Common.{ap₂, ◌∙◌, arith, ltb-true, lt-ltb, le-ltb, eq-eqb, ne_eqb}
+use Rattle.std.proofs.Common.{ap₂, ◌∙◌, arith, ltb-true, lt-ltb, le-ltb, eq-eqb, ne_eqb, ◌+◌, ◌-◌, ◌<◌, ◌≡◌, ◌∷◌}
 use Rattle.std.proofs.Math.Bool.{and-eq-true_iff}
 use Rattle.std.specs.Prelude.{◌≤◌}
 use Rattle.std.proofs.Math.Decide.{dec_lt}
-use Rattle.definitions.specs.Basics.{ℕ, suc, ◌+◌, ◌-◌, ◌<◌, ◌≡◌, refl, min, Bool, true, false, cond, Option, none, some, option_get_or, none_or, List, [], ◌∷◌, map, length, get_or, ltb, eqb, numbers_from, every}
+use Rattle.definitions.specs.Basics.{ℕ, suc, refl, min, Bool, true, false, cond, Option, none, some, option_get_or, none_or, List, [], map, length, get_or, ltb, eqb, numbers_from, every}
 use Rattle.partial_rows.specs.Bounds.{smaller, least_of}
 use Rattle.held_region.specs.Meaning.{mark, code_of}
 use Rattle.lists.specs.Loops.{places_from, places_next, places_done}

@@ -1,8 +1,8 @@
 -- The permitted beds of a patient, as a range: all that there are, or the fixed one.
 use Rattle.std.specs.Prelude.{◌≡◌, refl, ◌≤◌}
-use Rattle.std.proofs.Common.{sym, le-leb, leb-true, lt-ltb, ltb-true, eq-eqb, eqb-true}
+use Rattle.std.proofs.Common.{sym, le-leb, leb-true, lt-ltb, ltb-true, eq-eqb, eqb-true, ◌+◌, ◌<◌, ◌&&◌}
 use native.Mathlib.Omega.{arith}
-use Rattle.definitions.specs.Basics.{ℕ, ◌+◌, ◌<◌, ◌&&◌, Option, none, some, none_or, length, eqb, leb, ltb}
+use Rattle.definitions.specs.Basics.{ℕ, Option, none, some, none_or, length, eqb, leb, ltb}
 use Rattle.definitions.specs.Syntax.{Patient, Region, patient_at}
 use Rattle.lists.specs.Tests.{both, join, same_answer}
 use Rattle.lists.specs.Members.{get_d_in}

@@ -1,7 +1,7 @@
 -- The place of beds among all of their members', as a sum of strides.
-use Rattle.std.proofs.Common.{sym, ap, ap₂, ◌∙◌, one-mul, mul-zero, mul-le-mul_right, arith, ne_eqb}
+use Rattle.std.proofs.Common.{sym, ap, ap₂, ◌∙◌, one-mul, mul-zero, mul-le-mul_right, arith, ne_eqb, ◌+◌, ◌-◌, ◌*◌, ◌<◌, ◌≡◌, ◌∷◌}
 use Rattle.std.specs.Prelude.{◌≤◌}
-use Rattle.definitions.specs.Basics.{ℕ, zero, suc, ◌+◌, ◌-◌, ◌*◌, ◌<◌, ◌≡◌, refl, cond, List, [], ◌∷◌, map, length, get_or, eqb, numbers_from, below, sum, product}
+use Rattle.definitions.specs.Basics.{ℕ, zero, suc, refl, cond, List, [], map, length, get_or, eqb, numbers_from, below, sum, product}
 use Rattle.definitions.specs.Plans.{place}
 
 -- The stride of the member at a place: how far the table's place moves with its bed. Past the last member it is 0.

@@ -1,7 +1,7 @@
 -- Buckets of tables, and when the words say them of a region.
 use Rattle.std.specs.Prelude.{◌≤◌, set}
-use Rattle.std.proofs.Common.{arith}
-use Rattle.definitions.specs.Basics.{ℕ, suc, ◌+◌, ◌*◌, ◌<◌, ◌≡◌, Bool, true, not, ◌&&◌, some, List, [], ◌∷◌, map, length, get_or, ltb, sum, keep, below}
+use Rattle.std.proofs.Common.{arith, ◌+◌, ◌*◌, ◌<◌, ◌≡◌, ◌&&◌, ◌∷◌}
+use Rattle.definitions.specs.Basics.{ℕ, suc, Bool, true, not, some, List, [], map, length, get_or, ltb, sum, keep, below}
 use Rattle.definitions.specs.Syntax.{Table, Region, patient_at}
 use Rattle.definitions.specs.Plans.{Plan, bed_of, place_in, entry_for}
 use Rattle.theorems.specs.Accepted.{Accepted, beds_few}

@@ -1,9 +1,9 @@
 -- The region with only the tables that pass a test: it is accepted where the region is, and its terms are the region's.
 use Rattle.std.specs.Prelude.{◌≡◌, ◌≤◌}
 use Rattle.std.proofs.Math.Path.{refl, ap, fun_ext}
-use Rattle.std.proofs.Common.{◌∙◌, arith}
+use Rattle.std.proofs.Common.{◌∙◌, arith, ◌+◌, ◌||◌, ◌∷◌}
 use borrow.Author.Tests.{le-leb, eq-eqb}
-use Rattle.definitions.specs.Basics.{ℕ, zero, suc, ◌+◌, Bool, true, false, ◌||◌, cond, Option, none, some, List, [], ◌∷◌, length, every, every_two, keep, contains}
+use Rattle.definitions.specs.Basics.{ℕ, zero, suc, Bool, true, false, cond, Option, none, some, List, [], length, every, every_two, keep, contains}
 use Rattle.definitions.specs.Limits.{limits, within, patient_count, table_count}
 use Rattle.definitions.specs.Syntax.{Table, Region, patient_at}
 use Rattle.definitions.specs.Plans.{entry_for}

@@ -1,6 +1,6 @@
 -- What the code writes, word by word.
-use Rattle.std.specs.Prelude.{◌≤◌}
-use Rattle.definitions.specs.Basics.{ℕ, ◌+◌, ◌*◌, ◌-◌, ◌^◌, ◌<◌, ◌≡◌, true, List, map, get_or, length, product}
+use Rattle.std.specs.Prelude.{◌≤◌, ◌+◌, ◌*◌, ◌-◌, ◌^◌, ◌<◌, ◌≡◌}
+use Rattle.definitions.specs.Basics.{ℕ, true, List, map, get_or, length, product}
 use Rattle.held_region.specs.declared.Patient.{Patient}
 use Rattle.held_region.specs.declared.Table.{Table}
 use Rattle.held_region.specs.Meaning.{optional, patient_of, no_patient, members_of}

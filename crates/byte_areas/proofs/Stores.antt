@@ -6,7 +6,8 @@ use native.Mathlib.Omega.{arith}
 use mir.Val.{bool_byte}
 use lib.ListN.{set, drop, drop_of_length-le}
 use lib.Seq.{drop-cons}
-use Rattle.definitions.specs.Basics.{ℕ, suc, ◌+◌, ◌-◌, ◌*◌, ◌/◌, ◌%◌, ◌<◌, ◌≡◌, refl, List, [], ◌∷◌, Bool, true, false, cond, length, get_or, sets}
+use Rattle.std.specs.Prelude.{◌+◌, ◌-◌, ◌*◌, ◌/◌, ◌%◌, ◌<◌, ◌≡◌, ◌∷◌}
+use Rattle.definitions.specs.Basics.{ℕ, suc, refl, List, [], Bool, true, false, cond, length, get_or, sets}
 use Rattle.definitions.specs.Outcomes.{written}
 use Rattle.definitions.specs.Boundary.{bytes_of}
 

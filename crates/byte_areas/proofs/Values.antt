@@ -4,7 +4,8 @@ use Prim.Native.Nat.{◌≤◌}
 use native.Mathlib.Omega.{arith}
 use lib.ListN.{drop}
 use lib.Seq.{drop-cons, drop-drop, take-add}
-use Rattle.definitions.specs.Basics.{ℕ, suc, ◌+◌, ◌*◌, List, [], ◌∷◌, ◌++◌, length, get_or, take}
+use Rattle.std.specs.Prelude.{◌+◌, ◌*◌, ◌∷◌, ◌++◌}
+use Rattle.definitions.specs.Basics.{ℕ, suc, List, [], length, get_or, take}
 use Rattle.definitions.specs.Boundary.{value_of, number_at}
 
 module _ (area : List ℕ) (at : ℕ) where

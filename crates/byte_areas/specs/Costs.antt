@@ -1,8 +1,8 @@
 -- Costs that were first held as numbers, a place each, and are then written as eight bytes each.
-use Rattle.std.proofs.Common.{sym, ap, ◌∙◌, append-nil, arith, length-set, take-suc-set}
+use Rattle.std.proofs.Common.{sym, ap, ◌∙◌, append-nil, arith, length-set, take-suc-set, ◌+◌, ◌*◌, ◌≡◌, ◌∷◌, ◌++◌}
 use Rattle.std.specs.Prelude.{◌≤◌, set}
 use Rattle.std.proofs.Math.Seq.{append_snoc}
-use Rattle.definitions.specs.Basics.{ℕ, suc, ◌+◌, ◌*◌, ◌≡◌, refl, List, [], ◌∷◌, ◌++◌, map, length, take, sets}
+use Rattle.definitions.specs.Basics.{ℕ, suc, refl, List, [], map, length, take, sets}
 use Rattle.definitions.specs.Plans.{Row}
 use Rattle.definitions.specs.Outcomes.{written}
 use Rattle.definitions.specs.Boundary.{bytes_of}

@@ -1,8 +1,8 @@
 -- What a result area holds afterwards, by its length.
 use Rattle.std.specs.Prelude.{◌≤◌}
-use Rattle.std.proofs.Common.{le-leb}
+use Rattle.std.proofs.Common.{le-leb, ◌*◌, ◌<◌, ◌≡◌}
 use Rattle.std.proofs.lemmas.Bool.{lt-leb}
-use Rattle.definitions.specs.Basics.{ℕ, ◌*◌, ◌<◌, ◌≡◌, List, length}
+use Rattle.definitions.specs.Basics.{ℕ, List, length}
 use Rattle.definitions.specs.Outcomes.{written}
 use Rattle.definitions.specs.Boundary.{bytes_of, result_after}
 

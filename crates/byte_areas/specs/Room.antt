@@ -1,10 +1,10 @@
 -- How many costs the entry may leave.
 use Rattle.std.specs.Prelude.{◌≡◌, ◌≤◌, ◌<◌}
-use Rattle.std.proofs.Common.{sym, ap, ap₂, ◌∙◌, mul-one, arith, le-leb, lt-ltb, le-ltb}
+use Rattle.std.proofs.Common.{sym, ap, ap₂, ◌∙◌, mul-one, arith, le-leb, lt-ltb, le-ltb, ◌*◌, ◌/◌, ◌&&◌}
 use Rattle.std.proofs.Math.Bool.{and-false}
 use Rattle.std.proofs.Math.Decide.{dec_lt, dec_le}
 use Rattle.std.proofs.lemmas.Bool.{lt-leb}
-use Rattle.definitions.specs.Basics.{ℕ, ◌*◌, ◌/◌, ◌&&◌, cond, leb, ltb}
+use Rattle.definitions.specs.Basics.{ℕ, cond, leb, ltb}
 use Rattle.definitions.specs.Limits.{plans_wanted, limits}
 
 -- None where the result area is too short; else those whose eight bytes fit the cost area, and no more than m can be.

@@ -1,8 +1,8 @@
 // The numbers that the calls from C find and leave in lent byte areas, eight bytes each, lowest first, and the room for them.
 #![tactic(auto)]
 
-ghost use Rattle.std.specs.Prelude.{◌≡◌, ◌+◌, ◌*◌, ◌≤◌, ◌<◌};
-ghost use Rattle.definitions.specs.Basics.{[], ◌∷◌, cond, length, get_or, take, drop, sets};
+ghost use Rattle.std.specs.Prelude.{◌≡◌, ◌+◌, ◌*◌, ◌≤◌, ◌<◌, ◌∷◌};
+ghost use Rattle.definitions.specs.Basics.{[], cond, length, get_or, take, drop, sets};
 ghost use Rattle.definitions.specs.Outcomes.{written};
 ghost use Rattle.definitions.specs.Boundary.{bytes_of, value_of, number_at, result_after};
 ghost use Rattle.byte_areas.specs.Room.{cost_room};

@@ -3,7 +3,8 @@ use mathlib.Core.Path.{◌≡◌, sym, ap, ◌∙◌}
 use Prim.Native.Nat.{◌≤◌}
 use native.Mathlib.Nat.{le_trans, mul-le-mul}
 use native.Mathlib.Omega.{arith}
-use Rattle.definitions.specs.Basics.{ℕ, Bool, true, false, not, List, [], ◌∷◌, map, length, replicate, is_empty, first_occurrences}
+use Rattle.std.specs.Prelude.{◌∷◌}
+use Rattle.definitions.specs.Basics.{ℕ, Bool, true, false, not, List, [], map, length, replicate, is_empty, first_occurrences}
 use Rattle.definitions.specs.Syntax as Said
 use Rattle.definitions.specs.Syntax.{patients_of}
 use Rattle.definitions.specs.Sheets.{same_beds, own_row, sheet_of}

@@ -1,7 +1,7 @@
 -- What sheet gives of a loaded file.
-use Rattle.std.proofs.Common.{sym, ap, append_assoc}
+use Rattle.std.proofs.Common.{sym, ap, append_assoc, ◌*◌, ◌≡◌, ◌∷◌, ◌++◌}
 use Rattle.std.specs.Prelude.{◌≤◌}
-use Rattle.definitions.specs.Basics.{ℕ, suc, ◌*◌, ◌≡◌, refl, Bool, true, false, List, [], ◌∷◌, ◌++◌, length}
+use Rattle.definitions.specs.Basics.{ℕ, suc, refl, Bool, true, false, List, [], length}
 use Rattle.definitions.specs.Syntax as Said
 use Rattle.definitions.specs.Syntax.{patients_of}
 use Rattle.definitions.specs.Sheets.{sheet_of}

@@ -1,6 +1,7 @@
 -- The calls from C: only numbers and byte areas. Each cost, and each result number beyond the first, is eight bytes.
-use Rattle.definitions.specs.Basics.{ℕ, zero, suc, ◌+◌, ◌-◌, ◌*◌, ◌/◌, ◌%◌, ◌^◌, Bool, ◌&&◌, cond, Option, none, some, List, [], ◌∷◌}
-use Rattle.definitions.specs.Basics.{◌++◌, map, flat_map, length, get_or, take, drop, eqb, leb, below, sum}
+use Rattle.std.specs.Prelude.{◌+◌, ◌-◌, ◌*◌, ◌/◌, ◌%◌, ◌^◌, ◌&&◌, ◌∷◌, ◌++◌}
+use Rattle.definitions.specs.Basics.{ℕ, zero, suc, Bool, cond, Option, none, some, List, []}
+use Rattle.definitions.specs.Basics.{map, flat_map, length, get_or, take, drop, eqb, leb, below, sum}
 use Rattle.definitions.specs.Syntax.{Patient, Table, Region}
 use Rattle.definitions.specs.Plans.{Plan}
 use Rattle.definitions.specs.Questions.{entries_of, first_no, Asks, call_asks, region_of, room_for_rows, asked_by_check, check_of, asked_by_list, asked_by_sheet, asked_by_price}

@@ -1,5 +1,6 @@
 -- Beside the starred files, in one statement: an input for each number 1 to 14, what is printed, price, and the calls from C.
-use Rattle.definitions.specs.Basics.{ℕ, ◌≡◌, refl, true, false, Option, none, some, List, [], ◌∷◌, ◌++◌, length, replicate}
+use Rattle.std.specs.Prelude.{◌≡◌, ◌∷◌, ◌++◌}
+use Rattle.definitions.specs.Basics.{ℕ, refl, true, false, Option, none, some, List, [], length, replicate}
 use Rattle.definitions.specs.Syntax.{Region}
 use Rattle.definitions.specs.Layout.{layout}
 use Rattle.definitions.specs.Spelling.{spell}

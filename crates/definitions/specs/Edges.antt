@@ -1,8 +1,8 @@
 -- Inputs at the edge of each definition: where one bound, operand or case is wrong, one of these statements fails.
 use Prim.Native.String.{String}
-use Rattle.std.proofs.Common.{arith}
+use Rattle.std.proofs.Common.{arith, ◌≡◌, ◌∷◌, ◌++◌}
 use Rattle.std.specs.Prelude.{drop, set}
-use Rattle.definitions.specs.Basics.{ℕ, zero, suc, ◌≡◌, refl, Bool, true, false, Option, none, some, List, [], ◌∷◌, ◌++◌, map}
+use Rattle.definitions.specs.Basics.{ℕ, zero, suc, refl, Bool, true, false, Option, none, some, List, [], map}
 use Rattle.definitions.specs.Basics.{drop_last, flat_map, length, replicate, get_or, take, text, below, numbers_from}
 use Rattle.definitions.specs.Syntax.{Patient, Table, Region}
 use Rattle.definitions.specs.Layout.{layout}

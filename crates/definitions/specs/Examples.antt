@@ -1,6 +1,7 @@
 -- The starred files of "Files to try", in one statement about the definitions.
 use Prim.Native.String.{String}
-use Rattle.definitions.specs.Basics.{ℕ, ◌-◌, ◌≡◌, refl, Option, none, some, List, [], ◌∷◌, ◌++◌, map, flat_map, length, replicate, text}
+use Rattle.std.specs.Prelude.{◌-◌, ◌≡◌, ◌∷◌, ◌++◌}
+use Rattle.definitions.specs.Basics.{ℕ, refl, Option, none, some, List, [], map, flat_map, length, replicate, text}
 use Rattle.definitions.specs.Syntax.{Patient, Table, Region}
 use Rattle.definitions.specs.Spelling.{spell}
 use Rattle.definitions.specs.Plans.{Row}

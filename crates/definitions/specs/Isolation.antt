@@ -1,5 +1,6 @@
 -- The words of demand 3: which files are compared, when a clinic is the same in both, and how the two sheets then agree.
-use Rattle.definitions.specs.Basics.{ℕ, suc, ◌<◌, min, ◌≡◌, Bool, true, false, not, ◌&&◌, cond, Option, none, some, List, [], ◌∷◌}
+use Rattle.std.specs.Prelude.{◌<◌, ◌≡◌, ◌&&◌, ◌∷◌}
+use Rattle.definitions.specs.Basics.{ℕ, suc, min, Bool, true, false, not, cond, Option, none, some, List, []}
 use Rattle.definitions.specs.Basics.{map, length, take, eqb, every, any, keep, same, contains}
 use Rattle.definitions.specs.Syntax.{Table, Region, bed_counts, fixed_beds, patients_of}
 use Rattle.definitions.specs.Plans.{Row}

@@ -1,5 +1,6 @@
 -- Request #106: two regions joined into one file.
-use Rattle.definitions.specs.Basics.{ℕ, ◌+◌, min, compare, Ordering, Bool, ◌&&◌, not, cond, option_map, List, [], ◌∷◌, ◌++◌, map, flat_map}
+use Rattle.std.specs.Prelude.{◌+◌, ◌&&◌, ◌∷◌, ◌++◌}
+use Rattle.definitions.specs.Basics.{ℕ, min, compare, Ordering, Bool, not, cond, option_map, List, [], map, flat_map}
 use Rattle.definitions.specs.Basics.{length, take, eqb, every, sort}
 use Rattle.definitions.specs.Limits.{Field, patient_count, table_count, entry_count, within}
 use Rattle.definitions.specs.Syntax.{Patient, Table, Region}

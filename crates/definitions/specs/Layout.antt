@@ -1,8 +1,9 @@
 -- The layout: from the bytes of a file to what it says, or none where some byte is not what a form has in its place.
 use Prim.Native.String.{String}
 use Prim.Native.Char.{code}
-use Rattle.definitions.specs.Basics.{ℕ, ◌+◌, ◌-◌, ◌*◌, Bool, true, false, ◌&&◌, not, cond, Option, none, some, bind, or_else}
-use Rattle.definitions.specs.Basics.{option_map, List, [], ◌∷◌, length, eqb, leb, text, is_empty, on_all}
+use Rattle.std.specs.Prelude.{◌+◌, ◌-◌, ◌*◌, ◌&&◌, ◌∷◌}
+use Rattle.definitions.specs.Basics.{ℕ, Bool, true, false, not, cond, Option, none, some, bind, or_else}
+use Rattle.definitions.specs.Basics.{option_map, List, [], length, eqb, leb, text, is_empty, on_all}
 use Rattle.definitions.specs.Limits.{Field, digit_count, within}
 use Rattle.definitions.specs.Syntax.{Patient, Table, Region}
 

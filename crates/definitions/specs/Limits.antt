@@ -1,5 +1,6 @@
 -- The limits stand once, in a table of lowest and highest per field.
-use Rattle.definitions.specs.Basics.{ℕ, Bool, ◌&&◌, leb}
+use Rattle.std.specs.Prelude.{◌&&◌}
+use Rattle.definitions.specs.Basics.{ℕ, Bool, leb}
 
 -- What has limits: the numbers that a file holds, and how many there may be of what it holds.
 pub data Field : Type 0 where

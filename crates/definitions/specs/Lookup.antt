@@ -1,5 +1,6 @@
 -- Request #103: the line of the table over some members, as a part of the file itself.
-use Rattle.definitions.specs.Basics.{ℕ, zero, suc, ◌+◌, ◌-◌, Bool, false, cond, none, some, option_get_or, List, [], ◌∷◌}
+use Rattle.std.specs.Prelude.{◌+◌, ◌-◌, ◌∷◌}
+use Rattle.definitions.specs.Basics.{ℕ, zero, suc, Bool, false, cond, none, some, option_get_or, List, []}
 use Rattle.definitions.specs.Basics.{length, take, drop, eqb, same, is_some}
 use Rattle.definitions.specs.Layout.{number, whole, lines, items, table_line}
 use Rattle.definitions.specs.Questions.{Asked, first_no, asked_by_check, Asks, entry_asks}

@@ -1,5 +1,6 @@
 -- What list, sheet and price give back: a number, values, and every lent area afterwards. (Check gives `check_of` alone.)
-use Rattle.definitions.specs.Basics.{ℕ, zero, suc, ◌*◌, Bool, true, false, ◌||◌, cond, Option, none, some, List, [], ◌∷◌, length}
+use Rattle.std.specs.Prelude.{◌*◌, ◌||◌, ◌∷◌}
+use Rattle.definitions.specs.Basics.{ℕ, zero, suc, Bool, true, false, cond, Option, none, some, List, [], length}
 use Rattle.definitions.specs.Basics.{replicate, sets, eqb}
 use Rattle.definitions.specs.Syntax.{Region, patients_of}
 use Rattle.definitions.specs.Plans.{Plan, Row, total, list_of}

@@ -1,5 +1,6 @@
 -- What the printing program prints for a file.
-use Rattle.definitions.specs.Basics.{ℕ, zero, suc, List, [], ◌∷◌, ◌++◌, map, flat_map, length, text, below, keep}
+use Rattle.std.specs.Prelude.{◌∷◌, ◌++◌}
+use Rattle.definitions.specs.Basics.{ℕ, zero, suc, List, [], map, flat_map, length, text, below, keep}
 use Rattle.definitions.specs.Limits.{Field, clinic, limits}
 use Rattle.definitions.specs.Syntax.{Region}
 use Rattle.definitions.specs.Spelling.{decimal, bracketed, line}

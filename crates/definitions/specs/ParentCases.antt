@@ -1,5 +1,6 @@
 -- Request #107, in one statement: each of its numbers, each bound, and what a builder gets wrong.
-use Rattle.definitions.specs.Basics.{ℕ, ◌≡◌, refl, Option, none, some, List, [], ◌∷◌, ◌++◌, map, length, replicate, below}
+use Rattle.std.specs.Prelude.{◌≡◌, ◌∷◌, ◌++◌}
+use Rattle.definitions.specs.Basics.{ℕ, refl, Option, none, some, List, [], map, length, replicate, below}
 use Rattle.definitions.specs.Syntax.{Patient, Table, Region}
 use Rattle.definitions.specs.Questions.{ancestors, check_of}
 use Rattle.definitions.specs.Writer.{region_from, WriteOutcome}

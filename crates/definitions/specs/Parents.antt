@@ -1,5 +1,6 @@
 -- Request #107: parents made from the graph of shared tables.
-use Rattle.definitions.specs.Basics.{ℕ, zero, suc, ◌&&◌, Option, none, some, List, [], ◌∷◌, ◌++◌, map, length, get_or, below, any, keep, contains}
+use Rattle.std.specs.Prelude.{◌&&◌, ◌∷◌, ◌++◌}
+use Rattle.definitions.specs.Basics.{ℕ, zero, suc, Option, none, some, List, [], map, length, get_or, below, any, keep, contains}
 use Rattle.definitions.specs.Syntax.{Patient, Table, Region, patient_numbers, patient_at}
 use Rattle.definitions.specs.Spelling.{spell}
 use Rattle.definitions.specs.Questions.{patients_within, region_of, Asked, asked_of_file, asked_to_nine, Asks, entry_asks}

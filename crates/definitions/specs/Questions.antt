@@ -1,6 +1,7 @@
 -- The questions put to a file, one definition each, in their order; the first "no" gives its number.
-use Rattle.definitions.specs.Basics.{ℕ, zero, suc, ◌*◌, ◌%◌, Bool, true, false, ◌&&◌, ◌||◌, Option, none, some, option_get_or, List, []}
-use Rattle.definitions.specs.Basics.{◌∷◌, ◌++◌, map, flatten, drop_last, length, eqb, leb, ltb, sum, product, every, any, every_two}
+use Rattle.std.specs.Prelude.{◌*◌, ◌%◌, ◌&&◌, ◌||◌, ◌∷◌, ◌++◌}
+use Rattle.definitions.specs.Basics.{ℕ, zero, suc, Bool, true, false, Option, none, some, option_get_or, List, []}
+use Rattle.definitions.specs.Basics.{map, flatten, drop_last, length, eqb, leb, ltb, sum, product, every, any, every_two}
 use Rattle.definitions.specs.Basics.{contains, is_some, none_or}
 use Rattle.definitions.specs.Limits.{Field, file_length, patient_count, table_count, plans_wanted, clinic, bed_count, member_count}
 use Rattle.definitions.specs.Limits.{entry_count, entry, within}

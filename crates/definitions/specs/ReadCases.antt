@@ -1,5 +1,6 @@
 -- The call of read, in one statement: each of its numbers, each bound, and what a builder gets wrong.
-use Rattle.definitions.specs.Basics.{ℕ, ◌≡◌, refl, none, some, List, [], ◌∷◌, ◌++◌, map, flat_map, length, replicate, below}
+use Rattle.std.specs.Prelude.{◌≡◌, ◌∷◌, ◌++◌}
+use Rattle.definitions.specs.Basics.{ℕ, refl, none, some, List, [], map, flat_map, length, replicate, below}
 use Rattle.definitions.specs.Boundary.{ReadCall, read_call, write_call}
 use Rattle.definitions.specs.Computing.{everything}
 use Rattle.definitions.specs.Examples.{text_of, patient, fixed, root, table, file_of, lent, cleared, over_one_and_two, one_entry}

@@ -1,7 +1,7 @@
 -- For each landed request of document 02, in one statement: each of its numbers, each bound, and what a builder gets wrong.
 use Prim.Native.String.{String}
-use Rattle.std.proofs.Common.{ap}
-use Rattle.definitions.specs.Basics.{ℕ, ◌+◌, ◌-◌, ◌^◌, ◌≡◌, refl, true, false, cond, eqb, Option, none, some, List, [], ◌∷◌, ◌++◌, map, flatten, flat_map, length, replicate, text, below, numbers_from, sum}
+use Rattle.std.proofs.Common.{ap, ◌+◌, ◌-◌, ◌^◌, ◌≡◌, ◌∷◌, ◌++◌}
+use Rattle.definitions.specs.Basics.{ℕ, refl, true, false, cond, eqb, Option, none, some, List, [], map, flatten, flat_map, length, replicate, text, below, numbers_from, sum}
 use Rattle.definitions.specs.Syntax.{Patient, Table, Region, fixed_beds, patients_of}
 use Rattle.definitions.specs.Layout.{layout}
 use Rattle.definitions.specs.Plans.{Row, place_in, stride, entry_for, constraints, list_of}

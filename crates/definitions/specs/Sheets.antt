@@ -1,5 +1,6 @@
 -- The sheet of a clinic.
-use Rattle.definitions.specs.Basics.{ℕ, min, Bool, option_get_or, List, [], ◌∷◌, map, eqb, keep, same, first_occurrences}
+use Rattle.std.specs.Prelude.{◌∷◌}
+use Rattle.definitions.specs.Basics.{ℕ, min, Bool, option_get_or, List, [], map, eqb, keep, same, first_occurrences}
 use Rattle.definitions.specs.Syntax.{Table, Region, patient_at, patients_of}
 use Rattle.definitions.specs.Plans.{Plan, bed_of, cost_over, Row, list_of}
 

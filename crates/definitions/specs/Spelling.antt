@@ -1,7 +1,8 @@
 -- The one spelling of what a file says.
 use Prim.Native.Char.{code}
-use Rattle.definitions.specs.Basics.{ℕ, zero, suc, ◌+◌, ◌/◌, ◌%◌, ◌^◌, Bool, true, false, ◌&&◌, not, Option, none, some, List, []}
-use Rattle.definitions.specs.Basics.{◌∷◌, ◌++◌, map, flat_map, ltb, text, every, none_or, is_empty}
+use Rattle.std.specs.Prelude.{◌+◌, ◌/◌, ◌%◌, ◌^◌, ◌&&◌, ◌∷◌, ◌++◌}
+use Rattle.definitions.specs.Basics.{ℕ, zero, suc, Bool, true, false, not, Option, none, some, List, []}
+use Rattle.definitions.specs.Basics.{map, flat_map, ltb, text, every, none_or, is_empty}
 use Rattle.definitions.specs.Limits.{Field, digit_count, limits}
 use Rattle.definitions.specs.Syntax.{Patient, Table, Region}
 

@@ -1,5 +1,6 @@
 -- Request #101: the writer. From the held region it writes the file of document 01, end line included.
-use Rattle.definitions.specs.Basics.{ℕ, Bool, List, [], ◌∷◌, length, sets, leb}
+use Rattle.std.specs.Prelude.{◌∷◌}
+use Rattle.definitions.specs.Basics.{ℕ, Bool, List, [], length, sets, leb}
 use Rattle.definitions.specs.Syntax.{Patient, Table, Region}
 use Rattle.definitions.specs.Spelling.{spell_body, spell}
 use Rattle.definitions.specs.Questions.{checksum, Asked, first_no, asked_of_region, Asks, entry_asks}

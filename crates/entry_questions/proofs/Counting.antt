@@ -5,7 +5,8 @@ use Prim.Native.Nat.{◌≤◌}
 use native.Mathlib.Numerals.{add-one}
 use native.Mathlib.Omega.{arith}
 use borrow.Author.Tests.{eq-eqb, ne_eqb}
-use Rattle.definitions.specs.Basics.{ℕ, ◌+◌, ◌*◌, ◌<◌, Bool, true, false, ◌&&◌, List, map, eqb, product}
+use Rattle.std.specs.Prelude.{◌+◌, ◌*◌, ◌<◌, ◌&&◌}
+use Rattle.definitions.specs.Basics.{ℕ, Bool, true, false, List, map, eqb, product}
 use Rattle.definitions.specs.Limits.{within, entry_count}
 use Rattle.definitions.specs.Questions.{entry_counts_right}
 use Rattle.held_region.specs.declared.Region.{Region}

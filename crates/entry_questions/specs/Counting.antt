@@ -1,5 +1,6 @@
 -- What counting the entries of a held region gives.
-use Rattle.definitions.specs.Basics.{ℕ, true, ◌≡◌, List}
+use Rattle.std.specs.Prelude.{◌≡◌}
+use Rattle.definitions.specs.Basics.{ℕ, true, List}
 use Rattle.definitions.specs.Questions.{entry_counts_right}
 use Rattle.held_region.specs.declared.Region.{Region}
 use Rattle.held_region.specs.Meaning.{start_in, said}

@@ -4,7 +4,8 @@ use native.Mathlib.Decide.{dec_lt}
 use native.Mathlib.Omega.{arith}
 use lib.ListN.{set}
 use lib.Seq.{get_or-set_same, get_or-set_other}
-use Rattle.definitions.specs.Basics.{ℕ, ◌+◌, ◌<◌, true, Option, none, some, List, length, get_or}
+use Rattle.std.specs.Prelude.{◌+◌, ◌<◌}
+use Rattle.definitions.specs.Basics.{ℕ, true, Option, none, some, List, length, get_or}
 use Rattle.definitions.specs.Syntax as Said
 use Rattle.definitions.specs.Syntax.{patient_at}
 use Rattle.definitions.specs.Questions.{parents_smaller}

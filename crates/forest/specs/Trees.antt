@@ -1,9 +1,9 @@
 -- Roots as numbers and trees as sets of patients: what they are by the definitions.
-use Rattle.std.proofs.Common.{sym, ap, ◌∙◌, true≢false, arith, lt-ltb, le-ltb}
+use Rattle.std.proofs.Common.{sym, ap, ◌∙◌, true≢false, arith, lt-ltb, le-ltb, ◌<◌, ◌≡◌, ◌&&◌}
 use Rattle.std.proofs.Math.Bool.{not-eq-not, or-false}
 use Rattle.std.specs.Prelude.{◌≤◌}
 use Rattle.std.proofs.Math.Decide.{dec_lt}
-use Rattle.definitions.specs.Basics.{ℕ, suc, ◌<◌, ◌≡◌, true, false, ◌&&◌, Option, none, some, List, length, get_or, eqb, ltb}
+use Rattle.definitions.specs.Basics.{ℕ, suc, true, false, Option, none, some, List, length, get_or, eqb, ltb}
 use Rattle.definitions.specs.Syntax.{Table, Region}
 use Rattle.definitions.specs.Plans.{constraints}
 use Rattle.lists.specs.Members.{◌∈◌}

@@ -1,8 +1,8 @@
 // The forest that the patients' parents make: the root of each patient, and the tree of each root.
 #![tactic(auto)]
 
-ghost use Rattle.std.specs.Prelude.{◌≡◌, ℕ, ◌<◌, ◌≤◌};
-ghost use Rattle.definitions.specs.Basics.{List, some, ◌&&◌, eqb, ltb, get_or};
+ghost use Rattle.std.specs.Prelude.{◌≡◌, ℕ, ◌<◌, ◌≤◌, ◌&&◌};
+ghost use Rattle.definitions.specs.Basics.{List, some, eqb, ltb, get_or};
 ghost use Rattle.patient_set.specs.Sets.{in_set};
 ghost use Rattle.held_region.specs.Meaning.{optional, said};
 ghost use Rattle.held_region.specs.Sound.{ParentsFirst};

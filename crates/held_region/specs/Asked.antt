@@ -1,8 +1,8 @@
 -- What is said, place by place, and question 6 as a loop over the places asks it.
 use Rattle.std.specs.Prelude.{◌≡◌, ◌≤◌}
 use Rattle.std.proofs.Math.Path.{refl, ap, ap₂}
-use Rattle.std.proofs.Common.{sym, ◌∙◌, arith, eqb-true}
-use Rattle.definitions.specs.Basics.{ℕ, zero, suc, ◌+◌, ◌<◌, Bool, true, false, ◌&&◌, cond, Option, none, some, none_or, List, [], map, length, get_or, eqb, ltb, below, every}
+use Rattle.std.proofs.Common.{sym, ◌∙◌, arith, eqb-true, ◌+◌, ◌<◌, ◌&&◌}
+use Rattle.definitions.specs.Basics.{ℕ, zero, suc, Bool, true, false, cond, Option, none, some, none_or, List, [], map, length, get_or, eqb, ltb, below, every}
 use Rattle.definitions.specs.Limits.{within, clinic, bed_count}
 use Rattle.definitions.specs.Syntax as Said
 use Rattle.definitions.specs.Syntax.{patient_at}

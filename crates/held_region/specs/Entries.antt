@@ -1,13 +1,13 @@
 -- The entries of a held region, as questions 8 and 9 ask of them.
 use Rattle.std.specs.Prelude.{◌≡◌, refl, ◌≤◌}
-use Rattle.std.proofs.Common.{sym, ap, ◌∙◌, le_trans, zero-lt-suc, arith, ltb-true, le-leb, eqb-true}
+use Rattle.std.proofs.Common.{sym, ap, ◌∙◌, le_trans, zero-lt-suc, arith, ltb-true, le-leb, eqb-true, ◌+◌, ◌<◌, ◌&&◌, ◌||◌}
 use Rattle.std.proofs.Math.Bool.{and-eq-true_iff}
 use Rattle.std.proofs.Math.Nat.{pow-le-pow_right}
 use Rattle.theorems.specs.Accepted.{at_most}
 use Rattle.lists.specs.Every.{every_in, every_weaken, every_map}
 use Rattle.lists.specs.Maps.{map_same, product_most}
 use Rattle.lists.specs.Below.{every_place, same_tests, every_last, every_parts}
-use Rattle.definitions.specs.Basics.{ℕ, zero, suc, ◌+◌, ◌<◌, Bool, true, false, ◌&&◌, ◌||◌, cond, none, some, none_or, List, map, length, get_or, eqb, leb, ltb, product, below, every}
+use Rattle.definitions.specs.Basics.{ℕ, zero, suc, Bool, true, false, cond, none, some, none_or, List, map, length, get_or, eqb, leb, ltb, product, below, every}
 use Rattle.definitions.specs.Limits.{limits, within, entry, entry_count}
 use Rattle.definitions.specs.Syntax as Said
 use Rattle.definitions.specs.Syntax.{bed_counts}

@@ -1,9 +1,9 @@
 -- What is held of a region stands for the region.
 use Rattle.std.specs.Prelude.{◌≡◌, ◌≤◌}
 use Rattle.std.proofs.Math.Path.{refl, sym, ap, ap₂, fun_ext}
-use Rattle.std.proofs.Common.{◌∙◌, arith, get_or-take}
+use Rattle.std.proofs.Common.{◌∙◌, arith, get_or-take, ◌+◌, ◌<◌, ◌&&◌, ◌||◌, ◌∷◌}
 use borrow.Author.Tests.{eqb-true, ltb-true, eq-eqb, ne_eqb}
-use Rattle.definitions.specs.Basics.{ℕ, zero, suc, ◌+◌, ◌<◌, Bool, true, false, not, ◌&&◌, ◌||◌, cond, Option, none, some, none_or, List, [], ◌∷◌, map, length, get_or, eqb, ltb, product, below, every, every_two}
+use Rattle.definitions.specs.Basics.{ℕ, zero, suc, Bool, true, false, not, cond, Option, none, some, none_or, List, [], map, length, get_or, eqb, ltb, product, below, every, every_two}
 use Rattle.definitions.specs.Limits.{limits, within, patient_count, table_count, plans_wanted, member_count, entry_count}
 use Rattle.definitions.specs.Syntax as Said
 use Rattle.definitions.specs.Syntax.{patient_at, bed_counts}

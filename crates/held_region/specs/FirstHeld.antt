@@ -1,10 +1,10 @@
 -- Of a list that is said one element after the other, the first n are held in an array.
 use Rattle.std.specs.Prelude.{◌≡◌, ◌≤◌, set}
-use Rattle.std.proofs.Common.{sym, arith, length-append, get_or-set_same, get_or-set_other}
+use Rattle.std.proofs.Common.{sym, arith, length-append, get_or-set_same, get_or-set_other, ◌<◌, ◌∷◌, ◌++◌}
 use Rattle.std.proofs.Math.Decide.{ℕ_discrete}
 use Rattle.std.proofs.Math.ListN.{get_or-append}
 use Rattle.std.proofs.Math.Seq.{get_or-append_seam, set_out}
-use Rattle.definitions.specs.Basics.{ℕ, ◌<◌, List, [], ◌∷◌, ◌++◌, length, get_or}
+use Rattle.definitions.specs.Basics.{ℕ, List, [], length, get_or}
 
 module _ {A B : Type 0} (n : ℕ) (Holds : A → B → Type 0) (d : A) (e : B) where
   abbrev pub FirstHeld : List A → List B → Type 0

@@ -1,6 +1,6 @@
 -- What it takes to hold a region that is said: its first patients, tables and entries, each as it is said.
-use Rattle.std.specs.Prelude.{◌≤◌}
-use Rattle.definitions.specs.Basics.{ℕ, ◌≡◌, Bool, true, none, none_or, List, [], length, take, ltb, every}
+use Rattle.std.specs.Prelude.{◌≤◌, ◌≡◌}
+use Rattle.definitions.specs.Basics.{ℕ, Bool, true, none, none_or, List, [], length, take, ltb, every}
 use Rattle.definitions.specs.Syntax as Said
 use Rattle.definitions.specs.Spelling.{spell_body}
 use Rattle.definitions.specs.Questions.{counts_true, checksum}

@@ -1,5 +1,6 @@
 -- What a held region and its store say, as the definitions' region: what the definitions say of a region can be said of these two.
-use Rattle.definitions.specs.Basics.{ℕ, zero, suc, ◌+◌, List, [], map, get_or, replicate, below}
+use Rattle.std.specs.Prelude.{◌+◌}
+use Rattle.definitions.specs.Basics.{ℕ, zero, suc, List, [], map, get_or, replicate, below}
 use Rattle.definitions.specs.Syntax as Said
 use Rattle.definitions.specs.Writer.{with_sum}
 use Rattle.scanner.specs.declared.Optional.TheVariants.{Hyphen}

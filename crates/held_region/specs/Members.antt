@@ -1,14 +1,14 @@
 -- The members of a table, as question 7 asks of them: walked once, each above the one before it.
 use Rattle.std.specs.Prelude.{◌≡◌, refl, ◌≤◌}
 use Rattle.std.proofs.Math.Path.{sym, ap}
-use Rattle.std.proofs.Common.{◌∙◌, add-one, arith, ltb-true, lt-ltb, le-ltb, le-leb, leb-true}
+use Rattle.std.proofs.Common.{◌∙◌, add-one, arith, ltb-true, lt-ltb, le-ltb, le-leb, leb-true, ◌+◌, ◌<◌, ◌&&◌, ◌∷◌}
 use Rattle.std.proofs.Math.Bool.{and-false}
 use Rattle.std.proofs.lemmas.Bool.{lt-leb}
 use Rattle.lists.specs.Every.{every_weaken, every_map}
 use Rattle.lists.specs.Below.{length_by_places, every_place}
 use Rattle.lists.specs.Rising.{from_zero}
 use Rattle.lists.specs.Loops.{places_from, places_all, places_next, places_done}
-use Rattle.definitions.specs.Basics.{ℕ, suc, ◌+◌, ◌<◌, Bool, true, false, ◌&&◌, List, [], ◌∷◌, map, length, get_or, leb, ltb, below, every, every_two}
+use Rattle.definitions.specs.Basics.{ℕ, suc, Bool, true, false, List, [], map, length, get_or, leb, ltb, below, every, every_two}
 use Rattle.definitions.specs.Limits.{within, member_count}
 use Rattle.definitions.specs.Syntax as Said
 use Rattle.definitions.specs.Questions.{members_right}

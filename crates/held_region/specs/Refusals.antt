@@ -1,5 +1,6 @@
 -- The number of each answer, and what the questions from the fifth on are asked of.
-use Rattle.definitions.specs.Basics.{ℕ, Bool, not, ◌&&◌, ◌||◌, cond, [], ◌∷◌, ◌++◌}
+use Rattle.std.specs.Prelude.{◌&&◌, ◌||◌, ◌∷◌, ◌++◌}
+use Rattle.definitions.specs.Basics.{ℕ, Bool, not, cond, []}
 use Rattle.definitions.specs.Syntax as Said
 use Rattle.definitions.specs.Questions.{Asked, asked_to_nine, patients_within, parents_smaller, entry_counts_right, entries_within, members_related}
 use Rattle.held_region.specs.declared.Region.{Region}

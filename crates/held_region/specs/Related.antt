@@ -1,6 +1,6 @@
 -- Question 10, asked of sets of members and ancestors.
 use Rattle.std.specs.Prelude.{◌≡◌, refl, ◌≤◌, set}
-use Rattle.std.proofs.Common.{sym, ◌∙◌, arith, get_or-set_same, get_or-set_other, ltb-true, lt-ltb, le-ltb}
+use Rattle.std.proofs.Common.{sym, ◌∙◌, arith, get_or-set_same, get_or-set_other, ltb-true, lt-ltb, le-ltb, ◌+◌, ◌<◌, ◌&&◌, ◌||◌}
 use Rattle.std.proofs.Math.Path.{ap, fun_ext}
 use Rattle.std.proofs.Math.Bool.{or_comm}
 use Rattle.std.proofs.Math.Decide.{dec_lt}
@@ -10,7 +10,7 @@ use Rattle.lists.specs.Rising.{chain, same_two}
 use Rattle.patient_set.specs.Laws.{members_below}
 use Rattle.patient_set.specs.declared.PatientSet.{PatientSet}
 use Rattle.patient_set.specs.Sets.{in_set, members}
-use Rattle.definitions.specs.Basics.{ℕ, ◌+◌, ◌<◌, Bool, true, false, ◌&&◌, ◌||◌, Option, none, some, List, length, get_or, eqb, ltb, below, every, every_two, keep, contains}
+use Rattle.definitions.specs.Basics.{ℕ, Bool, true, false, Option, none, some, List, length, get_or, eqb, ltb, below, every, every_two, keep, contains}
 use Rattle.definitions.specs.Syntax as Said
 use Rattle.definitions.specs.Syntax.{patient_at, patients_of}
 use Rattle.definitions.specs.Questions.{ancestors, members_related}

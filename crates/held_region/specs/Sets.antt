@@ -1,6 +1,6 @@
 -- Sets of patients that a loop fills, or walks from the lowest on.
 use Rattle.std.specs.Prelude.{◌≡◌, refl, ◌≤◌}
-use Rattle.std.proofs.Common.{sym, ap, ◌∙◌, arith, lit<, lt-ltb, le-ltb, eq-eqb, ne_eqb}
+use Rattle.std.proofs.Common.{sym, ap, ◌∙◌, arith, lit<, lt-ltb, le-ltb, eq-eqb, ne_eqb, ◌+◌, ◌<◌, ◌&&◌, ◌||◌, ◌∷◌}
 use Rattle.std.proofs.Math.Path.{fun_ext}
 use Rattle.std.proofs.Math.Bool.{or-false, and-true, and-false}
 use Rattle.std.proofs.lemmas.Bool.{false≢true}
@@ -9,7 +9,7 @@ use Rattle.lists.specs.Keep.{keep_keep, keep_empty}
 use Rattle.lists.specs.Rising.{kept_below}
 use Rattle.patient_set.specs.Laws.{outside}
 use Rattle.patient_set.specs.Sets.{in_set, members, first}
-use Rattle.definitions.specs.Basics.{ℕ, ◌+◌, ◌<◌, Bool, true, false, not, ◌&&◌, ◌||◌, List, [], ◌∷◌, eqb, ltb, is_empty, below, every, every_two, keep, contains}
+use Rattle.definitions.specs.Basics.{ℕ, Bool, true, false, not, List, [], eqb, ltb, is_empty, below, every, every_two, keep, contains}
 
 -- Nobody is in the empty set.
 pub in_none : (q : ℕ) → in_set 0 q ≡ false

@@ -1,8 +1,8 @@
 -- A held region whose counts, patients and members are right: what that gives for each patient and each table.
 use Rattle.std.specs.Prelude.{◌≡◌, ◌≤◌}
-use Rattle.std.proofs.Common.{sym, ◌∙◌, arith, ltb-true}
+use Rattle.std.proofs.Common.{sym, ◌∙◌, arith, ltb-true, ◌<◌, ◌&&◌}
 use Rattle.std.proofs.Math.Bool.{and-eq-true_iff}
-use Rattle.definitions.specs.Basics.{ℕ, ◌<◌, true, ◌&&◌, List, length, get_or, ltb, every, every_two}
+use Rattle.definitions.specs.Basics.{ℕ, true, List, length, get_or, ltb, every, every_two}
 use Rattle.definitions.specs.Limits.{limits, within, patient_count, table_count, clinic, bed_count, member_count}
 use Rattle.definitions.specs.Questions.{counts_within, patients_within, parents_smaller, members_right}
 use Rattle.theorems.specs.Accepted.{Accepted, at_most}

@@ -1,8 +1,8 @@
 -- A region that stands for another where questions 5 to 10 are asked.
 use Rattle.std.specs.Prelude.{◌≡◌, refl}
-use Rattle.std.proofs.Common.{ap, ◌∙◌, arith, ltb-true}
+use Rattle.std.proofs.Common.{ap, ◌∙◌, arith, ltb-true, ◌∷◌}
 use Rattle.std.proofs.Math.Bool.{and-eq-true_iff}
-use Rattle.definitions.specs.Basics.{ℕ, Bool, true, false, [], ◌∷◌, ltb, every}
+use Rattle.definitions.specs.Basics.{ℕ, Bool, true, false, [], ltb, every}
 use Rattle.definitions.specs.Syntax as Said
 use Rattle.definitions.specs.Questions.{Asked, first_no}
 use Rattle.held_region.specs.Refusals.{asked, last_asked}

@@ -1,9 +1,9 @@
 -- Where a store has the entries of each of some tables: one table behind the other.
 use Rattle.std.specs.Prelude.{◌≡◌, ◌≤◌}
 use Rattle.std.proofs.Math.Path.{refl}
-use Rattle.std.proofs.Common.{ap, ◌∙◌}
+use Rattle.std.proofs.Common.{ap, ◌∙◌, ◌+◌, ◌<◌, ◌∷◌}
 use native.Mathlib.Omega.{arith}
-use Rattle.definitions.specs.Basics.{ℕ, zero, suc, ◌+◌, ◌<◌, none, List, [], ◌∷◌, length, get_or}
+use Rattle.definitions.specs.Basics.{ℕ, zero, suc, none, List, [], length, get_or}
 use Rattle.definitions.specs.Syntax.{Table, Region}
 -- The number of entries of all tables.
 pub use Rattle.definitions.specs.Questions.{entries_of}

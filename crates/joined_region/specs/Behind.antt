@@ -1,12 +1,12 @@
 -- Tables behind tables, and their entries behind entries in one store.
 use Rattle.std.specs.Prelude.{◌≡◌, ◌≤◌}
 use Rattle.std.proofs.Math.Path.{refl, sym, ap, ap₂}
-use Rattle.std.proofs.Common.{◌∙◌, zero-add, add-zero, length-append, get_or-append-add, length-take-le, get_or-take}
+use Rattle.std.proofs.Common.{◌∙◌, zero-add, add-zero, length-append, get_or-append-add, length-take-le, get_or-take, ◌+◌, ◌-◌, ◌<◌, ◌∷◌, ◌++◌}
 use Rattle.std.proofs.Math.Decide.{dec_lt}
 use native.Mathlib.Omega.{arith}
 use Rattle.std.proofs.lemmas.List.{length-map}
 use Rattle.std.proofs.Math.ListN.{get_or-append, get_or-map}
-use Rattle.definitions.specs.Basics.{ℕ, zero, suc, ◌+◌, ◌-◌, ◌<◌, none, List, [], ◌∷◌, ◌++◌, map, length, get_or, take}
+use Rattle.definitions.specs.Basics.{ℕ, zero, suc, none, List, [], map, length, get_or, take}
 use Rattle.definitions.specs.Syntax.{Table}
 use Rattle.definitions.specs.Questions.{entries_of}
 use Rattle.definitions.specs.Joining.{table_after}

@@ -1,11 +1,11 @@
 -- What is held of the joined region: the patients and the tables of both, and the entries of both in one store.
 use Rattle.std.specs.Prelude.{◌≡◌, ◌≤◌, set}
 use Rattle.std.proofs.Math.Path.{refl, sym, ap, ap₂}
-use Rattle.std.proofs.Common.{subst, ◌∙◌, arith, length-take-le, get_or-take, get_or-append-add}
+use Rattle.std.proofs.Common.{subst, ◌∙◌, arith, length-take-le, get_or-take, get_or-append-add, ◌+◌, ◌-◌, ◌<◌, ◌&&◌, ◌++◌}
 use Rattle.std.proofs.lemmas.Simd.{map-map}
 use Rattle.std.proofs.Math.ListN.{length-append, get_or-append}
 use Rattle.std.proofs.lemmas.List.{length-map}
-use Rattle.definitions.specs.Basics.{ℕ, zero, suc, ◌+◌, ◌-◌, ◌<◌, min, Bool, true, not, ◌&&◌, Option, none, some, List, [], ◌++◌, map, length, get_or, take, eqb, below, every}
+use Rattle.definitions.specs.Basics.{ℕ, zero, suc, min, Bool, true, not, Option, none, some, List, [], map, length, get_or, take, eqb, below, every}
 use Rattle.definitions.specs.Limits.{Field, patient_count, table_count, entry_count, limits, within}
 use Rattle.definitions.specs.Syntax as Said
 use Rattle.definitions.specs.Syntax.{patient_at}

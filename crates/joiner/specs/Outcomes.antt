@@ -1,8 +1,8 @@
 -- What join gives back, by the answers to the questions of the first file, of the second, and of both.
 use Rattle.std.specs.Prelude.{◌≡◌, refl, ◌-◌}
 use Rattle.std.proofs.Math.Path.{sym, ap, ap₂}
-use Rattle.std.proofs.Common.{◌∙◌, append_assoc, arith, ne_eqb}
-use Rattle.definitions.specs.Basics.{ℕ, suc, true, false, cond, List, [], ◌∷◌, ◌++◌, eqb}
+use Rattle.std.proofs.Common.{◌∙◌, append_assoc, arith, ne_eqb, ◌∷◌, ◌++◌}
+use Rattle.definitions.specs.Basics.{ℕ, suc, true, false, cond, List, [], eqb}
 use Rattle.definitions.specs.Syntax.{Region}
 use Rattle.definitions.specs.Spelling.{spell}
 use Rattle.definitions.specs.Questions.{Asked, first_no, region_of, asked_by_check, check_of}

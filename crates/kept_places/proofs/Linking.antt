@@ -5,7 +5,8 @@ use native.Mathlib.Decide.{dec_lt, ℕ_discrete}
 use native.Mathlib.Omega.{arith}
 use lib.ListN.{set, length-set, length-replicate, get_or-replicate}
 use lib.Seq.{get_or-set_same, get_or-set_other}
-use Rattle.definitions.specs.Basics.{ℕ, suc, ◌+◌, ◌-◌, ◌<◌, List, get_or, replicate}
+use Rattle.std.specs.Prelude.{◌+◌, ◌-◌, ◌<◌}
+use Rattle.definitions.specs.Basics.{ℕ, suc, List, get_or, replicate}
 use Rattle.bucket_words.specs.Words.{member_at, stride_at}
 use Rattle.bucket_words.specs.Kept.{low_stride, Bounded}
 use Rattle.kept_places.specs.Moves.{move_at, stride_for, Leads, Says, Linked}

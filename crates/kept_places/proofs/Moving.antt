@@ -7,7 +7,8 @@ use native.Mathlib.Omega.{arith}
 use lib.ListN.{set, length-set}
 use lib.Seq.{get_or-set_same, get_or-set_other}
 use borrow.Author.Tests.{eqb-false, lt-ltb, le-ltb}
-use Rattle.definitions.specs.Basics.{ℕ, zero, suc, ◌+◌, ◌-◌, ◌*◌, ◌<◌, Bool, true, false, cond, List, map, length, get_or, eqb, ltb, below, sum}
+use Rattle.std.specs.Prelude.{◌+◌, ◌-◌, ◌*◌, ◌<◌}
+use Rattle.definitions.specs.Basics.{ℕ, zero, suc, Bool, true, false, cond, List, map, length, get_or, eqb, ltb, below, sum}
 use Rattle.definitions.specs.Plans.{bed_of}
 use Rattle.bucket_words.specs.Words.{member_at}
 use Rattle.bucket_words.specs.Kept.{low_stride, kept_at, Kept}

@@ -4,7 +4,8 @@ use Prim.Native.Nat.{◌≤◌}
 use native.Mathlib.Numerals.{add-one}
 use native.Mathlib.Omega.{arith}
 use borrow.Author.Tests.{eq-eqb, ne_eqb}
-use Rattle.definitions.specs.Basics.{ℕ, suc, ◌+◌, Bool, true, false, cond, List, eqb}
+use Rattle.std.specs.Prelude.{◌+◌}
+use Rattle.definitions.specs.Basics.{ℕ, suc, Bool, true, false, cond, List, eqb}
 use Rattle.bucket_words.specs.Words.{member_at, stride_at}
 use Rattle.bucket_words.specs.Kept.{low_stride}
 use Rattle.kept_places.specs.Moves.{stride_for}

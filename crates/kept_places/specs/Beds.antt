@@ -1,6 +1,6 @@
 -- Beds that four bits hold.
-use Rattle.std.specs.Prelude.{set}
-use Rattle.definitions.specs.Basics.{ℕ, zero, suc, ◌<◌, List, [], ◌∷◌}
+use Rattle.std.specs.Prelude.{set, ◌<◌, ◌∷◌}
+use Rattle.definitions.specs.Basics.{ℕ, zero, suc, List, []}
 use Rattle.definitions.specs.Plans.{bed_of}
 
 -- They hold each bed, also where one is set that they hold.

@@ -1,6 +1,6 @@
 -- The moves: for each patient the tables whose entry has another place when the patient's bed changes.
-use Rattle.std.specs.Prelude.{◌≤◌, set}
-use Rattle.definitions.specs.Basics.{ℕ, suc, ◌+◌, ◌*◌, ◌<◌, ◌≡◌, cond, List, length, get_or, eqb}
+use Rattle.std.specs.Prelude.{◌≤◌, set, ◌+◌, ◌*◌, ◌<◌, ◌≡◌}
+use Rattle.definitions.specs.Basics.{ℕ, suc, cond, List, length, get_or, eqb}
 use Rattle.definitions.specs.Plans.{bed_of}
 use Rattle.bucket_words.specs.Words.{member_at}
 use Rattle.bucket_words.specs.Kept.{low_stride, Kept, Bounded}

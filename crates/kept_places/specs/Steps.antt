@@ -1,6 +1,6 @@
 -- What the steps of linking the moves ask for and give.
-use Rattle.std.specs.Prelude.{◌≤◌}
-use Rattle.definitions.specs.Basics.{ℕ, ◌+◌, ◌<◌, ◌≡◌, List, length, get_or}
+use Rattle.std.specs.Prelude.{◌≤◌, ◌+◌, ◌<◌, ◌≡◌}
+use Rattle.definitions.specs.Basics.{ℕ, List, length, get_or}
 use Rattle.bucket_words.specs.Words.{member_at, stride_at}
 use Rattle.kept_places.specs.Moves.{move_at, term_in, stride_in, next_in, Linked}
 

@@ -3,7 +3,8 @@ use mathlib.Core.Path.{◌≡◌, refl, sym, ap, ◌∙◌}
 use native.Mathlib.Omega.{arith}
 use lib.ListN.{set, length-append, length-set}
 use Prim.Native.Nat.{◌≤◌}
-use Rattle.definitions.specs.Basics.{ℕ, ◌+◌, ◌-◌, ◌<◌, Option, some, List, [], ◌∷◌, ◌++◌, length, take, replicate}
+use Rattle.std.specs.Prelude.{◌+◌, ◌-◌, ◌<◌, ◌∷◌, ◌++◌}
+use Rattle.definitions.specs.Basics.{ℕ, Option, some, List, [], length, take, replicate}
 use lib.ListN.{drop}
 use Rattle.definitions.specs.Syntax as Said
 use Rattle.definitions.specs.Layout.{many, whole, lines, patient_line}

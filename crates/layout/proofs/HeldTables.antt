@@ -6,7 +6,8 @@ use native.Mathlib.Decide.{ℕ_discrete}
 use Prim.Native.Char.{code}
 use Prim.Native.Nat.{◌≤◌}
 use lib.ListN.{set, drop, length-append, length-map, length-set, length-take}
-use Rattle.definitions.specs.Basics.{ℕ, ◌+◌, ◌-◌, ◌<◌, none, some, List, is_some, bind, [], ◌∷◌, ◌++◌, map, flat_map, length, take, replicate, text}
+use Rattle.std.specs.Prelude.{◌+◌, ◌-◌, ◌<◌, ◌∷◌, ◌++◌}
+use Rattle.definitions.specs.Basics.{ℕ, none, some, List, is_some, bind, [], map, flat_map, length, take, replicate, text}
 use Rattle.definitions.specs.Syntax as Said
 use Rattle.definitions.specs.Layout.{whole, word, exactly, lines, many, table_line, end_line}
 use Rattle.lists.specs.Maps.{flat_map_snoc}

@@ -6,7 +6,8 @@ use native.Mathlib.Omega.{arith}
 use native.Mathlib.Decide.{dec_lt}
 use Prim.Native.Nat.{◌≤◌}
 use lib.ListN.{take, drop, drop_of_length-le, length-drop}
-use Rattle.definitions.specs.Basics.{ℕ, zero, suc, ◌-◌, ◌<◌, true, Option, none, some, bind, List, [], ◌∷◌, ◌++◌, length, is_some}
+use Rattle.std.specs.Prelude.{◌-◌, ◌<◌, ◌∷◌, ◌++◌}
+use Rattle.definitions.specs.Basics.{ℕ, zero, suc, true, Option, none, some, bind, List, [], length, is_some}
 use Rattle.definitions.specs.Layout.{whole, lines, region_line, patient_line, table_line, end_line, layout}
 use Rattle.line_reader.specs.Answers.{LineEnd}
 use Rattle.line_reader.specs.Lines.{lines_split}

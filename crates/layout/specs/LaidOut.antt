@@ -1,9 +1,9 @@
 -- The layout of a file, line by line: what each of its parts says makes the tree, and where one part is missing there is none.
 use Rattle.std.specs.Prelude.{◌≡◌, refl, take, drop, ◌≤◌}
-use Rattle.std.proofs.Common.{sym, ap, ◌∙◌, take-append-drop}
+use Rattle.std.proofs.Common.{sym, ap, ◌∙◌, take-append-drop, ◌∷◌, ◌++◌}
 use Rattle.std.proofs.lemmas.List.{append_cancel_right}
 use Rattle.std.proofs.Math.Option.{none-ne-some, some-injective}
-use Rattle.definitions.specs.Basics.{ℕ, Option, none, some, bind, List, [], ◌∷◌, ◌++◌, length, flatten, drop_last}
+use Rattle.definitions.specs.Basics.{ℕ, Option, none, some, bind, List, [], length, flatten, drop_last}
 use Rattle.definitions.specs.Syntax as Said
 use Rattle.definitions.specs.Layout.{many, whole, lines, region_line, patient_line, table_line, end_line, region_lines, layout}
 use Rattle.theorems.specs.Lines.{flatten_lines}

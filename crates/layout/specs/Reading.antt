@@ -1,6 +1,6 @@
 -- What is read of a file, and what is held of it.
-use Rattle.std.specs.Prelude.{◌≤◌, max, drop}
-use Rattle.definitions.specs.Basics.{ℕ, ◌≡◌, some, List, length}
+use Rattle.std.specs.Prelude.{◌≤◌, max, drop, ◌≡◌}
+use Rattle.definitions.specs.Basics.{ℕ, some, List, length}
 use Rattle.definitions.specs.Syntax as Said
 use Rattle.definitions.specs.Layout.{many, whole, lines, patient_line}
 use Rattle.held_region.specs.declared.Patient.{Patient}

@@ -1,6 +1,6 @@
 -- What is read of the table lines, and what is held of them.
-use Rattle.std.specs.Prelude.{◌≤◌, max, drop}
-use Rattle.definitions.specs.Basics.{ℕ, ◌≡◌, true, some, is_some, List, ◌∷◌, map, flat_map, length}
+use Rattle.std.specs.Prelude.{◌≤◌, max, drop, ◌≡◌, ◌∷◌}
+use Rattle.definitions.specs.Basics.{ℕ, true, some, is_some, List, map, flat_map, length}
 use Rattle.definitions.specs.Syntax as Said
 use Rattle.definitions.specs.Layout.{many, whole, lines, table_line, end_line}
 use Rattle.held_region.specs.declared.Table.{Table}

@@ -1,9 +1,9 @@
 -- A loop that takes one line of a slice after the other takes what `many` takes.
 use Rattle.std.specs.Prelude.{◌≡◌, ◌≤◌, max, take, drop}
 use Rattle.std.proofs.Math.Path.{refl, ap}
-use Rattle.std.proofs.Common.{sym, ◌∙◌, append-nil, arith, length-append, drop_of_length-le}
+use Rattle.std.proofs.Common.{sym, ◌∙◌, append-nil, arith, length-append, drop_of_length-le, ◌-◌, ◌<◌, ◌∷◌, ◌++◌}
 use Rattle.std.proofs.Math.Seq.{append_snoc}
-use Rattle.definitions.specs.Basics.{ℕ, ◌-◌, ◌<◌, Option, none, some, option_map, bind, List, [], ◌∷◌, ◌++◌, length}
+use Rattle.definitions.specs.Basics.{ℕ, Option, none, some, option_map, bind, List, [], length}
 use Rattle.definitions.specs.Layout.{many, lines}
 use Rattle.line_reader.specs.Answers.{LineEnd}
 

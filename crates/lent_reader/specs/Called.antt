@@ -1,8 +1,8 @@
 -- What read answers, by the answers to questions 1 to 10 and to 12.
 use Rattle.std.specs.Prelude.{◌≡◌, refl, ◌≤◌}
 use Rattle.std.proofs.Math.Path.{sym, ap, ap₂}
-use Rattle.std.proofs.Common.{◌∙◌, true≢false, arith, leb-true}
-use Rattle.definitions.specs.Basics.{ℕ, ◌*◌, ◌-◌, Bool, true, false, not, ◌&&◌, List, [], ◌∷◌, flat_map, length, leb, below}
+use Rattle.std.proofs.Common.{◌∙◌, true≢false, arith, leb-true, ◌*◌, ◌-◌, ◌&&◌, ◌∷◌}
+use Rattle.definitions.specs.Basics.{ℕ, Bool, true, false, not, List, [], flat_map, length, leb, below}
 use Rattle.definitions.specs.Syntax as Said
 use Rattle.definitions.specs.Questions.{Asked, first_no, region_of, check_of}
 use Rattle.definitions.specs.Boundary.{room_for_numbers, numbers_after, result_after, room_for_region, asked_by_read, ReadCall, read_call_of, read_call}

@@ -6,7 +6,8 @@ use native.Mathlib.Decide.{ℕ_discrete}
 use native.Mathlib.Numerals.{add-one}
 use native.Mathlib.Omega.{arith}
 use borrow.Author.Tests.{eq-eqb, ne_eqb}
-use Rattle.definitions.specs.Basics.{ℕ, suc, ◌+◌, ◌-◌, ◌*◌, ◌/◌, ◌%◌, ◌^◌, ◌<◌, Bool, false, ◌&&◌, cond, none, some, List, length, eqb}
+use Rattle.std.specs.Prelude.{◌+◌, ◌-◌, ◌*◌, ◌/◌, ◌%◌, ◌^◌, ◌<◌, ◌&&◌}
+use Rattle.definitions.specs.Basics.{ℕ, suc, Bool, false, cond, none, some, List, length, eqb}
 use Rattle.definitions.specs.Boundary.{number_at, option_at, lent_table_count, lent_entries_before, lent_whole}
 use Rattle.lent_region.specs.Lent.{before_next, before_most}
 

@@ -1,10 +1,10 @@
 -- A region whose numbers are cut off to go into 32 bits: none is the store's mark, and none is so low that a limit would let it pass.
 use Rattle.std.specs.Prelude.{◌≡◌, refl, ◌≤◌}
-use Rattle.std.proofs.Common.{sym, ap, ◌∙◌, arith, le-ltb}
+use Rattle.std.proofs.Common.{sym, ap, ◌∙◌, arith, le-ltb, ◌<◌, ◌&&◌}
 use Rattle.std.proofs.Math.Bool.{and-false}
 use Rattle.std.proofs.Math.Decide.{dec_le}
 use Rattle.std.proofs.lemmas.Bool.{lt-leb}
-use Rattle.definitions.specs.Basics.{ℕ, ◌<◌, min, ◌&&◌, Option, none, some, option_map, none_or, map, leb, ltb}
+use Rattle.definitions.specs.Basics.{ℕ, min, Option, none, some, option_map, none_or, map, leb, ltb}
 use Rattle.definitions.specs.Limits.{Field, limits, within}
 use Rattle.definitions.specs.Syntax.{Patient, Table, Region}
 use Rattle.definitions.specs.Writer.{with_sum}

@@ -1,12 +1,12 @@
 -- A region with its numbers cut off stands for the region: every limit is far below where they are cut.
 use Rattle.std.specs.Prelude.{◌≡◌, ◌≤◌}
 use Rattle.std.proofs.Math.Path.{refl, ap, ap₂}
-use Rattle.std.proofs.Common.{sym, ◌∙◌, map-id, arith}
+use Rattle.std.proofs.Common.{sym, ◌∙◌, map-id, arith, ◌<◌, ◌&&◌, ◌∷◌}
 use Rattle.std.proofs.Math.Bool.{and-false}
 use Rattle.std.proofs.Math.ListN.{length-map, get_or-map}
 use Rattle.std.proofs.Math.Seq.{ext_get_or}
 use borrow.Author.Tests.{eqb-true, ltb-true}
-use Rattle.definitions.specs.Basics.{ℕ, ◌<◌, Bool, true, false, ◌&&◌, Option, none, some, none_or, List, [], ◌∷◌, map, length, get_or, eqb, ltb, sum, product, below, every, every_two}
+use Rattle.definitions.specs.Basics.{ℕ, Bool, true, false, Option, none, some, none_or, List, [], map, length, get_or, eqb, ltb, sum, product, below, every, every_two}
 use Rattle.definitions.specs.Limits.{limits, within, patient_count, table_count, plans_wanted, clinic, bed_count, member_count, entry_count, entry}
 use Rattle.definitions.specs.Syntax.{Patient, Table, Region, patient_at, bed_counts}
 use Rattle.definitions.specs.Spelling.{spell_body}

@@ -1,13 +1,13 @@
 -- What is held of a lent region: its first patients, tables and entries, with their numbers cut off.
 use Rattle.std.specs.Prelude.{◌≡◌, ◌≤◌}
 use Rattle.std.proofs.Math.Path.{refl, sym, ap, ap₂}
-use Rattle.std.proofs.Common.{◌∙◌, arith}
+use Rattle.std.proofs.Common.{◌∙◌, arith, ◌+◌, ◌*◌, ◌/◌, ◌%◌, ◌<◌, ◌&&◌, ◌∷◌, ◌++◌}
 use Rattle.std.proofs.lemmas.Simd.{map-map}
 use Rattle.std.proofs.Math.Decide.{dec_le}
 use Rattle.std.proofs.Math.ListN.{length-map, get_or-map}
 use Rattle.std.proofs.Math.Seq.{take-nil}
 use borrow.Author.Tests.{eqb-true, eq-eqb, lt-ltb}
-use Rattle.definitions.specs.Basics.{ℕ, zero, suc, ◌+◌, ◌*◌, ◌/◌, ◌%◌, ◌<◌, min, true, ◌&&◌, Option, none, some, none_or, List, [], ◌∷◌, ◌++◌, map, length, get_or, take, eqb, ltb, sum, below, every}
+use Rattle.definitions.specs.Basics.{ℕ, zero, suc, min, true, Option, none, some, none_or, List, [], map, length, get_or, take, eqb, ltb, sum, below, every}
 use Rattle.definitions.specs.Syntax as Said
 use Rattle.definitions.specs.Spelling.{spell_body}
 use Rattle.definitions.specs.Questions.{counts_true, checksum}

@@ -1,8 +1,8 @@
 -- What the writer's call answers, beside its result area: whether that is long enough is handed in.
 use Rattle.std.specs.Prelude.{◌≡◌}
 use Rattle.std.proofs.Math.Path.{refl, sym, ap}
-use Rattle.std.proofs.Common.{◌∙◌}
-use Rattle.definitions.specs.Basics.{ℕ, zero, suc, Bool, true, false, List, [], ◌∷◌, ◌++◌}
+use Rattle.std.proofs.Common.{◌∙◌, ◌∷◌, ◌++◌}
+use Rattle.definitions.specs.Basics.{ℕ, zero, suc, Bool, true, false, List, []}
 use Rattle.definitions.specs.Syntax as Said
 use Rattle.definitions.specs.Questions.{Asked, first_no, asked_of_region, Asks, call_asks}
 use Rattle.definitions.specs.Writer.{region_from, as_held, written_file, room_for_file, asked_by_write, WriteOutcome, write_outcome}

@@ -1,6 +1,6 @@
 -- The code's fields, as the definitions name them, and their places in the code's table of limits.
-use Rattle.std.specs.Prelude.{◌≡◌, refl}
-use Rattle.definitions.specs.Basics.{ℕ, List, [], ◌∷◌, map, get_or}
+use Rattle.std.specs.Prelude.{◌≡◌, refl, ◌∷◌}
+use Rattle.definitions.specs.Basics.{ℕ, List, [], map, get_or}
 use Rattle.definitions.specs.Limits as Said
 use Rattle.limits.specs.declared.Limit.{Limit}
 use Rattle.limits.specs.declared.Field.{Field}

@@ -2,7 +2,8 @@
 use mathlib.Core.Path.{◌≡◌, sym, ap, ◌∙◌}
 use Prim.Native.Nat.{◌-◌}
 use native.Mathlib.Omega.{arith}
-use Rattle.definitions.specs.Basics.{ℕ, suc, true, false, List, [], ◌∷◌, length}
+use Rattle.std.specs.Prelude.{◌∷◌}
+use Rattle.definitions.specs.Basics.{ℕ, suc, true, false, List, [], length}
 use Rattle.definitions.specs.Layout.{lines}
 use Rattle.definitions.specs.Questions.{first_no, entry_asks, check_of}
 use Rattle.definitions.specs.Lookup.{typed_right, first_line, line_over, asked_by_line, LineOutcome, part_unless_refused, line_found, line_outcome}

@@ -4,7 +4,8 @@ use Prim.Native.Nat.{◌≤◌}
 use native.Mathlib.Decide.{dec_le}
 use native.Mathlib.Omega.{arith}
 use borrow.Author.Tests.{le-leb, lt-leb}
-use Rattle.definitions.specs.Basics.{ℕ, ◌<◌, Bool, true, false, Option, none, some, bind, List, [], ◌++◌, length, leb, text, is_some}
+use Rattle.std.specs.Prelude.{◌<◌, ◌++◌}
+use Rattle.definitions.specs.Basics.{ℕ, Bool, true, false, Option, none, some, bind, List, [], length, leb, text, is_some}
 use Rattle.definitions.specs.Layout.{exactly, word, number, items}
 use Rattle.definitions.specs.Lookup.{typed_right}
 use Rattle.theorems.specs.Lookup.{begins}

@@ -3,7 +3,8 @@ use mathlib.Core.Path.{◌≡◌, refl, sym, ap, ◌∙◌}
 use Prim.Native.Nat.{◌≤◌}
 use native.Mathlib.Omega.{arith}
 use lib.ListN.{take, drop, length-take, length-drop, drop_of_length-le}
-use Rattle.definitions.specs.Basics.{ℕ, ◌+◌, ◌-◌, ◌<◌, Bool, true, false, cond, List, length}
+use Rattle.std.specs.Prelude.{◌+◌, ◌-◌, ◌<◌}
+use Rattle.definitions.specs.Basics.{ℕ, Bool, true, false, cond, List, length}
 use Rattle.definitions.specs.Layout.{lines}
 use Rattle.definitions.specs.Lookup.{FilePart, first_line}
 use Rattle.line_reader.specs.Answers.{LineEnd}

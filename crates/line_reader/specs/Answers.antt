@@ -1,6 +1,6 @@
 -- What each answer says of a line, in the terms of the definition's readers.
-use Rattle.std.specs.Prelude.{◌+◌, ◌-◌, ◌≤◌, ◌<◌, min, take, drop}
-use Rattle.definitions.specs.Basics.{ℕ, ◌≡◌, Option, none, some, List, ◌∷◌, length}
+use Rattle.std.specs.Prelude.{◌+◌, ◌-◌, ◌≤◌, ◌<◌, min, take, drop, ◌≡◌, ◌∷◌}
+use Rattle.definitions.specs.Basics.{ℕ, Option, none, some, List, length}
 use Rattle.definitions.specs.Syntax.{Patient}
 use Rattle.definitions.specs.Layout.{lines}
 use Rattle.scanner.specs.Answers.{optional}

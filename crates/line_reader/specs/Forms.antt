@@ -1,12 +1,12 @@
 -- A form without lists: its word, its fields by their kinds, one space before each, and its end.
-use Rattle.std.proofs.Common.{sym, arith, ltb-true, ne_eqb}
+use Rattle.std.proofs.Common.{sym, arith, ltb-true, ne_eqb, ◌^◌, ◌<◌, ◌≡◌, ◌∷◌, ◌++◌}
 use Rattle.std.proofs.Math.Path.{ap}
 use Rattle.theorems.specs.Numbers.{hyphen_reads}
 use Rattle.scanner.specs.Classes.{is_letter}
 use Rattle.scanner.specs.Answers.{mark, code_of, said_by}
 use Rattle.scanner.specs.Words.{form_start}
 use Rattle.scanner.specs.Tokens.{Form, token, gives, read}
-use Rattle.definitions.specs.Basics.{ℕ, ◌^◌, ◌<◌, ◌≡◌, refl, Bool, true, false, cond, Option, none, some, option_map, bind, List, [], ◌∷◌, ◌++◌, get_or, length, text, every, none_or}
+use Rattle.definitions.specs.Basics.{ℕ, refl, Bool, true, false, cond, Option, none, some, option_map, bind, List, [], get_or, length, text, every, none_or}
 use Rattle.definitions.specs.Limits.{digit_count, limits}
 use Rattle.definitions.specs.Spelling.{spellable}
 use Rattle.definitions.specs.Syntax.{Patient}

@@ -1,8 +1,8 @@
 -- A line is what stands up to its line end.
-use Rattle.std.proofs.Common.{ap, arith, eq-eqb, ne_eqb, eqb-true}
+use Rattle.std.proofs.Common.{ap, arith, eq-eqb, ne_eqb, eqb-true, ◌+◌, ◌<◌, ◌≡◌, ◌&&◌, ◌∷◌}
 use Rattle.std.proofs.lemmas.Bool.{eqb-false}
 use Rattle.std.specs.Prelude.{take, drop, ◌≤◌, max}
-use Rattle.definitions.specs.Basics.{ℕ, suc, ◌+◌, ◌<◌, ◌≡◌, refl, Bool, true, false, not, ◌&&◌, List, [], ◌∷◌, length, get_or, eqb}
+use Rattle.definitions.specs.Basics.{ℕ, suc, refl, Bool, true, false, not, List, [], length, get_or, eqb}
 use Rattle.definitions.specs.Layout.{lines, onto_first}
 
 -- How many bytes the first line has, its line end among them.

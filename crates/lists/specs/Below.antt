@@ -1,11 +1,11 @@
 -- The numbers from a on, and those below n; what a function gives there, and what tests say of them.
-use Rattle.std.proofs.Common.{sym, ap, ap₂, ◌∙◌, inl, inr, append_assoc, append-nil, eq-or-lt_of_le, arith, eqb-true, ne_eqb, ext_get_or, get_or-take, length-take-le}
+use Rattle.std.proofs.Common.{sym, ap, ap₂, ◌∙◌, inl, inr, append_assoc, append-nil, eq-or-lt_of_le, arith, eqb-true, ne_eqb, ext_get_or, get_or-take, length-take-le, ◌+◌, ◌<◌, ◌≡◌, ◌&&◌, ◌∷◌, ◌++◌}
 use Rattle.std.proofs.Math.Bool.{and_assoc, and-true}
 use Rattle.std.proofs.lemmas.List.{map-append, length-map}
 use Rattle.std.proofs.lemmas.Bool.{eqb-false}
 use Rattle.std.specs.Prelude.{◌≤◌}
-use Rattle.definitions.specs.Basics.{ℕ, zero, suc, ◌+◌, ◌<◌, ◌≡◌, refl, Bool, true, false, ◌&&◌, cond, eqb}
-use Rattle.definitions.specs.Basics.{List, [], ◌∷◌, ◌++◌, map, length, get_or, take, numbers_from, below, every, keep, contains}
+use Rattle.definitions.specs.Basics.{ℕ, zero, suc, refl, Bool, true, false, cond, eqb}
+use Rattle.definitions.specs.Basics.{List, [], map, length, get_or, take, numbers_from, below, every, keep, contains}
 use Rattle.lists.specs.Members.{◌∈◌, here, there, here_or_there, none_in_nil, Enumerates}
 use Rattle.lists.specs.Every.{every_in, every_same, every_map, contains_in}
 use Rattle.lists.specs.Keep.{keep_same, keep_none}

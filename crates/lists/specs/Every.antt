@@ -1,11 +1,11 @@
 -- Laws of `every` and `any`: of an element, of parts, of two tests at once, of images; numbers that a list contains.
-use Rattle.std.proofs.Common.{sym, ap, ap₂, ◌∙◌, inl, inr, true≢false, eqb-true, eq-eqb}
+use Rattle.std.proofs.Common.{sym, ap, ap₂, ◌∙◌, inl, inr, true≢false, eqb-true, eq-eqb, ◌<◌, ◌≡◌, ◌&&◌, ◌||◌, ◌∷◌, ◌++◌}
 use Rattle.std.specs.Prelude.{◌⊎◌, ◌↔◌}
 use Rattle.std.proofs.Math.Bool.{and-false, and_assoc}
 use Rattle.std.proofs.Math.Option.{none-ne-some}
 use Rattle.std.proofs.lemmas.Bool.{not-false}
-use Rattle.definitions.specs.Basics.{ℕ, zero, suc, ◌<◌, ◌≡◌, refl, Bool, true, false, not, ◌&&◌, ◌||◌, Option, none, some}
-use Rattle.definitions.specs.Basics.{List, [], ◌∷◌, ◌++◌, map, flat_map, length, get_or, eqb, every, every_two, any, contains}
+use Rattle.definitions.specs.Basics.{ℕ, zero, suc, refl, Bool, true, false, not, Option, none, some}
+use Rattle.definitions.specs.Basics.{List, [], map, flat_map, length, get_or, eqb, every, every_two, any, contains}
 use Rattle.lists.specs.Tests.{both, join, same_answer}
 use Rattle.lists.specs.Members.{◌∈◌, here, there, here_or_there, none_in_nil, get_d_in}
 

@@ -1,8 +1,8 @@
 -- Lists that a loop fills place by place.
 use Rattle.std.specs.Prelude.{◌≡◌, ◌≤◌, set}
 use Rattle.std.proofs.Math.Decide.{ℕ_discrete}
-use Rattle.std.proofs.Common.{arith, get_or-set_same, get_or-set_other}
-use Rattle.definitions.specs.Basics.{ℕ, ◌+◌, ◌<◌, List, length, get_or}
+use Rattle.std.proofs.Common.{arith, get_or-set_same, get_or-set_other, ◌+◌, ◌<◌}
+use Rattle.definitions.specs.Basics.{ℕ, List, length, get_or}
 
 -- What stands at each of the first n places is what belongs there.
 pub record Filled {A : Type 0} (Belongs : ℕ → A → Type 0) (d : A) (n : ℕ) (l : List A) : Type 0 where

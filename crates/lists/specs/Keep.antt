@@ -1,7 +1,7 @@
 -- Laws of `keep`: what is kept was there and passes.
-use Rattle.std.proofs.Common.{sym, ap, ◌∙◌, inl, inr, true≢false, arith}
+use Rattle.std.proofs.Common.{sym, ap, ◌∙◌, inl, inr, true≢false, arith, ◌≡◌, ◌&&◌, ◌||◌, ◌∷◌, ◌++◌}
 use Rattle.std.specs.Prelude.{◌⊎◌, ◌≤◌}
-use Rattle.definitions.specs.Basics.{ℕ, suc, ◌≡◌, refl, Bool, true, false, not, ◌&&◌, ◌||◌, cond, Option, none, some, option_elim, List, [], ◌∷◌, ◌++◌, map, filter_map, length, is_empty, every, any, every_two, keep, contains}
+use Rattle.definitions.specs.Basics.{ℕ, suc, refl, Bool, true, false, not, cond, Option, none, some, option_elim, List, [], map, filter_map, length, is_empty, every, any, every_two, keep, contains}
 use Rattle.lists.specs.Tests.{both, join, same_answer}
 use Rattle.lists.specs.Members.{◌∈◌, here, there, here_or_there, none_in_nil}
 use Rattle.lists.specs.Every.{every_in, every_all, contains_in, contains_out}

@@ -1,9 +1,9 @@
 -- The last of a list.
 use Rattle.std.specs.Prelude.{◌≡◌, refl, ◌≤◌}
-use Rattle.std.proofs.Common.{sym, inl, inr, arith, ltb-true}
+use Rattle.std.proofs.Common.{sym, inl, inr, arith, ltb-true, ◌<◌, ◌∷◌, ◌++◌}
 use Rattle.std.proofs.lemmas.Bool.{false≢true}
 use Rattle.std.proofs.Math.Option.{none-ne-some, some-injective}
-use Rattle.definitions.specs.Basics.{ℕ, ◌<◌, true, false, none, some, option_get_or, List, [], ◌∷◌, ◌++◌, is_empty, ltb, every, every_two}
+use Rattle.definitions.specs.Basics.{ℕ, true, false, none, some, option_get_or, List, [], is_empty, ltb, every, every_two}
 use Rattle.definitions.specs.Parents.{last}
 use Rattle.lists.specs.Tests.{both}
 use Rattle.lists.specs.Members.{◌∈◌, here, there, here_or_there, none_in_nil}

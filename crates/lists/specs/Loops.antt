@@ -1,8 +1,8 @@
 -- Loops over the places below n.
 use Rattle.std.specs.Prelude.{◌≡◌, ◌≤◌}
 use Rattle.std.proofs.Math.Path.{sym, ap}
-use Rattle.std.proofs.Common.{◌∙◌, add-one, arith}
-use Rattle.definitions.specs.Basics.{ℕ, suc, ◌+◌, ◌-◌, ◌<◌, Bool, true, false, ◌&&◌, List, [], ◌∷◌, numbers_from, below, every}
+use Rattle.std.proofs.Common.{◌∙◌, add-one, arith, ◌+◌, ◌-◌, ◌<◌, ◌&&◌, ◌∷◌}
+use Rattle.definitions.specs.Basics.{ℕ, suc, Bool, true, false, List, [], numbers_from, below, every}
 
 -- A loop over the places below n: those that are left at place i. All are left at the start, then i and the rest, and at the end none.
 unfoldable pub places_from : ℕ → ℕ → List ℕ

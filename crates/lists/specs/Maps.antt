@@ -1,5 +1,5 @@
 -- What functions give on a list, one by one, partly or in one piece.
-use Rattle.std.proofs.Common.{sym, ap₂, ◌∙◌, append_assoc, append-nil, mul-le-mul, mul-le-mul_right, arith, leb-true}
+use Rattle.std.proofs.Common.{sym, ap₂, ◌∙◌, append_assoc, append-nil, mul-le-mul, mul-le-mul_right, arith, leb-true, ◌<◌, ◌*◌, ◌^◌, ◌≡◌, ◌∷◌, ◌++◌}
 use Rattle.std.proofs.Math.Path.{ap, subst⁻¹}
 use Rattle.std.specs.Prelude.{◌⊎◌, ◌≤◌}
 use Rattle.std.proofs.Math.Logic.{inl, inr}
@@ -7,8 +7,8 @@ use Rattle.std.proofs.lemmas.List.{map-append}
 use Rattle.std.proofs.lemmas.Simd.{map-map}
 use Rattle.std.proofs.Math.Option.{none-ne-some}
 use Rattle.std.proofs.Math.Nat.{pow-zero, pow-succ'}
-use Rattle.definitions.specs.Basics.{ℕ, zero, suc, ◌<◌, ◌*◌, ◌^◌, ◌≡◌, refl, true, Option, none, some, option_elim}
-use Rattle.definitions.specs.Basics.{List, [], ◌∷◌, ◌++◌, map, length, get_or, take, drop, leb, product, flatten, flat_map, filter_map, drop_last, on_all, every}
+use Rattle.definitions.specs.Basics.{ℕ, zero, suc, refl, true, Option, none, some, option_elim}
+use Rattle.definitions.specs.Basics.{List, [], map, length, get_or, take, drop, leb, product, flatten, flat_map, filter_map, drop_last, on_all, every}
 use Rattle.lists.specs.Tests.{both}
 use Rattle.lists.specs.Members.{◌∈◌, here, there, here_or_there, none_in_nil, in_cast, Distinct}
 

@@ -1,8 +1,8 @@
 -- What is in a list, under short names; distinct lists.
-use Rattle.std.proofs.Common.{sym, inl, inr, arith}
+use Rattle.std.proofs.Common.{sym, inl, inr, arith, ◌<◌, ◌≡◌, ◌∷◌, ◌++◌}
 use mathlib.Core.List.{Memᴰ}
 use Rattle.std.specs.Prelude.{drop}
-use Rattle.definitions.specs.Basics.{ℕ, zero, suc, ◌<◌, ◌≡◌, refl, List, [], ◌∷◌, ◌++◌, map, length, get_or, take}
+use Rattle.definitions.specs.Basics.{ℕ, zero, suc, refl, List, [], map, length, get_or, take}
 pub use mathlib.Core.List.Memᴰ.{cases_cons as here_or_there}
 pub use mathlib.Core.List.Memᴰ.{head as here}
 pub use mathlib.Core.List.Memᴰ.{not-nil as none_in_nil}

@@ -1,8 +1,8 @@
 -- Rising lists of numbers: tests of any two, and what is kept of the numbers below n.
 use Rattle.std.specs.Prelude.{◌≡◌, refl, ◌≤◌}
-use Rattle.std.proofs.Common.{sym, ap, ap₂, ◌∙◌, arith, ltb-true, lt-ltb, le-ltb, le-leb, leb-true, eq-eqb, ne_eqb}
+use Rattle.std.proofs.Common.{sym, ap, ap₂, ◌∙◌, arith, ltb-true, lt-ltb, le-ltb, le-leb, leb-true, eq-eqb, ne_eqb, ◌+◌, ◌<◌, ◌&&◌, ◌||◌, ◌∷◌}
 use Rattle.std.proofs.Math.Decide.{dec_le}
-use Rattle.definitions.specs.Basics.{ℕ, zero, suc, ◌+◌, ◌<◌, Bool, true, false, not, ◌&&◌, ◌||◌, cond, List, [], ◌∷◌, eqb, leb, ltb, every, every_two, keep, contains, numbers_from, below}
+use Rattle.definitions.specs.Basics.{ℕ, zero, suc, Bool, true, false, not, cond, List, [], eqb, leb, ltb, every, every_two, keep, contains, numbers_from, below}
 use Rattle.lists.specs.Tests.{both, join}
 use Rattle.lists.specs.Members.{◌∈◌, here, there}
 use Rattle.lists.specs.Every.{every_in, every_all, every_both, every_weaken, every_same, every_contains}

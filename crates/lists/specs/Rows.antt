@@ -1,11 +1,11 @@
 -- Lists one after the other in one list: where each begins, and what stands there.
-use Rattle.std.proofs.Common.{sym, ◌∙◌, inl, inr}
+use Rattle.std.proofs.Common.{sym, ◌∙◌, inl, inr, ◌+◌, ◌*◌, ◌<◌, ◌≡◌, ◌∷◌, ◌++◌}
 use Rattle.std.proofs.Math.Path.{ap}
 use native.Mathlib.Omega.{arith}
 use Rattle.std.specs.Prelude.{◌≤◌}
 use Rattle.std.proofs.Math.ListN.{length-append, get_or-append}
 use Rattle.std.proofs.Math.Seq.{get_or-append-add}
-use Rattle.definitions.specs.Basics.{ℕ, zero, suc, ◌+◌, ◌*◌, ◌<◌, ◌≡◌, refl, List, [], ◌∷◌, ◌++◌, map, flat_map, length, get_or, numbers_from, below, sum}
+use Rattle.definitions.specs.Basics.{ℕ, zero, suc, refl, List, [], map, flat_map, length, get_or, numbers_from, below, sum}
 use Rattle.lists.specs.Members.{◌∈◌, here_or_there, none_in_nil}
 use Rattle.lists.specs.Below.{below_long}
 use Rattle.lists.specs.Maps.{map_same}

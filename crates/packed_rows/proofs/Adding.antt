@@ -4,7 +4,8 @@ use native.Mathlib.Omega.{arith}
 use borrow.Author.Count.{below_more}
 use lib.ListN.{set, length-set}
 use lib.Seq.{ext_get_or, get_or-set_same, get_or-set_other}
-use Rattle.definitions.specs.Basics.{ℕ, ◌+◌, ◌<◌, List, length, get_or, replicate}
+use Rattle.std.specs.Prelude.{◌+◌, ◌<◌}
+use Rattle.definitions.specs.Basics.{ℕ, List, length, get_or, replicate}
 use Rattle.partial_rows.specs.Adding.{add_beds, add_rows, add_at, add_length}
 use Rattle.packed_rows.specs.declared.Row.{Row}
 use Rattle.packed_rows.specs.Packed.{packed_beds, row_of, Fit}

@@ -6,7 +6,8 @@ use Prim.Native.Nat.{◌≤◌}
 use borrow.Author.Tests.{eq-eqb, ne_eqb}
 use lib.ListN.{drop, drop_of_length-le}
 use lib.Seq.{drop-cons}
-use Rattle.definitions.specs.Basics.{ℕ, suc, ◌+◌, ◌<◌, compare, Ordering, ordering_lt, ordering_eq, ordering_gt, Bool, true, false, ◌&&◌, eqb, List, [], ◌∷◌}
+use Rattle.std.specs.Prelude.{◌+◌, ◌<◌, ◌&&◌, ◌∷◌}
+use Rattle.definitions.specs.Basics.{ℕ, suc, compare, Ordering, ordering_lt, ordering_eq, ordering_gt, Bool, true, false, eqb, List, []}
 use Rattle.definitions.specs.Basics.{length, get_or, same}
 use Rattle.definitions.specs.Plans.{then_by, compare_beds, compare_rows}
 use Rattle.definitions.specs.Sheets.{same_beds}

@@ -5,7 +5,8 @@ use native.Mathlib.Omega.{arith}
 use Prim.Native.Nat.{◌≤◌}
 use lib.ListN.{length-append, length-replicate, get_or-replicate, get_or-append, get_or-map}
 use lib.Seq.{get_or-take, get_or-append-add}
-use Rattle.definitions.specs.Basics.{ℕ, ◌+◌, ◌-◌, ◌*◌, ◌%◌, ◌<◌, List, [], ◌∷◌, ◌++◌, map, flat_map, length, get_or, take, replicate, below}
+use Rattle.std.specs.Prelude.{◌+◌, ◌-◌, ◌*◌, ◌%◌, ◌<◌, ◌∷◌, ◌++◌}
+use Rattle.definitions.specs.Basics.{ℕ, List, [], map, flat_map, length, get_or, take, replicate, below}
 use Rattle.definitions.specs.Plans.{bed_of}
 use Rattle.lists.specs.Below.{by_number}
 use Rattle.packed_rows.specs.Packed.{beds_of_word, packed_beds, packable}

@@ -4,7 +4,8 @@ use native.Mathlib.Numerals.{unary_clauses}
 use native.Mathlib.Omega.{arith}
 use lib.ListN.{set}
 use lib.Seq.{sets}
-use Rattle.definitions.specs.Basics.{ℕ, ◌+◌, ◌/◌, ◌%◌, ◌<◌, List, [], ◌∷◌, flat_map, length, get_or, replicate}
+use Rattle.std.specs.Prelude.{◌+◌, ◌/◌, ◌%◌, ◌<◌, ◌∷◌}
+use Rattle.definitions.specs.Basics.{ℕ, List, [], flat_map, length, get_or, replicate}
 use Rattle.lists.specs.Below.{by_number}
 use Rattle.packed_rows.specs.Packed.{beds_of_word, packed_beds}
 

@@ -1,8 +1,8 @@
 -- Packed beds: how many there are, how they compare, add and are packed one by one.
 use Rattle.std.specs.Prelude.{◌≡◌, refl}
-use Rattle.std.proofs.Common.{sym, ap, ap₂, ◌∙◌, arith, length-append}
-use Rattle.definitions.specs.Basics.{ℕ, zero, suc, ◌+◌, ◌*◌, ◌/◌, ◌%◌, ◌^◌, ◌<◌, compare, Ordering}
-use Rattle.definitions.specs.Basics.{eqb, List, [], ◌∷◌, ◌++◌, map, flat_map, length, get_or, numbers_from, same}
+use Rattle.std.proofs.Common.{sym, ap, ap₂, ◌∙◌, arith, length-append, ◌+◌, ◌*◌, ◌/◌, ◌%◌, ◌^◌, ◌<◌, ◌∷◌, ◌++◌}
+use Rattle.definitions.specs.Basics.{ℕ, zero, suc, compare, Ordering}
+use Rattle.definitions.specs.Basics.{eqb, List, [], map, flat_map, length, get_or, numbers_from, same}
 use Rattle.definitions.specs.Plans.{bed_of, then_by, compare_beds}
 use Rattle.ranking.specs.Orders.{View, before, equal, after, ℕ-view}
 use Rattle.partial_rows.specs.Adding.{add_beds}

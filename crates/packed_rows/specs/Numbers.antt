@@ -1,7 +1,7 @@
 -- How two numbers compare.
 use Rattle.std.specs.Prelude.{◌≡◌, refl, ◌≤◌}
-use Rattle.std.proofs.Common.{arith}
-use Rattle.definitions.specs.Basics.{ℕ, ◌<◌, compare, Ordering, ordering_lt, ordering_eq, ordering_gt}
+use Rattle.std.proofs.Common.{arith, ◌<◌}
+use Rattle.definitions.specs.Basics.{ℕ, compare, Ordering, ordering_lt, ordering_eq, ordering_gt}
 use Rattle.ranking.specs.Orders.{View, before, equal, after, ℕ-view}
 
 module _ (a b : ℕ) where

@@ -1,6 +1,7 @@
 -- Rows whose beds are packed into words, four bits each: what they hold.
-use Rattle.definitions.specs.Basics.{ℕ, zero, suc, ◌+◌, ◌-◌, ◌/◌, ◌%◌, ◌<◌, Ordering, ordering_lt, ordering_eq, ordering_gt, Bool, true, false}
-use Rattle.definitions.specs.Basics.{List, [], ◌∷◌, ◌++◌, map, flat_map, take, replicate}
+use Rattle.std.specs.Prelude.{◌+◌, ◌-◌, ◌/◌, ◌%◌, ◌<◌, ◌∷◌, ◌++◌}
+use Rattle.definitions.specs.Basics.{ℕ, zero, suc, Ordering, ordering_lt, ordering_eq, ordering_gt, Bool, true, false}
+use Rattle.definitions.specs.Basics.{List, [], map, flat_map, take, replicate}
 use Rattle.definitions.specs.Plans as Said
 use Rattle.definitions.specs.Plans.{bed_of}
 use Rattle.packed_rows.specs.declared.Row.{Row}

@@ -1,8 +1,8 @@
 -- A row as it is packed for v patients: bed 0 from patient v on, and without that padding it has the beds, where four bits hold each.
 use Rattle.std.specs.Prelude.{◌≡◌, ◌≤◌}
-use Rattle.std.proofs.Common.{ap, ◌∙◌, mod-eq_of_lt, arith, length-take-le, get_or-take}
+use Rattle.std.proofs.Common.{ap, ◌∙◌, mod-eq_of_lt, arith, length-take-le, get_or-take, ◌%◌, ◌<◌, ◌∷◌}
 use Rattle.std.proofs.lemmas.List.{length-map}
-use Rattle.definitions.specs.Basics.{ℕ, suc, ◌%◌, ◌<◌, List, [], ◌∷◌, map, length, take}
+use Rattle.definitions.specs.Basics.{ℕ, suc, List, [], map, length, take}
 use Rattle.definitions.specs.Plans.{Row, bed_of}
 use Rattle.partial_rows.specs.Padding.{unpadded, Padded, padded_with, unpadded_with}
 use Rattle.packed_rows.specs.Packed.{packable}

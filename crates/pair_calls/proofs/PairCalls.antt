@@ -3,7 +3,8 @@ use mathlib.Core.Path.{◌≡◌, sym, ap, ap₂, ◌∙◌}
 use Prim.Native.Nat.{◌≤◌, ◌<◌, ◌-◌}
 use native.Mathlib.Omega.{arith}
 use borrow.Author.Tests.{lt-leb, le-leb}
-use Rattle.definitions.specs.Basics.{ℕ, zero, suc, cond, List, [], ◌∷◌, ◌++◌, length, sets}
+use Rattle.std.specs.Prelude.{◌∷◌, ◌++◌}
+use Rattle.definitions.specs.Basics.{ℕ, zero, suc, cond, List, [], length, sets}
 use Rattle.definitions.specs.Plans.{Plan, total}
 use Rattle.definitions.specs.Questions.{first_no, Asks, entry_asks, call_asks, asked_by_check, check_of, region_of, asked_by_price}
 use Rattle.definitions.specs.Outcomes.{unless_refused, PriceOutcome, priced, price_found, price_outcome}

@@ -1,8 +1,7 @@
 // The calls of price, line and join, whose result area holds two numbers.
 #![tactic(auto)]
 
-ghost use Rattle.std.specs.Prelude.{◌≡◌};
-ghost use Rattle.definitions.specs.Basics.{◌++◌};
+ghost use Rattle.std.specs.Prelude.{◌≡◌, ◌++◌};
 ghost use Rattle.definitions.specs.Questions.{first_no, asked_by_check, check_of};
 ghost use Rattle.definitions.specs.Boundary.{price_call, line_call, join_call};
 ghost use Rattle.answers.specs.Rooms.{or_twelve};

@@ -1,9 +1,9 @@
 -- What parents gives back, by the answers to questions 1 to 9 and to 15.
 use Rattle.std.specs.Prelude.{◌≡◌, ◌≤◌}
 use Rattle.std.proofs.Math.Path.{sym, ap}
-use Rattle.std.proofs.Common.{◌∙◌, le-leb}
+use Rattle.std.proofs.Common.{◌∙◌, le-leb, ◌<◌, ◌-◌, ◌∷◌}
 use Rattle.std.proofs.lemmas.Bool.{lt-leb}
-use Rattle.definitions.specs.Basics.{ℕ, ◌<◌, ◌-◌, false, List, [], ◌∷◌, length}
+use Rattle.definitions.specs.Basics.{ℕ, false, List, [], length}
 use Rattle.definitions.specs.Spelling.{spell}
 use Rattle.definitions.specs.Questions.{first_no, entry_asks}
 use Rattle.definitions.specs.Writer.{room_for_file, WriteOutcome}

@@ -1,7 +1,7 @@
 -- Beds added place by place, and rows added: costs and beds.
-use Rattle.std.proofs.Common.{ap₂, ◌∙◌, inl, inr, arith, add-zero, add_comm, add_assoc}
+use Rattle.std.proofs.Common.{ap₂, ◌∙◌, inl, inr, arith, add-zero, add_comm, add_assoc, ◌+◌, ◌<◌, ◌≡◌, ◌∷◌}
 use Rattle.std.specs.Prelude.{set, ◌≤◌}
-use Rattle.definitions.specs.Basics.{ℕ, zero, suc, ◌+◌, ◌<◌, ◌≡◌, refl, List, [], ◌∷◌, length, replicate}
+use Rattle.definitions.specs.Basics.{ℕ, zero, suc, refl, List, [], length, replicate}
 use Rattle.definitions.specs.Plans.{bed_of, Row}
 use Rattle.ranking.specs.Orders.{ListLt, list_irrefl}
 

@@ -1,7 +1,7 @@
 -- Beds behind beds: lists whose first parts have one length compare, and add, part by part.
 use Rattle.std.specs.Prelude.{◌≡◌, refl}
-use Rattle.std.proofs.Common.{sym, ap, ap₂, ◌∙◌, arith, eq-eqb, ne_eqb}
-use Rattle.definitions.specs.Basics.{ℕ, ◌+◌, ◌<◌, compare, Ordering, ordering_lt, ordering_eq, ordering_gt, Bool, true, false, ◌&&◌, eqb, List, [], ◌∷◌, ◌++◌, length, same}
+use Rattle.std.proofs.Common.{sym, ap, ap₂, ◌∙◌, arith, eq-eqb, ne_eqb, ◌+◌, ◌<◌, ◌&&◌, ◌∷◌, ◌++◌}
+use Rattle.definitions.specs.Basics.{ℕ, compare, Ordering, ordering_lt, ordering_eq, ordering_gt, Bool, true, false, eqb, List, [], length, same}
 use Rattle.definitions.specs.Plans.{then_by, compare_beds}
 use Rattle.ranking.specs.Orders.{View, before, equal, after, ℕ-view}
 use Rattle.partial_rows.specs.Adding.{add_beds}

@@ -1,10 +1,10 @@
 -- Beds for a set of patients: of none, of two parts, and the beds that a plan has in a set.
-use Rattle.std.proofs.Common.{sym, ◌∙◌, true≢false, arith, ext_get_or}
+use Rattle.std.proofs.Common.{sym, ◌∙◌, true≢false, arith, ext_get_or, ◌+◌, ◌<◌, ◌≡◌, ◌∷◌}
 use Rattle.std.specs.Prelude.{◌↔◌}
 use Rattle.std.proofs.Math.Decide.{dec_lt}
 use Rattle.std.proofs.lemmas.List.{length-replicate, get_or-replicate}
 use Rattle.std.proofs.Math.ListN.{get_or-eq_default}
-use Rattle.definitions.specs.Basics.{ℕ, zero, suc, ◌+◌, ◌<◌, ◌≡◌, refl, Bool, true, false, cond, List, [], ◌∷◌, map, length, get_or}
+use Rattle.definitions.specs.Basics.{ℕ, zero, suc, refl, Bool, true, false, cond, List, [], map, length, get_or}
 use Rattle.definitions.specs.Syntax.{Patient, Region, patient_at}
 use Rattle.definitions.specs.Plans.{Plan, bed_of}
 use Rattle.theorems.specs.List.{Fits}

@@ -1,9 +1,9 @@
 -- Lower bounds of the cost of a set's rows.
-use Rattle.std.proofs.Common.{sym, ◌∙◌, le_refl, arith}
+use Rattle.std.proofs.Common.{sym, ◌∙◌, le_refl, arith, ◌≡◌, ◌∷◌}
 use Rattle.std.proofs.Math.Option.{none-ne-some}
 use Rattle.std.specs.Prelude.{◌≤◌}
-use Rattle.definitions.specs.Basics.{ℕ, zero, suc, min, ◌≡◌, Option, none, some, option_get_or}
-use Rattle.definitions.specs.Basics.{List, [], ◌∷◌, map, get_or, sum}
+use Rattle.definitions.specs.Basics.{ℕ, zero, suc, min, Option, none, some, option_get_or}
+use Rattle.definitions.specs.Basics.{List, [], map, get_or, sum}
 use Rattle.definitions.specs.Syntax.{Table, Region}
 use Rattle.definitions.specs.Plans.{Plan, entry_for, cost_over}
 use Rattle.theorems.specs.Sums.{Halves, halves}

@@ -1,10 +1,10 @@
 -- The branches of a walk: where they begin and end, what stands below one more bed, and what none of their rows comes before.
-use Rattle.std.proofs.Common.{sym, ap, ◌∙◌, inl, inr, zero-add, add-zero, arith, eqb-true, eq-eqb, length-set, get_or-set_same, get_or-set_other}
+use Rattle.std.proofs.Common.{sym, ap, ◌∙◌, inl, inr, zero-add, add-zero, arith, eqb-true, eq-eqb, length-set, get_or-set_same, get_or-set_other, ◌+◌, ◌<◌, ◌≡◌}
 use Rattle.std.specs.Prelude.{◌↔◌, set, ◌≤◌}
 use Rattle.std.proofs.Math.Option.{none-ne-some}
 use Rattle.std.proofs.lemmas.Bool.{eqb-false}
 use Rattle.std.proofs.lemmas.List.{length-replicate}
-use Rattle.definitions.specs.Basics.{ℕ, ◌+◌, ◌<◌, ◌≡◌, refl, Bool, true, false, eqb, none, some, List, length}
+use Rattle.definitions.specs.Basics.{ℕ, refl, Bool, true, false, eqb, none, some, List, length}
 use Rattle.definitions.specs.Syntax.{Region, patient_at}
 use Rattle.definitions.specs.Plans.{Plan, bed_of, cost_over, Row}
 use Rattle.theorems.specs.List.{row_order}

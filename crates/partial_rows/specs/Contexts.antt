@@ -1,6 +1,6 @@
 -- What the rows of a set depend on: its context, the beds placed for members of its tables.
-use Rattle.std.proofs.Common.{◌∙◌, arith}
-use Rattle.definitions.specs.Basics.{ℕ, ◌≡◌, true}
+use Rattle.std.proofs.Common.{◌∙◌, arith, ◌≡◌}
+use Rattle.definitions.specs.Basics.{ℕ, true}
 use Rattle.definitions.specs.Syntax.{Table, Region}
 use Rattle.definitions.specs.Plans.{Plan, bed_of, constraints, Row}
 use Rattle.lists.specs.Members.{◌∈◌}

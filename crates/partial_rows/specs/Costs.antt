@@ -1,6 +1,6 @@
 -- What a sum over tables depends on, and how the tables of a set fall into those of two parts.
-use Rattle.std.proofs.Common.{ap, ap₂, ◌∙◌}
-use Rattle.definitions.specs.Basics.{ℕ, ◌≡◌, refl, Bool, true, false, not, ◌&&◌, ◌||◌, none, option_map, List, [], ◌∷◌, get_or, sum, keep, any}
+use Rattle.std.proofs.Common.{ap, ap₂, ◌∙◌, ◌≡◌, ◌&&◌, ◌||◌, ◌∷◌}
+use Rattle.definitions.specs.Basics.{ℕ, refl, Bool, true, false, not, none, option_map, List, [], get_or, sum, keep, any}
 use Rattle.definitions.specs.Syntax.{Table, Region, patient_at}
 use Rattle.definitions.specs.Plans.{Plan, bed_of, place, entry_for, cost_over, constraints}
 use Rattle.lists.specs.Members.{◌∈◌}

@@ -1,9 +1,9 @@
 -- Rows of 32 beds in which those who are no patients have bed 0, and the same rows without that padding.
-use Rattle.std.proofs.Common.{sym, ap, ap₂, ◌∙◌, arith, length-append, take-append-drop, length-take-le, take_at, drop_at, get_or-drop}
+use Rattle.std.proofs.Common.{sym, ap, ap₂, ◌∙◌, arith, length-append, take-append-drop, length-take-le, take_at, drop_at, get_or-drop, ◌+◌, ◌-◌, ◌≡◌, ◌∷◌, ◌++◌}
 use Rattle.std.specs.Prelude.{drop, ◌≤◌}
 use Rattle.std.proofs.lemmas.List.{length-replicate}
-use Rattle.definitions.specs.Basics.{ℕ, zero, suc, ◌+◌, ◌-◌, compare, Ordering, ordering_eq, ◌≡◌, refl}
-use Rattle.definitions.specs.Basics.{List, [], ◌∷◌, ◌++◌, length, take, replicate, eqb, same}
+use Rattle.definitions.specs.Basics.{ℕ, zero, suc, compare, Ordering, ordering_eq, refl}
+use Rattle.definitions.specs.Basics.{List, [], length, take, replicate, eqb, same}
 use Rattle.definitions.specs.Plans.{bed_of, then_by, compare_beds, Row, compare_rows}
 use Rattle.definitions.specs.Sheets.{same_beds}
 use Rattle.ranking.specs.Orders.{View, before, equal, after, ListLt, list_view, list_irrefl}

@@ -1,9 +1,9 @@
 -- Two parts that no table joins: the rows of both together are the sums of a row of each, so the first of them come from the first of each.
-use Rattle.std.proofs.Common.{sym, ◌∙◌, inl, inr, true≢false, arith}
+use Rattle.std.proofs.Common.{sym, ◌∙◌, inl, inr, true≢false, arith, ◌+◌, ◌≡◌, ◌&&◌}
 use Rattle.std.proofs.Math.Path.{ap}
 use Rattle.std.specs.Prelude.{◌↔◌, ◌≤◌}
 use Rattle.std.proofs.Math.Bool.{not-eq-not}
-use Rattle.definitions.specs.Basics.{ℕ, ◌+◌, ◌≡◌, refl, Bool, true, false, not, ◌&&◌, List, length, take, sort}
+use Rattle.definitions.specs.Basics.{ℕ, refl, Bool, true, false, not, List, length, take, sort}
 use Rattle.definitions.specs.Syntax.{Table, Region}
 use Rattle.definitions.specs.Plans.{Plan, bed_of, constraints, Row, compare_rows}
 use Rattle.lists.specs.Members.{◌∈◌}

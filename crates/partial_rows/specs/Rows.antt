@@ -1,6 +1,6 @@
 -- Rows of a set of patients, given the beds of the patients that are placed already; branches of a walk; lower bounds.
-use Rattle.std.specs.Prelude.{set, ◌≤◌}
-use Rattle.definitions.specs.Basics.{ℕ, ◌+◌, ◌<◌, ◌≡◌, Bool, true, false, not, ◌&&◌, ◌||◌, cond, some, List, map, length, replicate, any, keep}
+use Rattle.std.specs.Prelude.{set, ◌≤◌, ◌+◌, ◌<◌, ◌≡◌, ◌&&◌, ◌||◌}
+use Rattle.definitions.specs.Basics.{ℕ, Bool, true, false, not, cond, some, List, map, length, replicate, any, keep}
 use Rattle.definitions.specs.Syntax.{Table, Region, patient_numbers, patient_at}
 use Rattle.definitions.specs.Plans.{Plan, bed_of, cost_over, constraints, Row}
 use Rattle.lists.specs.Members.{◌∈◌}

@@ -1,6 +1,6 @@
 -- Sets of patients, and sets that are split in two.
-use Rattle.std.proofs.Common.{sym, true≢false, eqb-true}
-use Rattle.definitions.specs.Basics.{ℕ, ◌≡◌, refl, Bool, true, false, not, ◌&&◌, eqb}
+use Rattle.std.proofs.Common.{sym, true≢false, eqb-true, ◌≡◌, ◌&&◌}
+use Rattle.definitions.specs.Basics.{ℕ, refl, Bool, true, false, not, eqb}
 
 -- A set of patients: is a number in it?
 abbrev pub Patients : Type 0

@@ -1,10 +1,10 @@
 -- A row of a set that is split is a step in the first part and a row of the second part below it.
-use Rattle.std.proofs.Common.{sym, ap₂, ◌∙◌, true≢false, arith}
+use Rattle.std.proofs.Common.{sym, ap₂, ◌∙◌, true≢false, arith, ◌+◌, ◌≡◌, ◌&&◌}
 use Rattle.std.proofs.Math.Path.{ap}
 use Rattle.std.specs.Prelude.{◌↔◌}
 use Rattle.std.proofs.Math.Bool.{not-eq-not}
 use Rattle.std.proofs.lemmas.Bool.{not-true}
-use Rattle.definitions.specs.Basics.{ℕ, ◌+◌, ◌≡◌, true, false, not, ◌&&◌, Option, some, List}
+use Rattle.definitions.specs.Basics.{ℕ, true, false, not, Option, some, List}
 use Rattle.definitions.specs.Syntax.{Table, Region}
 use Rattle.definitions.specs.Plans.{Plan, bed_of, cost_over, constraints, Row}
 use Rattle.lists.specs.Tests.{both}

@@ -1,10 +1,10 @@
 -- The trees of the forest that the parents make: no table joins two of them, so their rows may be found one tree after another.
-use Rattle.std.proofs.Common.{sym, ap, ◌∙◌, true≢false, arith, ltb-true, lt-ltb, le-ltb, eq-eqb, ne_eqb}
+use Rattle.std.proofs.Common.{sym, ap, ◌∙◌, true≢false, arith, ltb-true, lt-ltb, le-ltb, eq-eqb, ne_eqb, ◌<◌, ◌≡◌, ◌||◌, ◌∷◌}
 use Rattle.std.proofs.Math.Logic.{inl, inr}
 use Rattle.std.proofs.Math.Bool.{not-eq-not}
 use Rattle.std.proofs.Math.Option.{none-ne-some}
 use Rattle.std.specs.Prelude.{◌≤◌}
-use Rattle.definitions.specs.Basics.{ℕ, zero, suc, ◌<◌, Ordering, ◌≡◌, refl, Bool, true, false, ◌||◌, Option, none, some, List, [], ◌∷◌, length}
+use Rattle.definitions.specs.Basics.{ℕ, zero, suc, Ordering, refl, Bool, true, false, Option, none, some, List, [], length}
 use Rattle.definitions.specs.Basics.{eqb, ltb}
 use Rattle.definitions.specs.Syntax.{Table, Region, patient_at}
 use Rattle.definitions.specs.Plans.{constraints}

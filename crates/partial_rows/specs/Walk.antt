@@ -1,9 +1,9 @@
 -- The moves of a walk: how the list of the first m rows found so far grows, bed by bed, by the rows of a branch.
 use Rattle.std.specs.Prelude.{◌⊎◌, ◌↔◌, set, ◌≤◌}
-use Rattle.std.proofs.Common.{inl, inr, eq-or-lt_of_le, arith}
+use Rattle.std.proofs.Common.{inl, inr, eq-or-lt_of_le, arith, ◌+◌, ◌<◌, ◌≡◌}
 use Rattle.std.proofs.Math.Decide.{dec_lt}
 use Rattle.std.proofs.lemmas.List.{length-replicate}
-use Rattle.definitions.specs.Basics.{ℕ, suc, ◌+◌, ◌<◌, ◌≡◌, refl, true, false, none, some, List, [], length, get_or, take, insert}
+use Rattle.definitions.specs.Basics.{ℕ, suc, refl, true, false, none, some, List, [], length, get_or, take, insert}
 use Rattle.definitions.specs.Syntax.{Region, patient_at}
 use Rattle.definitions.specs.Plans.{Plan, bed_of, cost_over, Row, compare_rows}
 use Rattle.ranking.specs.First.{First, first_iff}

@@ -1,7 +1,7 @@
 -- The two ends: the rows of the whole region are what its list may hold, and of no patients there is one row.
-use Rattle.std.proofs.Common.{sym, ◌∙◌, true≢false, arith}
+use Rattle.std.proofs.Common.{sym, ◌∙◌, true≢false, arith, ◌<◌, ◌≡◌}
 use Rattle.std.specs.Prelude.{◌↔◌}
-use Rattle.definitions.specs.Basics.{ℕ, ◌<◌, ◌≡◌, refl, true, false, List, [], length}
+use Rattle.definitions.specs.Basics.{ℕ, refl, true, false, List, [], length}
 use Rattle.definitions.specs.Syntax.{Table, Region}
 use Rattle.definitions.specs.Plans.{Plan, cost_over, constraints, total, Row, list_of}
 use Rattle.lists.specs.Members.{◌∈◌}

@@ -1,14 +1,14 @@
 -- The laws of sets of patients, in terms of `in_set` and `members` alone.
 use Rattle.std.specs.Prelude.{◌≡◌, refl, ◌≤◌}
 use Rattle.std.proofs.Math.Path.{sym, ap, fun_ext}
-use Rattle.std.proofs.Common.{ap₂, ◌∙◌, subst, suc-le-suc, mod-lt, div-add-mod', zero-lt-suc, div-one, le_trans, add-one, one-add, arith, shr-shr, shr_lt, pow_mono, ltb-true, eq-eqb, ne_eqb}
+use Rattle.std.proofs.Common.{ap₂, ◌∙◌, subst, suc-le-suc, mod-lt, div-add-mod', zero-lt-suc, div-one, le_trans, add-one, one-add, arith, shr-shr, shr_lt, pow_mono, ltb-true, eq-eqb, ne_eqb, ◌+◌, ◌-◌, ◌*◌, ◌/◌, ◌%◌, ◌^◌, ◌<◌, ◌&&◌, ◌∷◌}
 use Rattle.std.proofs.lemmas.Bool.{false≢true}
 use Rattle.std.proofs.Math.Bool.{and-false}
 use Rattle.std.proofs.Math.Nat.{div-eq_of_lt}
 use Rattle.std.proofs.Math.Decide.{dec_lt}
 use Rattle.std.proofs.Math.Arith.{lt-one}
 use Rattle.std.proofs.Math.Dec.{eqb-suc-zero}
-use Rattle.definitions.specs.Basics.{ℕ, zero, suc, ◌+◌, ◌-◌, ◌*◌, ◌/◌, ◌%◌, ◌^◌, ◌<◌, Bool, true, false, not, ◌&&◌, cond, List, [], ◌∷◌, eqb, ltb, length, is_empty, every, every_two, keep, contains, below}
+use Rattle.definitions.specs.Basics.{ℕ, zero, suc, Bool, true, false, not, cond, List, [], eqb, ltb, length, is_empty, every, every_two, keep, contains, below}
 use Rattle.patient_set.specs.Sets.{in_set, members, first}
 use Rattle.lists.specs.Members.{here}
 use Rattle.lists.specs.Every.{contains_in, every_contains}

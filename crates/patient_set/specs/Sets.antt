@@ -1,5 +1,6 @@
 -- What a 32-bit word says of patients: patient p is in the set w where bit p of w is 1.
-use Rattle.definitions.specs.Basics.{ℕ, ◌/◌, ◌%◌, ◌^◌, Bool, List, [], ◌∷◌, eqb, keep, below}
+use Rattle.std.specs.Prelude.{◌/◌, ◌%◌, ◌^◌, ◌∷◌}
+use Rattle.definitions.specs.Basics.{ℕ, Bool, List, [], eqb, keep, below}
 
 -- Is patient p in the set w?
 abbrev pub in_set : ℕ → ℕ → Bool

@@ -1,8 +1,8 @@
 // Sets of patients, as 32-bit words: patient p is in the set where bit p is 1.
 #![tactic(auto)]
 
-ghost use Rattle.std.specs.Prelude.{◌≡◌, ℕ, ◌<◌, ◌≤◌};
-ghost use Rattle.definitions.specs.Basics.{eqb, ltb, not, ◌&&◌, ◌||◌, option_get_or, length, is_empty};
+ghost use Rattle.std.specs.Prelude.{◌≡◌, ℕ, ◌<◌, ◌≤◌, ◌&&◌, ◌||◌};
+ghost use Rattle.definitions.specs.Basics.{eqb, ltb, not, option_get_or, length, is_empty};
 ghost use Rattle.definitions.specs.Parents.{last};
 ghost use Rattle.patient_set.specs.Sets.{in_set, members, first};
 

@@ -3,7 +3,8 @@ use mathlib.Core.Path.{◌≡◌, ap, ◌∙◌}
 use Prim.Native.Nat.{◌≤◌}
 use native.Mathlib.Omega.{arith}
 use lib.ListN.{take, drop, length-take, length-drop}
-use Rattle.definitions.specs.Basics.{ℕ, ◌+◌, ◌-◌, List, length}
+use Rattle.std.specs.Prelude.{◌+◌, ◌-◌}
+use Rattle.definitions.specs.Basics.{ℕ, List, length}
 use Rattle.definitions.specs.Lookup.{LineOutcome, line_outcome, part_of}
 use Rattle.theorems.specs.Lookup.{part_within}
 use Rattle.line_finder.specs.declared.FoundLine.{FoundLine}

@@ -7,7 +7,8 @@ use native.Mathlib.Omega.{arith}
 use lib.ListN.{set, length-set}
 use lib.Seq.{get_or-set_same, get_or-set_other}
 use borrow.Author.Tests.{eqb-true, eqb-false}
-use Rattle.definitions.specs.Basics.{ℕ, ◌+◌, ◌<◌, Bool, true, false, cond, List, length, get_or, eqb}
+use Rattle.std.specs.Prelude.{◌+◌, ◌<◌}
+use Rattle.definitions.specs.Basics.{ℕ, Bool, true, false, cond, List, length, get_or, eqb}
 use Rattle.theorems.specs.Sums.{plus, plus_none}
 use Rattle.held_region.specs.Meaning.{mark, said_by}
 use Rattle.pricing.specs.Pricing.{no_sum, sum_in}

@@ -3,7 +3,8 @@ use mathlib.Core.Path.{◌≡◌, sym, ap, ◌∙◌, subst}
 use Prim.Native.Nat.{◌≤◌}
 use native.Mathlib.Omega.{arith}
 use lib.ListN.{set, get_or-replicate}
-use Rattle.definitions.specs.Basics.{ℕ, ◌+◌, ◌*◌, ◌<◌, some, List, length, get_or}
+use Rattle.std.specs.Prelude.{◌+◌, ◌*◌, ◌<◌}
+use Rattle.definitions.specs.Basics.{ℕ, some, List, length, get_or}
 use Rattle.definitions.specs.Syntax.{Region, patient_at}
 use Rattle.theorems.specs.Sums.{plus, halves}
 use Rattle.theorems.specs.Accepted.{beds_few}

@@ -4,7 +4,8 @@ use mathlib.Core.Option.{none-ne-some}
 use Prim.Native.Nat.{◌≤◌}
 use lib.ListN.{set}
 use native.Mathlib.Omega.{arith}
-use Rattle.definitions.specs.Basics.{ℕ, suc, ◌+◌, ◌*◌, ◌<◌, true, Option, some, List, [], ◌∷◌, length, get_or}
+use Rattle.std.specs.Prelude.{◌+◌, ◌*◌, ◌<◌, ◌∷◌}
+use Rattle.definitions.specs.Basics.{ℕ, suc, true, Option, some, List, [], length, get_or}
 use Rattle.definitions.specs.Syntax.{Table, Region}
 use Rattle.definitions.specs.Plans.{Plan, entry_for, cost_over}
 use Rattle.theorems.specs.Accepted.{most_total}

@@ -4,7 +4,8 @@ use Prim.Native.Nat.{◌≤◌}
 use native.Mathlib.Omega.{arith}
 use borrow.Author.Tests.{le-leb, lt-leb}
 use lib.Seq.{get_or-take}
-use Rattle.definitions.specs.Basics.{ℕ, ◌<◌, Bool, true, false, ◌&&◌, cond, none, List, length, take, leb, ltb, below, every}
+use Rattle.std.specs.Prelude.{◌<◌, ◌&&◌}
+use Rattle.definitions.specs.Basics.{ℕ, Bool, true, false, cond, none, List, length, take, leb, ltb, below, every}
 use Rattle.definitions.specs.Syntax.{Region, patient_at}
 use Rattle.definitions.specs.Plans.{Plan, bed_of, cost_over, total}
 use Rattle.lists.specs.Below.{same_tests}

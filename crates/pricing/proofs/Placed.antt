@@ -6,7 +6,8 @@ use native.Mathlib.Omega.{arith}
 use lib.ListN.{set, length-take}
 use lib.Seq.{ext_get_or, get_or-take, get_or-set_same, get_or-set_other}
 use borrow.Author.Tests.{eq-eqb, ne_eqb, lt-ltb, le-ltb}
-use Rattle.definitions.specs.Basics.{ℕ, ◌+◌, ◌<◌, Bool, true, false, ◌&&◌, List, length, get_or, take, eqb, ltb, below, every}
+use Rattle.std.specs.Prelude.{◌+◌, ◌<◌, ◌&&◌}
+use Rattle.definitions.specs.Basics.{ℕ, Bool, true, false, List, length, get_or, take, eqb, ltb, below, every}
 use Rattle.definitions.specs.Syntax.{patient_at}
 use Rattle.definitions.specs.Plans.{bed_of}
 use Rattle.definitions.specs.Questions.{plan_fits}

@@ -2,7 +2,8 @@
 use mathlib.Core.Path.{◌≡◌, sym, ap, ap₂, ◌∙◌}
 use native.Mathlib.Omega.{arith}
 use native.Mathlib.Nat.{add_assoc, add-zero, mul-le-mul}
-use Rattle.definitions.specs.Basics.{ℕ, ◌+◌, ◌*◌, ◌<◌, List, map, sum, below}
+use Rattle.std.specs.Prelude.{◌+◌, ◌*◌, ◌<◌}
+use Rattle.definitions.specs.Basics.{ℕ, List, map, sum, below}
 use Rattle.definitions.specs.Plans.{bed_of}
 use Rattle.bucket_words.specs.Words.{start_at, member_at, stride_at}
 use Rattle.buckets.specs.Terms.{place_at}

@@ -6,7 +6,8 @@ use Prim.Native.Nat.{◌≤◌}
 use native.Mathlib.Omega.{arith}
 use borrow.Author.Tests.{lt-ltb, le-ltb, le-leb, lt-leb, leb-true, eq-eqb, ne_eqb}
 use lib.Seq.{get_or-take}
-use Rattle.definitions.specs.Basics.{ℕ, ◌+◌, ◌*◌, ◌<◌, Ordering, Option, none, some, List, length, get_or, take, eqb, ltb, leb, keep}
+use Rattle.std.specs.Prelude.{◌+◌, ◌*◌, ◌<◌}
+use Rattle.definitions.specs.Basics.{ℕ, Ordering, Option, none, some, List, length, get_or, take, eqb, ltb, leb, keep}
 use Rattle.definitions.specs.Syntax.{Region}
 use Rattle.definitions.specs.Plans.{Plan, cost_over}
 use Rattle.lists.specs.Members.{get_d_in}

@@ -1,6 +1,6 @@
 -- What the costs of a patient's beds ask for and give.
-use Rattle.std.specs.Prelude.{◌≤◌, set}
-use Rattle.definitions.specs.Basics.{ℕ, ◌+◌, ◌*◌, ◌<◌, ◌≡◌, some, List, length, get_or, replicate}
+use Rattle.std.specs.Prelude.{◌≤◌, set, ◌+◌, ◌*◌, ◌<◌, ◌≡◌}
+use Rattle.definitions.specs.Basics.{ℕ, some, List, length, get_or, replicate}
 use Rattle.definitions.specs.Syntax.{Region}
 use Rattle.definitions.specs.Plans.{Plan, cost_over}
 use Rattle.theorems.specs.Accepted.{most_total}

@@ -1,8 +1,8 @@
 -- Laws of sums of which some entries may be forbidden, and of plans with one more bed.
 use Rattle.std.specs.Prelude.{◌≡◌, refl, ◌≤◌, set}
-use Rattle.std.proofs.Common.{sym, ap, arith, get_or-set_same, get_or-set_other, ne_eqb, eqb-true, lt-ltb, le-ltb}
+use Rattle.std.proofs.Common.{sym, ap, arith, get_or-set_same, get_or-set_other, ne_eqb, eqb-true, lt-ltb, le-ltb, ◌<◌}
 use Rattle.std.proofs.lemmas.Bool.{eqb-false}
-use Rattle.definitions.specs.Basics.{ℕ, ◌<◌, Bool, true, false, cond, Option, none, some, length, eqb}
+use Rattle.definitions.specs.Basics.{ℕ, Bool, true, false, cond, Option, none, some, length, eqb}
 use Rattle.definitions.specs.Syntax.{Region, patient_at}
 use Rattle.definitions.specs.Plans.{Plan, bed_of}
 use Rattle.held_region.specs.Meaning.{mark, code_of, said_by}

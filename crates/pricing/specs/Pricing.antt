@@ -1,6 +1,6 @@
 -- What pricing asks for and gives.
-use Rattle.std.specs.Prelude.{◌≤◌}
-use Rattle.definitions.specs.Basics.{ℕ, ◌<◌, ◌≡◌, Bool, ◌&&◌, cond, Option, none, some, List, length, take, leb, ltb}
+use Rattle.std.specs.Prelude.{◌≤◌, ◌<◌, ◌≡◌, ◌&&◌}
+use Rattle.definitions.specs.Basics.{ℕ, Bool, cond, Option, none, some, List, length, take, leb, ltb}
 use Rattle.definitions.specs.Syntax.{Region, patient_at}
 use Rattle.definitions.specs.Questions.{plan_fits}
 use Rattle.definitions.specs.Plans.{bed_of, cost_over, total}

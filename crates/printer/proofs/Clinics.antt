@@ -1,7 +1,8 @@
 -- A clinic's sheet: nothing where the clinic has no patients, or the rows from the second part of the work area.
 use mathlib.Core.Path.{◌≡◌, refl, sym, ap, ◌∙◌}
 use native.Mathlib.Omega.{arith}
-use Rattle.definitions.specs.Basics.{ℕ, Bool, true, false, not, cond, List, [], ◌∷◌, length, is_empty, text}
+use Rattle.std.specs.Prelude.{◌∷◌}
+use Rattle.definitions.specs.Basics.{ℕ, Bool, true, false, not, cond, List, [], length, is_empty, text}
 use Rattle.definitions.specs.Syntax.{Region}
 use Rattle.definitions.specs.Spelling.{decimal}
 use Rattle.definitions.specs.Plans.{Row}

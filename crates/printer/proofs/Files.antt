@@ -3,7 +3,8 @@ use mathlib.Core.Path.{◌≡◌, refl, sym, ap, ◌∙◌}
 use native.Mathlib.Omega.{arith}
 use Prim.Native.Nat.{◌≤◌}
 use borrow.Author.Tests.{le-leb, lt-leb}
-use Rattle.definitions.specs.Basics.{ℕ, zero, suc, ◌<◌, true, List, [], ◌∷◌, length, sets, text}
+use Rattle.std.specs.Prelude.{◌<◌, ◌∷◌}
+use Rattle.definitions.specs.Basics.{ℕ, zero, suc, true, List, [], length, sets, text}
 use Rattle.definitions.specs.Spelling.{decimal, line}
 use Rattle.definitions.specs.Questions.{region_of, asked_by_list, check_of, plan_allowed}
 use Rattle.definitions.specs.Output.{printed_answer, printed}

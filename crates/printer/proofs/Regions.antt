@@ -2,7 +2,8 @@
 use mathlib.Core.Path.{◌≡◌, sym, ap, ◌∙◌}
 use native.Mathlib.Omega.{arith}
 use Prim.Native.Nat.{◌≤◌}
-use Rattle.definitions.specs.Basics.{ℕ, List, [], ◌∷◌, length, text}
+use Rattle.std.specs.Prelude.{◌∷◌}
+use Rattle.definitions.specs.Basics.{ℕ, List, [], length, text}
 use Rattle.definitions.specs.Syntax.{Region}
 use Rattle.definitions.specs.Spelling.{decimal, line}
 use Rattle.definitions.specs.Plans.{Row, list_of}

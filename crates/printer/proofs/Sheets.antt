@@ -3,7 +3,8 @@ use mathlib.Core.Path.{refl, sym, ◌∙◌}
 use mathlib.Core.List.{append-nil}
 use native.Mathlib.Omega.{arith}
 use Prim.Native.Nat.{◌≤◌}
-use Rattle.definitions.specs.Basics.{ℕ, ◌+◌, ◌<◌, List, [], ◌∷◌, flatten}
+use Rattle.std.specs.Prelude.{◌+◌, ◌<◌, ◌∷◌}
+use Rattle.definitions.specs.Basics.{ℕ, List, [], flatten}
 use Rattle.definitions.specs.Syntax.{Region}
 use Rattle.held_region.specs.declared.Region as Code
 use Rattle.held_region.specs.Meaning.{said}

@@ -4,7 +4,8 @@ use mathlib.Core.List.{append_assoc, append-nil}
 use native.Mathlib.Numerals.{add-one}
 use native.Mathlib.Omega.{arith}
 use Prim.Native.Nat.{◌≤◌}
-use Rattle.definitions.specs.Basics.{ℕ, suc, ◌+◌, ◌-◌, ◌<◌, Bool, true, false, cond, List, [], ◌∷◌, ◌++◌, flat_map, flatten, numbers_from, below, keep, text}
+use Rattle.std.specs.Prelude.{◌+◌, ◌-◌, ◌<◌, ◌∷◌, ◌++◌}
+use Rattle.definitions.specs.Basics.{ℕ, suc, Bool, true, false, cond, List, [], flat_map, flatten, numbers_from, below, keep, text}
 use Rattle.definitions.specs.Limits.{limits}
 use Rattle.definitions.specs.Syntax.{Region}
 use Rattle.definitions.specs.Spelling.{decimal, line}

@@ -1,6 +1,6 @@
 -- The parts of a region's text: what is asked and what is given.
-use Rattle.std.specs.Prelude.{◌≤◌}
-use Rattle.definitions.specs.Basics.{ℕ, suc, ◌-◌, ◌≡◌, cond, List, [], ◌∷◌, flat_map, length, numbers_from, text}
+use Rattle.std.specs.Prelude.{◌≤◌, ◌-◌, ◌≡◌, ◌∷◌}
+use Rattle.definitions.specs.Basics.{ℕ, suc, cond, List, [], flat_map, length, numbers_from, text}
 use Rattle.definitions.specs.Limits.{limits, clinic}
 use Rattle.definitions.specs.Syntax.{Region}
 use Rattle.definitions.specs.Spelling.{decimal}

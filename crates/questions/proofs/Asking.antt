@@ -2,7 +2,8 @@
 use mathlib.Core.Path.{◌≡◌, sym, ap, ◌∙◌}
 use Prim.Native.Nat.{◌≤◌}
 use native.Mathlib.Omega.{arith}
-use Rattle.definitions.specs.Basics.{ℕ, Bool, true, false, not, ◌&&◌, ◌||◌, List}
+use Rattle.std.specs.Prelude.{◌&&◌, ◌||◌}
+use Rattle.definitions.specs.Basics.{ℕ, Bool, true, false, not, List}
 use Rattle.definitions.specs.Syntax.{Region}
 use Rattle.definitions.specs.Questions.{first_no, counts_within, patients_within, parents_smaller, members_right, entry_counts_right, entries_within, members_related}
 use Rattle.held_region.specs.declared.Region as Held

@@ -1,6 +1,6 @@
 // Questions 5 to 7, asked of a held region: whatever its store says, the answers are the same.
-ghost use Rattle.std.specs.Prelude.{◌≡◌, ◌≤◌};
-ghost use Rattle.definitions.specs.Basics.{ℕ, List, not, ◌&&◌, ◌||◌};
+ghost use Rattle.std.specs.Prelude.{◌≡◌, ◌≤◌, ◌&&◌, ◌||◌};
+ghost use Rattle.definitions.specs.Basics.{ℕ, List, not};
 ghost use Rattle.definitions.specs.Questions.{counts_within, patients_within, parents_smaller, members_right};
 ghost use Rattle.held_region.specs.Meaning.{optional, patient_of, members_of, said};
 ghost use Rattle.held_region.specs.Members.{members_fit, rises_from};

@@ -1,9 +1,9 @@
 -- Things made of two independent parts: the first m of all combinations need only the first m of each part.
-use Rattle.std.proofs.Common.{ap, ◌∙◌, arith}
+use Rattle.std.proofs.Common.{ap, ◌∙◌, arith, ◌≡◌, ◌∷◌}
 use Rattle.std.proofs.Math.Logic.{inl, inr}
 use Rattle.std.specs.Prelude.{◌↔◌, ◌≤◌}
 use Rattle.std.proofs.lemmas.List.{length-map}
-use Rattle.definitions.specs.Basics.{ℕ, ◌≡◌, refl, List, [], ◌∷◌, map, flat_map, take, sort}
+use Rattle.definitions.specs.Basics.{ℕ, refl, List, [], map, flat_map, take, sort}
 use Rattle.lists.specs.Members.{◌∈◌, ◌⊆◌, Distinct, Enumerates, distinct_append, distinct_map, here, there, here_or_there, none_in_nil, in_append_left, in_append_right, in_append_cases, in_map, in_map_cases, in_cast}
 use Rattle.ranking.specs.Orders.{Order}
 use Rattle.ranking.specs.First.{First, FullBefore, Covered, sorted_distinct, first_covered}

@@ -1,7 +1,7 @@
 -- The first m things of a set in a strict total order: what that means, how the set may change under the list, and that the set determines the list.
-use Rattle.std.proofs.Common.{sym, ap₂, inl, inr, arith}
+use Rattle.std.proofs.Common.{sym, ap₂, inl, inr, arith, ◌≡◌, ◌∷◌}
 use Rattle.std.specs.Prelude.{◌⊎◌, ◌↔◌, ◌≤◌}
-use Rattle.definitions.specs.Basics.{ℕ, zero, suc, Ordering, ◌≡◌, refl, List, [], ◌∷◌, length, get_or, take}
+use Rattle.definitions.specs.Basics.{ℕ, zero, suc, Ordering, refl, List, [], length, get_or, take}
 use Rattle.lists.specs.Members.{◌∈◌, ◌⊆◌, get_d_in, Distinct, here, there, here_or_there, none_in_nil}
 use Rattle.ranking.specs.Orders.{Order, View, before, equal, after}
 

@@ -1,7 +1,7 @@
 -- What first comes in a list: of the images of its elements, and of a beginning of it.
 use Rattle.std.specs.Prelude.{◌≡◌, refl, ◌≤◌}
-use Rattle.std.proofs.Common.{sym, ap, ◌∙◌, inl, inr, arith}
-use Rattle.definitions.specs.Basics.{suc, Bool, true, false, List, [], ◌∷◌, ◌++◌, map, length, any, first_occurrences}
+use Rattle.std.proofs.Common.{sym, ap, ◌∙◌, inl, inr, arith, ◌∷◌, ◌++◌}
+use Rattle.definitions.specs.Basics.{suc, Bool, true, false, List, [], map, length, any, first_occurrences}
 use Rattle.lists.specs.Members.{◌∈◌, here, there, here_or_there}
 use Rattle.lists.specs.Every.{any_in, any_out}
 use Rattle.ranking.specs.Occurrences.{Tests}

@@ -1,7 +1,7 @@
 -- A list of the first m things that grows by the things of one set after another.
 use Rattle.std.specs.Prelude.{◌⊎◌, ◌≤◌}
-use Rattle.std.proofs.Common.{inl, inr, arith}
-use Rattle.definitions.specs.Basics.{ℕ, suc, Ordering, ◌≡◌, List, [], length, get_or, take, insert}
+use Rattle.std.proofs.Common.{inl, inr, arith, ◌≡◌}
+use Rattle.definitions.specs.Basics.{ℕ, suc, Ordering, List, [], length, get_or, take, insert}
 use Rattle.lists.specs.Members.{◌∈◌, ◌⊆◌, none_in_nil}
 use Rattle.ranking.specs.Orders.{Order, View, before, equal, after}
 use Rattle.ranking.specs.First.{Sorted, Covered, First, first_iff, first_cut, first_covered}

@@ -1,7 +1,7 @@
 -- Maps that keep how things compare: what they keep of inserting and sorting, of sorted and rising lists, and of the first m things of a set.
-use Rattle.std.proofs.Common.{sym, ap, ◌∙◌, inl, inr, arith}
+use Rattle.std.proofs.Common.{sym, ap, ◌∙◌, inl, inr, arith, ◌≡◌, ◌∷◌}
 use Rattle.std.proofs.lemmas.List.{length-map}
-use Rattle.definitions.specs.Basics.{ℕ, Ordering, ordering_lt, ordering_eq, ordering_gt, ◌≡◌, refl, List, [], ◌∷◌, map, insert, sort}
+use Rattle.definitions.specs.Basics.{ℕ, Ordering, ordering_lt, ordering_eq, ordering_gt, refl, List, [], map, insert, sort}
 use Rattle.lists.specs.Members.{◌∈◌, here, there, in_map, in_map_cases, in_cast}
 use Rattle.ranking.specs.Orders.{Order, View, before, equal, after}
 use Rattle.ranking.specs.First.{First, Sorted, FullBefore}

@@ -1,7 +1,7 @@
 -- The elements of a list that are the first with their key: what is kept, and in which order, where the list is ranked.
-use Rattle.std.proofs.Common.{sym, ap, ◌∙◌, inl, inr, true≢false, arith}
+use Rattle.std.proofs.Common.{sym, ap, ◌∙◌, inl, inr, true≢false, arith, ◌≡◌, ◌||◌, ◌∷◌, ◌++◌}
 use Rattle.std.specs.Prelude.{◌⊎◌}
-use Rattle.definitions.specs.Basics.{ℕ, zero, suc, ◌≡◌, refl, Bool, true, false, ◌||◌, Ordering, List, [], ◌∷◌, ◌++◌, map, length, any, first_occurrences}
+use Rattle.definitions.specs.Basics.{ℕ, zero, suc, refl, Bool, true, false, Ordering, List, [], map, length, any, first_occurrences}
 use Rattle.lists.specs.Members.{◌∈◌, Distinct, here, there, here_or_there, none_in_nil, in_map_cases, in_cast}
 use Rattle.ranking.specs.Orders.{Order, View, before, equal, after}
 use Rattle.ranking.specs.First.{First, Least, Past, first_zero, first_least, first_tail, first_cons}

@@ -1,8 +1,8 @@
 -- Strict total orders that compute: of numbers, of two parts of which the first decides before the second, of lists.
-use Rattle.std.proofs.Common.{sym, ap, ◌∙◌, inl, inr, arith}
+use Rattle.std.proofs.Common.{sym, ap, ◌∙◌, inl, inr, arith, ◌<◌, ◌≡◌, ◌∷◌}
 use Rattle.std.specs.Prelude.{◌⊎◌}
 use Prim.Native.Nat.{zero-le, suc-le-suc}
-use Rattle.definitions.specs.Basics.{ℕ, zero, suc, ◌<◌, compare, Ordering, ordering_lt, ordering_eq, ordering_gt, ◌≡◌, refl, List, [], ◌∷◌}
+use Rattle.definitions.specs.Basics.{ℕ, zero, suc, compare, Ordering, ordering_lt, ordering_eq, ordering_gt, refl, List, []}
 use Rattle.definitions.specs.Plans.{then_by, compare_beds}
 
 -- The answer of a comparison, with its proof.

@@ -1,7 +1,7 @@
 -- Things made of two independent parts, ranked: their left parts, where each first comes up, are the first left parts.
-use Rattle.std.proofs.Common.{ap, inl, inr}
+use Rattle.std.proofs.Common.{ap, inl, inr, ◌≡◌, ◌∷◌}
 use Rattle.std.specs.Prelude.{◌⊎◌}
-use Rattle.definitions.specs.Basics.{ℕ, suc, ◌≡◌, refl, Bool, List, [], ◌∷◌, map, length, first_occurrences}
+use Rattle.definitions.specs.Basics.{ℕ, suc, refl, Bool, List, [], map, length, first_occurrences}
 use Rattle.lists.specs.Members.{here}
 use Rattle.ranking.specs.Orders.{Order}
 use Rattle.ranking.specs.First.{First, Least, first_zero, first_nil, first_least}

@@ -1,8 +1,8 @@
 -- Lists in which none comes before an earlier one, equal ones allowed: how things are inserted into them.
 use Rattle.std.specs.Prelude.{◌≡◌, refl, ◌≤◌}
-use Rattle.std.proofs.Common.{sym, ap, subst, arith}
+use Rattle.std.proofs.Common.{sym, ap, subst, arith, ◌<◌, ◌∷◌}
 use Rattle.std.proofs.Math.Decide.{dec_lt}
-use Rattle.definitions.specs.Basics.{ℕ, zero, suc, ◌<◌, Ordering, ordering_lt, ordering_eq, ordering_gt, List, [], ◌∷◌, length, get_or, take, insert, sort}
+use Rattle.definitions.specs.Basics.{ℕ, zero, suc, Ordering, ordering_lt, ordering_eq, ordering_gt, List, [], length, get_or, take, insert, sort}
 use Rattle.lists.specs.Members.{◌∈◌, here, there}
 use Rattle.ranking.specs.Orders.{Order, View, before, equal, after}
 use Rattle.ranking.specs.First.{Sorted}

@@ -1,8 +1,8 @@
 -- Sorting by insertion: what it keeps, where a new element goes, and that it finds the first m of a set.
-use Rattle.std.proofs.Common.{sym, ap, ◌∙◌, inl, inr, arith, length-take, take-take}
+use Rattle.std.proofs.Common.{sym, ap, ◌∙◌, inl, inr, arith, length-take, take-take, ◌<◌, ◌≡◌, ◌∷◌, ◌++◌}
 use Rattle.std.specs.Prelude.{◌⊎◌, ◌≤◌, drop}
-use Rattle.definitions.specs.Basics.{ℕ, zero, suc, ◌<◌, min, Ordering, ordering_lt, ordering_eq, ordering_gt}
-use Rattle.definitions.specs.Basics.{◌≡◌, refl, List, [], ◌∷◌, ◌++◌, length, get_or, take, insert, sort}
+use Rattle.definitions.specs.Basics.{ℕ, zero, suc, min, Ordering, ordering_lt, ordering_eq, ordering_gt}
+use Rattle.definitions.specs.Basics.{refl, List, [], length, get_or, take, insert, sort}
 use Rattle.lists.specs.Members.{◌∈◌, ◌⊆◌, Distinct, Enumerates, here, there, here_or_there, none_in_nil}
 use Rattle.ranking.specs.Orders.{Order, View, before, equal, after}
 use Rattle.ranking.specs.First.{First, Past, first_iff, first_zero, first_none, first_nil, first_least, first_tail, first_cons, first_unique, first_take}

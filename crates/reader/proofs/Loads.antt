@@ -6,7 +6,8 @@ use native.Mathlib.Omega.{arith}
 use Prim.Native.Nat.{◌≤◌}
 use borrow.Author.Tests.{leb-true, ltb-true, lt-ltb, eqb-true, eq-eqb, ne_eqb}
 use lib.ListN.{length-take}
-use Rattle.definitions.specs.Basics.{ℕ, Bool, true, false, not, ◌&&◌, Option, none, some, List, [], ◌∷◌, ◌++◌, length, take, eqb, leb, ltb, every, none_or, is_some, is_empty, flatten, drop_last}
+use Rattle.std.specs.Prelude.{◌&&◌, ◌∷◌, ◌++◌}
+use Rattle.definitions.specs.Basics.{ℕ, Bool, true, false, not, Option, none, some, List, [], length, take, eqb, leb, ltb, every, none_or, is_some, is_empty, flatten, drop_last}
 use Rattle.definitions.specs.Limits.{file_length, limits, within}
 use Rattle.definitions.specs.Syntax as Said
 use Rattle.definitions.specs.Layout.{lines, layout}

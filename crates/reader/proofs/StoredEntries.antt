@@ -4,7 +4,8 @@ use Prim.Native.Nat.{◌≤◌}
 use native.Mathlib.Omega.{arith}
 use lib.ListN.{length-append, length-map, get_or-append}
 use lib.Seq.{get_or-append-add}
-use Rattle.definitions.specs.Basics.{ℕ, zero, suc, ◌+◌, ◌<◌, none, List, [], ◌∷◌, map, flat_map, length, get_or}
+use Rattle.std.specs.Prelude.{◌+◌, ◌<◌, ◌∷◌}
+use Rattle.definitions.specs.Basics.{ℕ, zero, suc, none, List, [], map, flat_map, length, get_or}
 use Rattle.definitions.specs.Syntax.{Table}
 use Rattle.lists.specs.Maps.{map_at}
 use Rattle.held_region.specs.Meaning.{code_of}

@@ -1,6 +1,6 @@
 -- A loaded file that is accepted: so is its region.
-use Rattle.std.proofs.Common.{sym, ap, ◌∙◌}
-use Rattle.definitions.specs.Basics.{ℕ, true, ◌≡◌, List}
+use Rattle.std.proofs.Common.{sym, ap, ◌∙◌, ◌≡◌}
+use Rattle.definitions.specs.Basics.{ℕ, true, List}
 use Rattle.definitions.specs.Questions.{check_of}
 use Rattle.theorems.specs.Accepted.{Accepted, accepted}
 use Rattle.held_region.specs.declared.Judged.TheVariants.{Fine}

@@ -1,7 +1,7 @@
 -- What is read and loaded of a file.
-use Rattle.std.proofs.Common.{ap, ◌∙◌}
+use Rattle.std.proofs.Common.{ap, ◌∙◌, ◌≡◌, ◌++◌}
 use Rattle.std.proofs.Math.Bool.{and-true}
-use Rattle.definitions.specs.Basics.{ℕ, Bool, true, false, ◌≡◌, List, ◌++◌, length}
+use Rattle.definitions.specs.Basics.{ℕ, Bool, true, false, List, length}
 use Rattle.definitions.specs.Questions.{Asked, patients_within, first_no, region_of, asked_of_file, asked_to_nine, asked_by_check, check_of}
 use Rattle.definitions.specs.Parents.{asked_to_make}
 use Rattle.held_region.specs.declared.Region.{Region}

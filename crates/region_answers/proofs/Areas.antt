@@ -5,7 +5,8 @@ use Prim.Native.Nat.{◌≤◌}
 use native.Mathlib.Nat.{mul-one}
 use native.Mathlib.Omega.{arith}
 use borrow.Author.Tests.{leb-true}
-use Rattle.definitions.specs.Basics.{ℕ, ◌*◌, ◌<◌, Bool, true, ◌&&◌, List, [], ◌∷◌, length, get_or, replicate, leb}
+use Rattle.std.specs.Prelude.{◌*◌, ◌<◌, ◌&&◌, ◌∷◌}
+use Rattle.definitions.specs.Basics.{ℕ, Bool, true, List, [], length, get_or, replicate, leb}
 use Rattle.definitions.specs.Plans.{Row}
 use Rattle.definitions.specs.Questions.{work_size, room_for_rows, areas_long_enough}
 use Rattle.definitions.specs.Outcomes.{written, outcome_of}

@@ -3,7 +3,8 @@ use mathlib.Core.Path.{◌≡◌, refl, sym, ap, ap₂, ◌∙◌}
 use Prim.Native.Nat.{◌≤◌}
 use native.Mathlib.Omega.{arith}
 use borrow.Author.Tests.{eqb-true}
-use Rattle.definitions.specs.Basics.{ℕ, true, false, Bool, List, [], ◌∷◌, length, take, eqb}
+use Rattle.std.specs.Prelude.{◌∷◌}
+use Rattle.definitions.specs.Basics.{ℕ, true, false, Bool, List, [], length, take, eqb}
 use Rattle.definitions.specs.Syntax as Said
 use Rattle.definitions.specs.Plans.{total}
 use Rattle.definitions.specs.Questions.{first_no, plan_fits}

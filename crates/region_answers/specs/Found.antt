@@ -1,7 +1,7 @@
 -- What list and sheet share: questions after check's, the last of which are 12 and 13, and then rows of one width.
-use Rattle.std.proofs.Common.{sym, ap, ap₂, ◌∙◌, arith}
+use Rattle.std.proofs.Common.{sym, ap, ap₂, ◌∙◌, arith, ◌≡◌, ◌∷◌, ◌++◌}
 use Rattle.std.specs.Prelude.{◌≤◌}
-use Rattle.definitions.specs.Basics.{ℕ, zero, suc, ◌≡◌, refl, Bool, true, false, List, [], ◌∷◌, ◌++◌, length}
+use Rattle.definitions.specs.Basics.{ℕ, zero, suc, refl, Bool, true, false, List, [], length}
 use Rattle.definitions.specs.Syntax.{Region}
 use Rattle.definitions.specs.Plans.{Row}
 use Rattle.definitions.specs.Questions.{Asked, first_no, region_of, asked_by_check, check_of, plan_allowed}

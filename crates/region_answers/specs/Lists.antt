@@ -1,5 +1,6 @@
 -- What list gives of a loaded file.
-use Rattle.definitions.specs.Basics.{◌≡◌, refl, ℕ, List, ◌++◌}
+use Rattle.std.specs.Prelude.{◌≡◌, ◌++◌}
+use Rattle.definitions.specs.Basics.{refl, ℕ, List}
 use Rattle.definitions.specs.Syntax as Said
 use Rattle.definitions.specs.Plans.{list_of}
 use Rattle.definitions.specs.Questions.{entry_asks, region_of, areas_long_enough, asked_by_check, asked_by_list}

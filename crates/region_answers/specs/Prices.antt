@@ -1,7 +1,7 @@
 -- What price gives, of a held region and of a file.
-use Rattle.std.proofs.Common.{sym, ◌∙◌, arith, get_or-take, eqb-true, ltb-true}
+use Rattle.std.proofs.Common.{sym, ◌∙◌, arith, get_or-take, eqb-true, ltb-true, ◌<◌, ◌≡◌, ◌∷◌, ◌++◌}
 use Rattle.std.proofs.Math.Path.{ap}
-use Rattle.definitions.specs.Basics.{ℕ, suc, ◌<◌, ◌≡◌, true, List, [], ◌∷◌, ◌++◌, length, take, eqb}
+use Rattle.definitions.specs.Basics.{ℕ, suc, true, List, [], length, take, eqb}
 use Rattle.definitions.specs.Syntax as Said
 use Rattle.definitions.specs.Plans.{Plan, bed_of, total}
 use Rattle.definitions.specs.Questions.{Asked, first_no, region_of, asked_by_check, check_of, plan_fits}

@@ -1,11 +1,11 @@
 -- Numbers laid in an area part by part: those of a patient, of a table, of an entry, one part behind the other.
 use Rattle.std.specs.Prelude.{◌≡◌, refl, ◌≤◌}
 use Rattle.std.proofs.Math.Path.{sym, ap, ap₂}
-use Rattle.std.proofs.Common.{◌∙◌}
+use Rattle.std.proofs.Common.{◌∙◌, ◌+◌, ◌-◌, ◌*◌, ◌<◌, ◌∷◌, ◌++◌}
 use Rattle.std.proofs.lemmas.Simd.{map-map}
 use native.Mathlib.Omega.{arith}
 use Rattle.std.proofs.Math.ListN.{get_or-eq_default}
-use Rattle.definitions.specs.Basics.{ℕ, zero, suc, ◌+◌, ◌-◌, ◌*◌, ◌<◌, List, [], ◌∷◌, ◌++◌, map, flat_map, length, get_or, numbers_from, below, sets}
+use Rattle.definitions.specs.Basics.{ℕ, zero, suc, List, [], map, flat_map, length, get_or, numbers_from, below, sets}
 use Rattle.definitions.specs.Outcomes.{written}
 use Rattle.definitions.specs.Boundary.{bytes_of, numbers_after, option_number, numbers_of_patient, numbers_of_table, numbers_of_entries}
 use Rattle.lists.specs.Below.{below_next, below_parts, length_by_places, at_place}

@@ -1,7 +1,8 @@
 -- Loops over places that write one line, or one code, after the other.
 use native.Mathlib.Omega.{arith}
 use Prim.Native.Nat.{◌≤◌}
-use Rattle.definitions.specs.Basics.{ℕ, ◌+◌, ◌<◌, List, [], ◌∷◌, map, get_or, below}
+use Rattle.std.specs.Prelude.{◌+◌, ◌<◌, ◌∷◌}
+use Rattle.definitions.specs.Basics.{ℕ, List, [], map, get_or, below}
 use Rattle.lists.specs.Below.{length_by_places, at_place}
 use Rattle.text_writer.specs.Wrote.{Wrote, Left}
 use Rattle.text_writer.specs.Parts.{gap, from_zero, apart_from, part_left, parts_done, lines_from, line_left, lines_done}

@@ -1,9 +1,9 @@
 -- The lines of a held region, in the parts in which they are written.
 use Rattle.std.specs.Prelude.{◌≡◌}
 use Rattle.std.proofs.Math.Path.{sym, ap, ap₂}
-use Rattle.std.proofs.Common.{◌∙◌, append_assoc, append-nil, arith}
+use Rattle.std.proofs.Common.{◌∙◌, append_assoc, append-nil, arith, ◌+◌, ◌&&◌, ◌∷◌, ◌++◌}
 use Rattle.std.proofs.lemmas.Simd.{map-map}
-use Rattle.definitions.specs.Basics.{ℕ, ◌+◌, true, ◌&&◌, Option, none, some, none_or, List, [], ◌∷◌, ◌++◌, map, flat_map, flatten, get_or, below, text, every}
+use Rattle.definitions.specs.Basics.{ℕ, true, Option, none, some, none_or, List, [], map, flat_map, flatten, get_or, below, text, every}
 use Rattle.definitions.specs.Syntax as Said
 use Rattle.definitions.specs.Spelling.{decimal, hyphen_or_decimal, bracketed, line, spell_patient, spell_table, spell_body, spell, spellable}
 use Rattle.definitions.specs.Questions.{checksum}

@@ -1,9 +1,9 @@
 -- What the functions that write an accepted region's lines rely on.
 use Rattle.std.specs.Prelude.{◌≡◌, refl, ◌≤◌}
-use Rattle.std.proofs.Common.{sym, ap, ◌∙◌, arith}
+use Rattle.std.proofs.Common.{sym, ap, ◌∙◌, arith, ◌+◌, ◌<◌, ◌&&◌, ◌∷◌}
 use Rattle.std.proofs.Math.ListN.{length-append}
 use Rattle.std.proofs.lemmas.List.{length-replicate}
-use Rattle.definitions.specs.Basics.{ℕ, suc, ◌+◌, ◌<◌, true, not, ◌&&◌, List, [], ◌∷◌, length, get_or, take, replicate, below, text, every, is_empty}
+use Rattle.definitions.specs.Basics.{ℕ, suc, true, not, List, [], length, get_or, take, replicate, below, text, every, is_empty}
 use Rattle.definitions.specs.Limits.{file_length, limits}
 use Rattle.definitions.specs.Spelling.{decimal, line, spellable, spell_body, spell}
 use Rattle.definitions.specs.Writer.{as_held}

@@ -1,6 +1,6 @@
 // Numbers of which the mark is spelled as a hyphen, and the forms without lists.
-ghost use Rattle.std.specs.Prelude.{◌≤◌};
-ghost use Rattle.definitions.specs.Basics.{◌∷◌, map};
+ghost use Rattle.std.specs.Prelude.{◌≤◌, ◌∷◌};
+ghost use Rattle.definitions.specs.Basics.{map};
 ghost use Rattle.definitions.specs.Spelling.{line};
 ghost use Rattle.text_writer.specs.Wrote.{Room, Wrote};
 ghost use Rattle.text_writer.specs.Parts.{apart};

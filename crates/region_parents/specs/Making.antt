@@ -1,9 +1,9 @@
 -- The patients with their parents made, from the last to the first.
 use Rattle.std.specs.Prelude.{◌≡◌, refl, ◌≤◌, set}
 use Rattle.std.proofs.Math.Path.{sym, ap, ap₂}
-use Rattle.std.proofs.Common.{◌∙◌, arith, length-set, get_or-set_same, get_or-set_other}
+use Rattle.std.proofs.Common.{◌∙◌, arith, length-set, get_or-set_same, get_or-set_other, ◌-◌, ◌<◌, ◌^◌, ◌&&◌, ◌∷◌}
 use Rattle.std.proofs.Math.Decide.{ℕ_discrete}
-use Rattle.definitions.specs.Basics.{ℕ, zero, suc, ◌-◌, ◌<◌, ◌^◌, ◌&&◌, Option, none, List, ◌∷◌, map, length, get_or, ltb, below, contains}
+use Rattle.definitions.specs.Basics.{ℕ, zero, suc, Option, none, List, map, length, get_or, ltb, below, contains}
 use Rattle.definitions.specs.Syntax as Said
 use Rattle.definitions.specs.Syntax.{patient_at}
 use Rattle.definitions.specs.Writer.{region_from, with_sum}

@@ -1,12 +1,12 @@
 -- Neighbours in a graph of groups, as sets of patients.
 use Rattle.std.specs.Prelude.{◌≡◌, refl, ◌≤◌, set, replicate}
-use Rattle.std.proofs.Common.{sym, ap, ap₂, subst, ◌∙◌, arith, get_or-set_same, get_or-set_other, le-ltb, lt-ltb, eq-eqb, ne_eqb}
+use Rattle.std.proofs.Common.{sym, ap, ap₂, subst, ◌∙◌, arith, get_or-set_same, get_or-set_other, le-ltb, lt-ltb, eq-eqb, ne_eqb, ◌+◌, ◌-◌, ◌<◌, ◌^◌, ◌&&◌, ◌||◌, ◌∷◌}
 use Rattle.std.proofs.Math.Bool.{and-true, and-false, or_comm, or-false}
 use Rattle.std.proofs.lemmas.Bool.{false≢true}
 use Rattle.std.proofs.lemmas.Simd.{map-map}
 use Rattle.std.proofs.Math.Decide.{ℕ_discrete}
 use Rattle.std.proofs.lemmas.List.{get_or-replicate}
-use Rattle.definitions.specs.Basics.{ℕ, ◌+◌, ◌-◌, ◌<◌, ◌^◌, Bool, true, false, ◌&&◌, ◌||◌, List, [], ◌∷◌, map, length, get_or, ltb, is_empty, below, any, contains}
+use Rattle.definitions.specs.Basics.{ℕ, Bool, true, false, List, [], map, length, get_or, ltb, is_empty, below, any, contains}
 use Rattle.definitions.specs.Parents.{shared_tables, earlier_neighbours}
 use Rattle.lists.specs.Below.{same_keep}
 use Rattle.lists.specs.Loops.{places_from, places_all, places_next, places_done}

@@ -1,7 +1,8 @@
 -- Clinic numbers: those beyond the limits have no patients, all others are 32-bit numbers.
 use mathlib.Core.Path.{◌≡◌, sym, ◌∙◌}
 use native.Mathlib.Omega.{arith}
-use Rattle.definitions.specs.Basics.{ℕ, ◌<◌, true, false, List}
+use Rattle.std.specs.Prelude.{◌<◌}
+use Rattle.definitions.specs.Basics.{ℕ, true, false, List}
 use Rattle.definitions.specs.Limits.{limits, within, clinic}
 use Rattle.definitions.specs.Syntax.{patients_of}
 use Rattle.theorems.specs.Accepted.{at_most}

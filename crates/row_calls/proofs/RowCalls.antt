@@ -7,7 +7,8 @@ use native.Mathlib.Omega.{arith}
 use borrow.Author.Tests.{le-leb, leb-true}
 use lib.ListN.{length-map, length-take, length-replicate}
 use lib.Seq.{take-append-le}
-use Rattle.definitions.specs.Basics.{ℕ, zero, suc, ◌+◌, ◌*◌, Bool, true, false, ◌&&◌, List, [], ◌∷◌, ◌++◌, map, length, take, replicate, leb}
+use Rattle.std.specs.Prelude.{◌+◌, ◌*◌, ◌&&◌, ◌∷◌, ◌++◌}
+use Rattle.definitions.specs.Basics.{ℕ, zero, suc, Bool, true, false, List, [], map, length, take, replicate, leb}
 use Rattle.definitions.specs.Syntax.{Region, patients_of}
 use Rattle.definitions.specs.Plans.{Row, list_of}
 use Rattle.definitions.specs.Sheets.{sheet_of}

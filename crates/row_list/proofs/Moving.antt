@@ -7,7 +7,8 @@ use native.Mathlib.Omega.{arith}
 use Prim.Native.Nat.{◌≤◌}
 use lib.ListN.{drop, set, length-set, length-append, length-take, length-drop, get_or-append}
 use lib.Seq.{ext_get_or, get_or-set_same, get_or-set_other, get_or-drop, get_or-take, get_or_at, get_or-append-add, length-take-le, take_at, take_all}
-use Rattle.definitions.specs.Basics.{ℕ, suc, ◌+◌, ◌-◌, ◌*◌, ◌<◌, List, ◌∷◌, ◌++◌, length, get_or, take, insert, min}
+use Rattle.std.specs.Prelude.{◌+◌, ◌-◌, ◌*◌, ◌<◌, ◌∷◌, ◌++◌}
+use Rattle.definitions.specs.Basics.{ℕ, suc, List, length, get_or, take, insert, min}
 use Rattle.definitions.specs.Plans as Said
 use Rattle.definitions.specs.Plans.{compare_rows}
 use Rattle.packed_rows.specs.Packed.{row_of}

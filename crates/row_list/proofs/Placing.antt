@@ -3,7 +3,8 @@ use mathlib.Core.Path.{◌≡◌}
 use mathlib.Core.Bool.{true≢false, false≢true}
 use native.Mathlib.Omega.{arith}
 use Prim.Native.Nat.{◌≤◌}
-use Rattle.definitions.specs.Basics.{ℕ, ◌+◌, ◌<◌, Ordering, true, false, List}
+use Rattle.std.specs.Prelude.{◌+◌, ◌<◌}
+use Rattle.definitions.specs.Basics.{ℕ, Ordering, true, false, List}
 use Rattle.definitions.specs.Plans as Said
 use Rattle.definitions.specs.Plans.{compare_rows}
 use Rattle.ranking.specs.Orders.{View, before, equal, after}

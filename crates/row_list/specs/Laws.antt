@@ -1,8 +1,8 @@
 -- Laws of rows that lie in an area.
 use Rattle.std.specs.Prelude.{◌≡◌, refl, ◌≤◌, drop}
-use Rattle.std.proofs.Common.{sym, ap, ◌∙◌, arith, get_or-take, drop-cons}
+use Rattle.std.proofs.Common.{sym, ap, ◌∙◌, arith, get_or-take, drop-cons, ◌+◌, ◌*◌, ◌<◌, ◌∷◌, ◌++◌}
 use mathlib.Core.List.{map-map}
-use Rattle.definitions.specs.Basics.{ℕ, suc, ◌+◌, ◌*◌, ◌<◌, List, [], ◌∷◌, ◌++◌, map, length, get_or, take, below}
+use Rattle.definitions.specs.Basics.{ℕ, suc, List, [], map, length, get_or, take, below}
 use Rattle.definitions.specs.Plans.{Row}
 use Rattle.partial_rows.specs.Padding.{unpadded}
 use Rattle.packed_rows.specs.declared.Row as Code

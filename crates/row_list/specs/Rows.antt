@@ -1,6 +1,6 @@
 -- Rows that lie in an area of numbers, six to a row: the cost in two words, the low one first, and the packed beds of 32 patients in four.
-use Rattle.std.specs.Prelude.{◌⊎◌, ◌≤◌}
-use Rattle.definitions.specs.Basics.{ℕ, ◌+◌, ◌*◌, ◌<◌, ◌≡◌, List, map, length, get_or, take, below, insert}
+use Rattle.std.specs.Prelude.{◌⊎◌, ◌≤◌, ◌+◌, ◌*◌, ◌<◌, ◌≡◌}
+use Rattle.definitions.specs.Basics.{ℕ, List, map, length, get_or, take, below, insert}
 use Rattle.definitions.specs.Plans as Said
 use Rattle.definitions.specs.Plans.{compare_rows}
 use Rattle.lists.specs.Members.{◌∈◌}

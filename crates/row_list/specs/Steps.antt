@@ -1,6 +1,6 @@
 -- What the small steps of an insertion give: the place of a row, and the words that make room for it.
-use Rattle.std.specs.Prelude.{◌≤◌, drop}
-use Rattle.definitions.specs.Basics.{ℕ, ◌-◌, ◌<◌, ◌≡◌, List, ◌∷◌, ◌++◌, length, get_or, take, insert}
+use Rattle.std.specs.Prelude.{◌≤◌, drop, ◌-◌, ◌<◌, ◌≡◌, ◌∷◌, ◌++◌}
+use Rattle.definitions.specs.Basics.{ℕ, List, length, get_or, take, insert}
 use Rattle.definitions.specs.Plans.{compare_rows}
 use Rattle.ranking.specs.Rising.{Rising}
 use Rattle.theorems.specs.List.{row_order}

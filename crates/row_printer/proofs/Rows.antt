@@ -5,7 +5,8 @@ use native.Mathlib.Numerals.{add-one}
 use native.Mathlib.Omega.{arith}
 use Prim.Native.Nat.{◌≤◌}
 use lib.ListN.{drop, drop_of_length-le}
-use Rattle.definitions.specs.Basics.{ℕ, suc, ◌+◌, ◌<◌, List, [], ◌∷◌, ◌++◌, map, flat_map, flatten, text, take}
+use Rattle.std.specs.Prelude.{◌+◌, ◌<◌, ◌∷◌, ◌++◌}
+use Rattle.definitions.specs.Basics.{ℕ, suc, List, [], map, flat_map, flatten, text, take}
 use Rattle.definitions.specs.Spelling.{decimal, bracketed}
 use Rattle.definitions.specs.Plans.{Row}
 use Rattle.definitions.specs.Output.{printed_row}

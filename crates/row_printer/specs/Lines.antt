@@ -1,7 +1,7 @@
 -- Printed lines in the parts that are written one after another.
 use Rattle.std.specs.Prelude.{◌≡◌}
-use Rattle.std.proofs.Common.{sym, ap, ◌∙◌, append-nil}
-use Rattle.definitions.specs.Basics.{ℕ, List, [], ◌∷◌, ◌++◌, map, flat_map, flatten, length, text}
+use Rattle.std.proofs.Common.{sym, ap, ◌∙◌, append-nil, ◌∷◌, ◌++◌}
+use Rattle.definitions.specs.Basics.{ℕ, List, [], map, flat_map, flatten, length, text}
 use Rattle.definitions.specs.Spelling.{decimal, bracketed, line}
 use Rattle.definitions.specs.Plans.{Row}
 use Rattle.definitions.specs.Output.{printed_row, printed_rows}

@@ -1,6 +1,6 @@
 -- Rows printed from a list that holds them.
-use Rattle.std.specs.Prelude.{◌≤◌}
-use Rattle.definitions.specs.Basics.{ℕ, ◌*◌, List, ◌++◌, flat_map, length, text}
+use Rattle.std.specs.Prelude.{◌≤◌, ◌*◌, ◌++◌}
+use Rattle.definitions.specs.Basics.{ℕ, List, flat_map, length, text}
 use Rattle.definitions.specs.Spelling.{decimal}
 use Rattle.definitions.specs.Plans.{Row}
 use Rattle.definitions.specs.Output.{printed_row}

@@ -1,7 +1,7 @@
 -- Clinics share the patients: what their counts add up to.
 use Rattle.std.specs.Prelude.{◌≡◌, refl, ◌≤◌}
-use Rattle.std.proofs.Common.{arith, eqb-true}
-use Rattle.definitions.specs.Basics.{ℕ, ◌+◌, Bool, true, false, cond, List, [], ◌∷◌, map, length, eqb, sum, keep}
+use Rattle.std.proofs.Common.{arith, eqb-true, ◌+◌, ◌∷◌}
+use Rattle.definitions.specs.Basics.{ℕ, Bool, true, false, cond, List, [], map, length, eqb, sum, keep}
 use Rattle.lists.specs.Members.{◌∈◌, Distinct, here, there}
 
 -- A sum over the kept elements is at most that over all.

@@ -1,9 +1,9 @@
 -- How long printed lines are, for rows within a region's limits.
 use Rattle.std.specs.Prelude.{◌≡◌, refl, ◌≤◌}
-use Rattle.std.proofs.Common.{ap, ◌∙◌, mul-le-mul_right, arith}
+use Rattle.std.proofs.Common.{ap, ◌∙◌, mul-le-mul_right, arith, ◌+◌, ◌*◌, ◌<◌, ◌∷◌, ◌++◌}
 use Rattle.std.proofs.Math.Nat.{le_trans}
 use Rattle.std.proofs.Math.ListN.{length-append}
-use Rattle.definitions.specs.Basics.{ℕ, zero, suc, ◌+◌, ◌*◌, ◌<◌, List, [], ◌∷◌, ◌++◌, map, flat_map, flatten, length, sum, text}
+use Rattle.definitions.specs.Basics.{ℕ, zero, suc, List, [], map, flat_map, flatten, length, sum, text}
 use Rattle.definitions.specs.Spelling.{decimal, bracketed, line}
 use Rattle.definitions.specs.Plans.{Row}
 use Rattle.definitions.specs.Output.{printed_row, printed_rows}

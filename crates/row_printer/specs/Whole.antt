@@ -1,8 +1,8 @@
 -- The whole text that is printed for a file is at most `printed_most` bytes.
 use Rattle.std.specs.Prelude.{◌≡◌, refl, ◌≤◌}
-use Rattle.std.proofs.Common.{inl, inr, le_trans, mul-le-mul_right, arith, leb-true, length-append}
+use Rattle.std.proofs.Common.{inl, inr, le_trans, mul-le-mul_right, arith, leb-true, length-append, ◌<◌, ◌∷◌}
 use Rattle.std.proofs.lemmas.List.{length-map}
-use Rattle.definitions.specs.Basics.{ℕ, zero, suc, ◌<◌, true, List, [], ◌∷◌, map, flat_map, length, get_or}
+use Rattle.definitions.specs.Basics.{ℕ, zero, suc, true, List, [], map, flat_map, length, get_or}
 use Rattle.definitions.specs.Basics.{leb, sum, text, below}
 use Rattle.definitions.specs.Limits.{clinic, bed_count, limits}
 use Rattle.definitions.specs.Syntax.{Patient, Region, patient_numbers, patient_at, patients_of}

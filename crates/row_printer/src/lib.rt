@@ -1,8 +1,8 @@
 // What the printing program prints of rows that lie in a list: the line of a list, of a sheet or of a refusal, and a line for each row.
 #![tactic(auto)]
 
-ghost use Rattle.std.specs.Prelude.{◌≤◌};
-ghost use Rattle.definitions.specs.Basics.{[], ◌∷◌, text};
+ghost use Rattle.std.specs.Prelude.{◌≤◌, ◌∷◌};
+ghost use Rattle.definitions.specs.Basics.{[], text};
 ghost use Rattle.definitions.specs.Spelling.{decimal, line};
 ghost use Rattle.definitions.specs.Output.{printed_row, printed_rows};
 ghost use Rattle.partial_rows.specs.Padding.{unpadded};

@@ -3,7 +3,8 @@ use mathlib.Core.Path.{◌≡◌, sym, ◌∙◌}
 use mathlib.Core.Logic.{inl, inr}
 use native.Mathlib.Omega.{arith}
 use Prim.Native.Nat.{◌≤◌}
-use Rattle.definitions.specs.Basics.{ℕ, zero, suc, List, [], ◌∷◌, ◌++◌, take, sort}
+use Rattle.std.specs.Prelude.{◌∷◌, ◌++◌}
+use Rattle.definitions.specs.Basics.{ℕ, zero, suc, List, [], take, sort}
 use Rattle.definitions.specs.Plans.{compare_rows}
 use Rattle.lists.specs.Members.{◌∈◌, ◌⊆◌, Distinct, here, there, here_or_there, none_in_nil, in_append_left, in_append_right, in_append_cases}
 use Rattle.ranking.specs.First.{First, Sorted, sorted_distinct, first_iff}

@@ -4,7 +4,8 @@ use native.Mathlib.Numerals.{add-one}
 use native.Mathlib.Omega.{arith}
 use Prim.Native.Nat.{◌≤◌}
 use lib.Seq.{take-nil}
-use Rattle.definitions.specs.Basics.{ℕ, ◌+◌, ◌<◌, List, ◌∷◌, ◌++◌, map, length, take, insert, sort, flat_map}
+use Rattle.std.specs.Prelude.{◌+◌, ◌<◌, ◌∷◌, ◌++◌}
+use Rattle.definitions.specs.Basics.{ℕ, List, map, length, take, insert, sort, flat_map}
 use Rattle.definitions.specs.Plans as Said
 use Rattle.definitions.specs.Plans.{compare_rows}
 use Rattle.lists.specs.Members.{◌∈◌, get_d_in}

@@ -8,7 +8,8 @@ use borrow.Author.Tests.{eqb-true, ltb-true}
 use Prim.Native.Nat.{◌≤◌}
 use lib.ListN.{length-take}
 use lib.Seq.{get_or-take}
-use Rattle.definitions.specs.Basics.{ℕ, zero, suc, ◌+◌, ◌-◌, ◌<◌, true, eqb, List, ◌∷◌, ◌++◌, map}
+use Rattle.std.specs.Prelude.{◌+◌, ◌-◌, ◌<◌, ◌∷◌, ◌++◌}
+use Rattle.definitions.specs.Basics.{ℕ, zero, suc, true, eqb, List, map}
 use Rattle.definitions.specs.Basics.{length, get_or, take, sort}
 use Rattle.definitions.specs.Plans as Said
 use Rattle.definitions.specs.Plans.{compare_rows}

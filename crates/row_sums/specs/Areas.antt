@@ -1,12 +1,12 @@
 -- The work area with one of its parts replaced: that part is new, and the others are as they were.
 use Rattle.std.specs.Prelude.{◌≡◌, ◌≤◌}
 use Rattle.std.proofs.Math.Path.{sym, ap}
-use Rattle.std.proofs.Common.{◌∙◌, length-append, length-drop, take-append-drop, length-take-le, drop_at}
+use Rattle.std.proofs.Common.{◌∙◌, length-append, length-drop, take-append-drop, length-take-le, drop_at, ◌+◌, ◌-◌, ◌*◌, ◌<◌, ◌++◌}
 use native.Mathlib.Omega.{arith}
 use Rattle.std.proofs.Math.ListN.{drop}
 use Rattle.std.proofs.Math.Seq.{take_at, drop-append-add, drop-drop}
 use Rattle.std.proofs.lemmas.List.{take-append-le, drop-append-le}
-use Rattle.definitions.specs.Basics.{ℕ, ◌+◌, ◌-◌, ◌*◌, ◌<◌, List, ◌++◌, length, take}
+use Rattle.definitions.specs.Basics.{ℕ, List, length, take}
 use Rattle.row_sums.specs.Sums.{work_part}
 
 -- An area whose 384 words from one place on are replaced.

@@ -1,6 +1,6 @@
 -- The cheapest sums of a row of one list and a row of another: what is asked and what is given.
-use Rattle.std.specs.Prelude.{◌≤◌, drop}
-use Rattle.definitions.specs.Basics.{ℕ, ◌*◌, ◌<◌, ◌≡◌, List, length, take}
+use Rattle.std.specs.Prelude.{◌≤◌, drop, ◌*◌, ◌<◌, ◌≡◌}
+use Rattle.definitions.specs.Basics.{ℕ, List, length, take}
 use Rattle.definitions.specs.Plans.{Row}
 use Rattle.lists.specs.Members.{◌∈◌}
 use Rattle.ranking.specs.First.{First, Sorted}

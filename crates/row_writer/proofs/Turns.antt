@@ -8,7 +8,8 @@ use Prim.Native.Nat.{◌≤◌}
 use borrow.Rule.Slice.PartMut.{put_mid}
 use lib.ListN.{drop, set, drop_of_length-le, length-drop, length-set}
 use lib.Seq.{sets, sets-eq, length-sets, drop-cons, drop-drop, take_all, length-take-le}
-use Rattle.definitions.specs.Basics.{ℕ, suc, ◌+◌, ◌-◌, ◌*◌, ◌<◌, List, [], ◌∷◌, ◌++◌, length, get_or, take, replicate}
+use Rattle.std.specs.Prelude.{◌+◌, ◌-◌, ◌*◌, ◌<◌, ◌∷◌, ◌++◌}
+use Rattle.definitions.specs.Basics.{ℕ, suc, List, [], length, get_or, take, replicate}
 use Rattle.definitions.specs.Outcomes.{written}
 use Rattle.definitions.specs.Plans.{Row}
 use Rattle.partial_rows.specs.Padding.{unpadded}

@@ -1,6 +1,6 @@
 -- The lent areas: when they are long enough, what they must hold for rows to be written, and what they hold afterwards.
-use Rattle.std.specs.Prelude.{◌≤◌}
-use Rattle.definitions.specs.Basics.{ℕ, ◌*◌, ◌<◌, ◌≡◌, Bool, ◌&&◌, List, [], ◌∷◌, length, leb}
+use Rattle.std.specs.Prelude.{◌≤◌, ◌*◌, ◌<◌, ◌≡◌, ◌&&◌, ◌∷◌}
+use Rattle.definitions.specs.Basics.{ℕ, Bool, List, [], length, leb}
 use Rattle.definitions.specs.Questions.{work_size}
 use Rattle.definitions.specs.Outcomes.{written}
 use Rattle.row_list.specs.Rows.{row_in, rows_in}

@@ -1,7 +1,7 @@
 -- What each answer says, in the terms of the definition's readers.
-use Rattle.std.proofs.Common.{sym, ap, ◌∙◌}
+use Rattle.std.proofs.Common.{sym, ap, ◌∙◌, ◌≡◌}
 use Rattle.std.specs.Prelude.{◌≤◌, max, drop}
-use Rattle.definitions.specs.Basics.{ℕ, ◌≡◌, Bool, true, false, cond, Option, none, some, option_map, List, length, eqb}
+use Rattle.definitions.specs.Basics.{ℕ, Bool, true, false, cond, Option, none, some, option_map, List, length, eqb}
 use Rattle.definitions.specs.Layout.{Reader}
 use Rattle.scanner.specs.declared.Passed.{Passed}
 use Rattle.scanner.specs.declared.Passed.TheVariants.{At, Nothing as NotPassed}

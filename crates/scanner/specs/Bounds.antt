@@ -1,8 +1,8 @@
 -- A number, and a hyphen or a number, are bounded.
-use Rattle.std.proofs.Common.{sym, ap, ◌∙◌, arith, eqb-true, leb-true, ne_eqb}
+use Rattle.std.proofs.Common.{sym, ap, ◌∙◌, arith, eqb-true, leb-true, ne_eqb, ◌≡◌, ◌∷◌, ◌++◌}
 use Rattle.std.proofs.lemmas.Bool.{false≢true}
 use Prim.Native.Char.{code}
-use Rattle.definitions.specs.Basics.{ℕ, ◌≡◌, refl, Bool, true, false, Option, none, some, option_map, List, [], ◌∷◌, ◌++◌, eqb, leb, every, none_or}
+use Rattle.definitions.specs.Basics.{ℕ, refl, Bool, true, false, Option, none, some, option_map, List, [], eqb, leb, every, none_or}
 use Rattle.definitions.specs.Layout.{give_if, is_digit, number_of, number, hyphen_or_number}
 use Rattle.lists.specs.Tests.{both}
 use Rattle.scanner.specs.declared.Class.TheVariants.{Hyphen, Other}

@@ -1,8 +1,8 @@
 -- The reader's class of a byte, and what a class says of its byte.
 use Rattle.std.specs.Prelude.{◌≤◌}
 use Prim.Native.Char.{code}
-use Rattle.std.proofs.Common.{arith, eq-eqb, eqb-true, leb-true}
-use Rattle.definitions.specs.Basics.{ℕ, ◌-◌, ◌≡◌, refl, Bool, true, false, cond, ◌&&◌, List, [], ◌∷◌, eqb, leb}
+use Rattle.std.proofs.Common.{arith, eq-eqb, eqb-true, leb-true, ◌-◌, ◌≡◌, ◌&&◌, ◌∷◌}
+use Rattle.definitions.specs.Basics.{ℕ, refl, Bool, true, false, cond, List, [], eqb, leb}
 use Rattle.definitions.specs.Layout.{is_digit}
 use Rattle.lists.specs.Tests.{both}
 use Rattle.scanner.specs.declared.Class.{Class}

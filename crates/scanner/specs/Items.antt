@@ -1,9 +1,9 @@
 -- The items of a list one after the other.
 use Rattle.std.proofs.Math.Path.{sym, ap}
-use Rattle.std.proofs.Common.{◌∙◌, eqb-true}
+use Rattle.std.proofs.Common.{◌∙◌, eqb-true, ◌≡◌, ◌&&◌, ◌∷◌, ◌++◌}
 use Rattle.std.proofs.lemmas.Bool.{false≢true}
 use Prim.Native.Char.{code}
-use Rattle.definitions.specs.Basics.{ℕ, ◌≡◌, refl, Bool, true, false, not, ◌&&◌, cond, Option, none, some, bind, option_map, List, [], ◌∷◌, ◌++◌, eqb, every, is_empty, none_or, on_all}
+use Rattle.definitions.specs.Basics.{ℕ, refl, Bool, true, false, not, cond, Option, none, some, bind, option_map, List, [], eqb, every, is_empty, none_or, on_all}
 use Rattle.definitions.specs.Layout.{Reader, ◌>>=◌, ◌>>◌, give, give_if, many, passing, word, whole, pieces, onto_first, items}
 use Rattle.lists.specs.Tests.{both}
 use Rattle.scanner.specs.Spans.{take_while, drop_while, take_while_on, drop_while_on, many_span, take_while_passes, drop_while_fails}

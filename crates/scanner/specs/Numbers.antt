@@ -1,11 +1,11 @@
 -- Reading a number digit by digit: the rest of the reading, after k digits of value v, and what each byte does to it.
-use Rattle.std.proofs.Common.{sym, ◌∙◌, zero-add, add-zero, arith, le-leb, ne_eqb, eq-eqb, eqb-true}
+use Rattle.std.proofs.Common.{sym, ◌∙◌, zero-add, add-zero, arith, le-leb, ne_eqb, eq-eqb, eqb-true, ◌+◌, ◌-◌, ◌*◌, ◌≡◌, ◌&&◌, ◌∷◌}
 use Rattle.std.proofs.Math.Path.{ap, ap₂}
 use Rattle.std.specs.Prelude.{◌||◌, ◌≤◌, drop}
 use Rattle.std.proofs.Math.Bool.{and-false, or-true, or-false}
 use Prim.Native.Char.{code}
 use Rattle.std.proofs.lemmas.Bool.{lt-leb, eqb-false}
-use Rattle.definitions.specs.Basics.{ℕ, zero, suc, ◌+◌, ◌-◌, ◌*◌, ◌≡◌, refl, Bool, true, false, ◌&&◌, not, cond, Option, none, some, bind, List, [], ◌∷◌, length, eqb, is_empty}
+use Rattle.definitions.specs.Basics.{ℕ, zero, suc, refl, Bool, true, false, not, cond, Option, none, some, bind, List, [], length, eqb, is_empty}
 use Rattle.definitions.specs.Limits.{digit_count, limits, within}
 use Rattle.definitions.specs.Layout.{Reader, give_if, is_digit, no_leading_zero, value_from, number_of, number}
 use Rattle.scanner.specs.declared.Class.TheVariants.{Digit}

@@ -1,8 +1,8 @@
 -- What stands after an item, and a hyphen or a number, by the class of the first byte.
-use Rattle.std.proofs.Common.{sym, ap, arith, eqb-true, ne_eqb, length-drop}
+use Rattle.std.proofs.Common.{sym, ap, arith, eqb-true, ne_eqb, length-drop, ◌≡◌, ◌∷◌}
 use Rattle.std.specs.Prelude.{◌≤◌, ◌<◌, drop}
 use Prim.Native.Char.{code}
-use Rattle.definitions.specs.Basics.{ℕ, suc, ◌≡◌, refl, Bool, true, false, cond, Option, none, some, bind, or_else, option_map, option_get_or, List, [], ◌∷◌, length, eqb}
+use Rattle.definitions.specs.Basics.{ℕ, suc, refl, Bool, true, false, cond, Option, none, some, bind, or_else, option_map, option_get_or, List, [], length, eqb}
 use Rattle.definitions.specs.Layout.{Reader, one, give_if, number, hyphen_or_number}
 use Rattle.scanner.specs.declared.Class.TheVariants.{Space, Close, Hyphen}
 use Rattle.scanner.specs.Answers.{ReadAt}

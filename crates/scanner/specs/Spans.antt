@@ -1,6 +1,6 @@
 -- A list split before its first element that fails a test: what `many` reads, and what it leaves.
-use Rattle.std.proofs.Common.{ap, sym, ◌∙◌, arith}
-use Rattle.definitions.specs.Basics.{ℕ, ◌≡◌, refl, Bool, true, false, some, bind, List, [], ◌∷◌, ◌++◌, every}
+use Rattle.std.proofs.Common.{ap, sym, ◌∙◌, arith, ◌≡◌, ◌∷◌, ◌++◌}
+use Rattle.definitions.specs.Basics.{ℕ, refl, Bool, true, false, some, bind, List, [], every}
 use Rattle.definitions.specs.Layout.{many, passing}
 use Rattle.lists.specs.Tests.{both}
 

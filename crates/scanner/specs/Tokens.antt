@@ -1,7 +1,7 @@
 -- A form as its tokens, one after the other, and how far a line has been read by it.
-use Rattle.std.proofs.Common.{ap, ◌∙◌, drop_of_length-le, drop-cons}
+use Rattle.std.proofs.Common.{ap, ◌∙◌, drop_of_length-le, drop-cons, ◌≡◌}
 use Rattle.std.specs.Prelude.{◌≤◌, ◌<◌, drop}
-use Rattle.definitions.specs.Basics.{ℕ, ◌≡◌, true, false, Option, none, some, bind, List, is_empty, length}
+use Rattle.definitions.specs.Basics.{ℕ, true, false, Option, none, some, bind, List, is_empty, length}
 use Rattle.definitions.specs.Layout.{Reader, ◌>>=◌, give, whole}
 use Rattle.scanner.specs.Answers.{ReadAt, there, missing}
 

@@ -1,9 +1,9 @@
 -- How `exactly` goes from byte to byte, and by the class of a byte.
-use Rattle.std.proofs.Common.{sym, ◌∙◌, ap, arith, eq-eqb, ne_eqb, eqb-true}
+use Rattle.std.proofs.Common.{sym, ◌∙◌, ap, arith, eq-eqb, ne_eqb, eqb-true, ◌≡◌, ◌∷◌, ◌++◌}
 use Prim.Native.Char.{code}
 use Rattle.std.proofs.Math.Decide.{ℕ_discrete}
 use Rattle.std.specs.Prelude.{drop}
-use Rattle.definitions.specs.Basics.{ℕ, suc, ◌≡◌, refl, none, some, bind, List, [], ◌∷◌, ◌++◌, eqb}
+use Rattle.definitions.specs.Basics.{ℕ, suc, refl, none, some, bind, List, [], eqb}
 use Rattle.definitions.specs.Layout.{exactly}
 use Rattle.scanner.specs.declared.Class.{Class}
 use Rattle.scanner.specs.Classes.{class_of, first_class, is_of, class_says}

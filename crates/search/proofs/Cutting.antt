@@ -3,7 +3,8 @@ use mathlib.Core.Path.{◌≡◌, sym, ap}
 use borrow.Author.Tests.{eq-eqb, ne_eqb}
 use native.Mathlib.Omega.{arith}
 use Prim.Native.Nat.{◌≤◌}
-use Rattle.definitions.specs.Basics.{ℕ, ◌-◌, ◌<◌, Ordering, ordering_lt, ordering_gt, compare, true, false, not, List, take}
+use Rattle.std.specs.Prelude.{◌-◌, ◌<◌}
+use Rattle.definitions.specs.Basics.{ℕ, Ordering, ordering_lt, ordering_gt, compare, true, false, not, List, take}
 use Rattle.definitions.specs.Plans.{then_by, compare_beds}
 use Rattle.packed_rows.specs.Packed.{is_before}
 use Rattle.packed_rows.specs.Numbers.{less, more}

@@ -7,7 +7,8 @@ use native.Mathlib.Decide.{dec_lt}
 use native.Mathlib.Numerals.{add-one}
 use native.Mathlib.Omega.{arith}
 use borrow.Author.Tests.{lt-ltb, le-ltb}
-use Rattle.definitions.specs.Basics.{ℕ, suc, ◌+◌, ◌<◌, Bool, true, false, ◌&&◌, List, [], ◌∷◌, length, get_or, replicate, eqb, ltb, below, contains}
+use Rattle.std.specs.Prelude.{◌+◌, ◌<◌, ◌&&◌, ◌∷◌}
+use Rattle.definitions.specs.Basics.{ℕ, suc, Bool, true, false, List, [], length, get_or, replicate, eqb, ltb, below, contains}
 use Rattle.definitions.specs.Syntax.{Region}
 use Rattle.lists.specs.Members.{here, here_or_there, none_in_nil}
 use Rattle.lists.specs.Keep.{contains_keep}

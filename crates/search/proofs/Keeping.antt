@@ -7,7 +7,8 @@ use native.Mathlib.Omega.{arith}
 use lib.ListN.{set}
 use lib.Seq.{set-get_or, set-set}
 use borrow.Author.Tests.{eq-eqb}
-use Rattle.definitions.specs.Basics.{ℕ, ◌+◌, ◌-◌, ◌*◌, ◌<◌, true, List, length, replicate, get_or}
+use Rattle.std.specs.Prelude.{◌+◌, ◌-◌, ◌*◌, ◌<◌}
+use Rattle.definitions.specs.Basics.{ℕ, true, List, length, replicate, get_or}
 use Rattle.definitions.specs.Syntax.{Region}
 use Rattle.definitions.specs.Plans.{bed_of, place_in, constraints}
 use Rattle.lists.specs.Members.{get_d_in, in_append_left}

@@ -3,7 +3,8 @@ use mathlib.Core.Path.{◌≡◌, refl, ap}
 use Prim.Native.Nat.{◌≤◌}
 use native.Mathlib.Nat.{zero-add}
 use native.Mathlib.Omega.{arith}
-use Rattle.definitions.specs.Basics.{ℕ, ◌+◌, ◌*◌, ◌<◌, not, ◌&&◌, false, List, [], ◌∷◌, map, length, sum, eqb, is_empty}
+use Rattle.std.specs.Prelude.{◌+◌, ◌*◌, ◌<◌, ◌&&◌, ◌∷◌}
+use Rattle.definitions.specs.Basics.{ℕ, not, false, List, [], map, length, sum, eqb, is_empty}
 use Rattle.patient_set.specs.Sets.{in_set, members, first}
 use Rattle.patient_set.specs.Laws.{size_most, lowest_patient, lowest_and_rest}
 use Rattle.bucket_words.specs.Words.{least_at}

@@ -7,7 +7,8 @@ use native.Mathlib.Decide.{dec_lt}
 use native.Mathlib.Omega.{arith}
 use lib.Seq.{get_or-take}
 use lib.ListN.{get_or-eq_default}
-use Rattle.definitions.specs.Basics.{ℕ, zero, suc, ◌+◌, ◌*◌, ◌<◌, Bool, true, false, ◌||◌, some, List, [], ◌∷◌, ◌++◌, map, length, take, replicate, sum, eqb, any, contains}
+use Rattle.std.specs.Prelude.{◌+◌, ◌*◌, ◌<◌, ◌||◌, ◌∷◌, ◌++◌}
+use Rattle.definitions.specs.Basics.{ℕ, zero, suc, Bool, true, false, some, List, [], map, length, take, replicate, sum, eqb, any, contains}
 use Rattle.definitions.specs.Syntax.{Region}
 use Rattle.definitions.specs.Plans.{Plan, Row, bed_of}
 use mathlib.Core.Logic.{inl, inr}

@@ -3,7 +3,8 @@ use mathlib.Core.Path.{◌≡◌, refl, sym, ap, ap₂, ◌∙◌, subst⁻¹}
 use mathlib.Core.Logic.{inl, inr}
 use Prim.Native.Nat.{◌≤◌}
 use native.Mathlib.Omega.{arith}
-use Rattle.definitions.specs.Basics.{ℕ, zero, suc, ◌-◌, ◌<◌, Bool, not, ◌&&◌, eqb, List, [], ◌∷◌, map, length, take, insert}
+use Rattle.std.specs.Prelude.{◌-◌, ◌<◌, ◌&&◌, ◌∷◌}
+use Rattle.definitions.specs.Basics.{ℕ, zero, suc, Bool, not, eqb, List, [], map, length, take, insert}
 use Rattle.definitions.specs.Plans.{Row, bed_of, compare_rows}
 use Rattle.lists.specs.Members.{◌∈◌, get_d_in, in_map, in_map_cases}
 use Rattle.ranking.specs.First.{First, first_iff}

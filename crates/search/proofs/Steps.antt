@@ -5,7 +5,8 @@ use native.Mathlib.Omega.{arith}
 use lib.ListN.{set, length-set}
 use lib.Seq.{take-set-lt, get_or-set_same}
 use borrow.Author.Tests.{eq-eqb}
-use Rattle.definitions.specs.Basics.{ℕ, ◌+◌, ◌<◌, true, not, ◌&&◌, ◌||◌, Option, none, List, ◌∷◌, map, length, get_or, take, sum, eqb, is_empty, contains, ltb, every_two, replicate}
+use Rattle.std.specs.Prelude.{◌+◌, ◌<◌, ◌&&◌, ◌||◌, ◌∷◌}
+use Rattle.definitions.specs.Basics.{ℕ, true, not, Option, none, List, map, length, get_or, take, sum, eqb, is_empty, contains, ltb, every_two, replicate}
 use Rattle.definitions.specs.Syntax.{Region, patient_at}
 use Rattle.definitions.specs.Plans.{bed_of, cost_over}
 use Rattle.theorems.specs.Accepted.{most_total}

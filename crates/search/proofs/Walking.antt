@@ -7,7 +7,8 @@ use native.Mathlib.Omega.{arith}
 use lib.ListN.{set, drop, length-set}
 use lib.Seq.{get_or-set_same}
 use borrow.Author.Tests.{eqb-true, not-true, not-false}
-use Rattle.definitions.specs.Basics.{ℕ, suc, ◌+◌, ◌-◌, ◌<◌, Ordering, Bool, true, false, not, none, some, List, [], ◌∷◌, length, take, eqb, is_empty, insert, contains}
+use Rattle.std.specs.Prelude.{◌+◌, ◌-◌, ◌<◌, ◌∷◌}
+use Rattle.definitions.specs.Basics.{ℕ, suc, Ordering, Bool, true, false, not, none, some, List, [], length, take, eqb, is_empty, insert, contains}
 use Rattle.definitions.specs.Syntax.{Region, patient_at}
 use Rattle.definitions.specs.Plans.{Row, cost_over, compare_rows}
 use Rattle.ranking.specs.Orders.{View, before, equal, after}

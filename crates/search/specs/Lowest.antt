@@ -1,9 +1,9 @@
 -- A walk that places the lowest patient of a set first: the tables that a bed decides are the patient's bucket, and the buckets' least numbers bound the cost.
 use Rattle.std.specs.Prelude.{◌≡◌, refl, ◌≤◌}
-use Rattle.std.proofs.Common.{sym, ◌∙◌, true≢false, arith}
+use Rattle.std.proofs.Common.{sym, ◌∙◌, true≢false, arith, ◌+◌, ◌<◌, ◌&&◌, ◌||◌, ◌∷◌}
 use Rattle.std.proofs.Math.Path.{ap}
 use borrow.Author.Tests.{ltb-true, lt-ltb, eqb-true, eqb-false, eq-eqb, ne_eqb}
-use Rattle.definitions.specs.Basics.{ℕ, ◌+◌, ◌<◌, Bool, true, false, not, ◌&&◌, ◌||◌, List, [], ◌∷◌, map, sum, eqb, ltb, every, every_two, contains}
+use Rattle.definitions.specs.Basics.{ℕ, Bool, true, false, not, List, [], map, sum, eqb, ltb, every, every_two, contains}
 use Rattle.definitions.specs.Syntax.{Table, Region}
 use Rattle.definitions.specs.Plans.{Plan, cost_over, constraints, Row}
 use Rattle.lists.specs.Tests.{both, same_answer}

@@ -1,6 +1,6 @@
 -- What listing a region asks for and gives, tree by tree.
-use Rattle.std.specs.Prelude.{◌≤◌}
-use Rattle.definitions.specs.Basics.{ℕ, ◌<◌, ◌≡◌, true, List, [], ◌∷◌, map, length, replicate, sum, contains}
+use Rattle.std.specs.Prelude.{◌≤◌, ◌<◌, ◌≡◌, ◌∷◌}
+use Rattle.definitions.specs.Basics.{ℕ, true, List, [], map, length, replicate, sum, contains}
 use Rattle.definitions.specs.Syntax.{Region}
 use Rattle.definitions.specs.Plans.{list_of}
 use Rattle.ranking.specs.First.{First}

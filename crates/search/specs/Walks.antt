@@ -1,6 +1,6 @@
 -- What the walk asks for and gives.
-use Rattle.std.specs.Prelude.{set, ◌≤◌}
-use Rattle.definitions.specs.Basics.{ℕ, ◌+◌, ◌-◌, ◌*◌, ◌<◌, ◌≡◌, Bool, true, not, ◌&&◌, Option, List, ◌∷◌, map, length, get_or, take, sum, eqb, contains}
+use Rattle.std.specs.Prelude.{set, ◌≤◌, ◌+◌, ◌-◌, ◌*◌, ◌<◌, ◌≡◌, ◌&&◌, ◌∷◌}
+use Rattle.definitions.specs.Basics.{ℕ, Bool, true, not, Option, List, map, length, get_or, take, sum, eqb, contains}
 use Rattle.definitions.specs.Syntax.{Region, patient_at}
 use Rattle.definitions.specs.Plans.{Plan, place_in, Row, bed_of, cost_over, compare_rows}
 use Rattle.theorems.specs.Accepted.{most_total}

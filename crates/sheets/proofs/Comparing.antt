@@ -5,7 +5,8 @@ use native.Mathlib.Numerals.{add-one}
 use native.Mathlib.Omega.{arith}
 use lib.ListN.{drop, drop_of_length-le}
 use lib.Seq.{drop-cons}
-use Rattle.definitions.specs.Basics.{ℕ, suc, ◌+◌, ◌<◌, Bool, true, false, ◌||◌, List, any}
+use Rattle.std.specs.Prelude.{◌+◌, ◌<◌, ◌||◌}
+use Rattle.definitions.specs.Basics.{ℕ, suc, Bool, true, false, List, any}
 use Rattle.definitions.specs.Plans.{Row}
 use Rattle.definitions.specs.Sheets.{same_beds}
 use Rattle.row_list.specs.Rows.{whole_row, whole_rows}

@@ -6,7 +6,8 @@ use mathlib.Core.List.{append_assoc, append-nil, map-append}
 use Prim.Native.Nat.{◌≤◌}
 use native.Mathlib.Numerals.{add-one}
 use native.Mathlib.Omega.{arith}
-use Rattle.definitions.specs.Basics.{ℕ, ◌+◌, Bool, true, false, ◌||◌, cond, List, [], ◌∷◌, ◌++◌, map, any, first_occurrences}
+use Rattle.std.specs.Prelude.{◌+◌, ◌||◌, ◌∷◌, ◌++◌}
+use Rattle.definitions.specs.Basics.{ℕ, Bool, true, false, cond, List, [], map, any, first_occurrences}
 use Rattle.definitions.specs.Plans as Said
 use Rattle.definitions.specs.Sheets.{same_beds}
 use Rattle.lists.specs.Members.{◌∈◌, here, there, here_or_there, none_in_nil, in_append_cases}

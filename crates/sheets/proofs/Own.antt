@@ -4,7 +4,8 @@ use Prim.Native.Nat.{◌≤◌}
 use native.Mathlib.Omega.{arith}
 use borrow.Author.Tests.{ltb-true, lt-ltb}
 use lib.Seq.{get_or-take, length-take-le}
-use Rattle.definitions.specs.Basics.{ℕ, ◌<◌, true, option_get_or, List, map, length, get_or, take, ltb, below, every, keep, contains}
+use Rattle.std.specs.Prelude.{◌<◌}
+use Rattle.definitions.specs.Basics.{ℕ, true, option_get_or, List, map, length, get_or, take, ltb, below, every, keep, contains}
 use Rattle.definitions.specs.Syntax.{Region, patient_at, patients_of}
 use Rattle.definitions.specs.Plans as Said
 use Rattle.definitions.specs.Plans.{bed_of, entry_for, cost_over}

@@ -7,7 +7,8 @@ use native.Mathlib.Omega.{arith}
 use borrow.Author.Tests.{ne_eqb}
 use lib.ListN.{set, length-set, replicate}
 use lib.Seq.{take-suc-set}
-use Rattle.definitions.specs.Basics.{ℕ, ◌+◌, ◌<◌, false, not, ◌&&◌, List, [], ◌∷◌, ◌++◌, map, length, take, eqb, is_empty}
+use Rattle.std.specs.Prelude.{◌+◌, ◌<◌, ◌&&◌, ◌∷◌, ◌++◌}
+use Rattle.definitions.specs.Basics.{ℕ, false, not, List, [], map, length, take, eqb, is_empty}
 use Rattle.definitions.specs.Plans.{bed_of}
 use Rattle.patient_set.specs.Sets.{in_set, members, first}
 use Rattle.patient_set.specs.Laws.{size_most, empty_size, lowest_patient, lowest_and_rest}

@@ -5,7 +5,8 @@ use native.Mathlib.Numerals.{add-one}
 use native.Mathlib.Omega.{arith}
 use lib.ListN.{drop, drop_of_length-le}
 use lib.Seq.{drop-cons}
-use Rattle.definitions.specs.Basics.{ℕ, suc, ◌+◌, ◌*◌, ◌<◌, List, [], ◌∷◌, map, length, get_or, take}
+use Rattle.std.specs.Prelude.{◌+◌, ◌*◌, ◌<◌, ◌∷◌}
+use Rattle.definitions.specs.Basics.{ℕ, suc, List, [], map, length, get_or, take}
 use Rattle.definitions.specs.Syntax.{Region}
 use Rattle.definitions.specs.Plans as Said
 use Rattle.definitions.specs.Plans.{list_of}

@@ -1,6 +1,6 @@
 -- The rows of a clinic's sheet: what is asked and what is given.
-use Rattle.std.specs.Prelude.{◌≤◌}
-use Rattle.definitions.specs.Basics.{ℕ, ◌≡◌, List, length}
+use Rattle.std.specs.Prelude.{◌≤◌, ◌≡◌}
+use Rattle.definitions.specs.Basics.{ℕ, List, length}
 use Rattle.definitions.specs.Syntax.{patients_of}
 use Rattle.definitions.specs.Plans.{list_of}
 use Rattle.definitions.specs.Sheets.{sheet_of}

@@ -1,6 +1,6 @@
 -- What the steps of a sheet ask for and give: a clinic's part, its own cost, its own row, and the rows kept.
-use Rattle.std.specs.Prelude.{◌≤◌}
-use Rattle.definitions.specs.Basics.{ℕ, ◌+◌, ◌<◌, ◌≡◌, cond, option_get_or, List, [], ◌∷◌, ◌++◌, map, length, take, any}
+use Rattle.std.specs.Prelude.{◌≤◌, ◌+◌, ◌<◌, ◌≡◌, ◌∷◌, ◌++◌}
+use Rattle.definitions.specs.Basics.{ℕ, cond, option_get_or, List, [], map, length, take, any}
 use Rattle.definitions.specs.Syntax.{Region, patients_of}
 use Rattle.definitions.specs.Plans as Said
 use Rattle.definitions.specs.Plans.{bed_of, cost_over, list_of}

@@ -6,7 +6,8 @@ use native.Mathlib.Omega.{arith}
 use Prim.Native.Nat.{◌≤◌}
 use lib.ListN.{set, drop, length-append, length-map, length-set, length-take}
 use lib.Seq.{ext_get_or, get_or-take}
-use Rattle.definitions.specs.Basics.{ℕ, ◌+◌, ◌<◌, Option, none, some, List, bind, [], ◌∷◌, ◌++◌, map, length, take, replicate, is_empty, text}
+use Rattle.std.specs.Prelude.{◌+◌, ◌<◌, ◌∷◌, ◌++◌}
+use Rattle.definitions.specs.Basics.{ℕ, Option, none, some, List, bind, [], map, length, take, replicate, is_empty, text}
 use Rattle.definitions.specs.Layout.{Reader, whole, exactly, word, number, hyphen_or_number, items, table_line}
 use Rattle.held_region.specs.Meaning.{code_of, no_table}
 use Rattle.scanner.specs.declared.Passed.{Passed}

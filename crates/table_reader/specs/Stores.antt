@@ -1,10 +1,10 @@
 -- Numbers put one after the other into a store of fixed length, which stops storing where it is full.
 use Rattle.std.specs.Prelude.{◌≡◌, length, get_or, set, ℕ, ◌≤◌, ◌<◌}
-use Rattle.std.proofs.Common.{sym, ◌∙◌, arith, length-append, length-set, get_or-set_same, get_or-set_other}
+use Rattle.std.proofs.Common.{sym, ◌∙◌, arith, length-append, length-set, get_or-set_same, get_or-set_other, ◌∷◌, ◌++◌}
 use Rattle.std.proofs.Math.Decide.{ℕ_discrete}
 use Rattle.std.proofs.Math.ListN.{get_or-append}
 use Rattle.std.proofs.Math.Seq.{get_or-append_seam}
-use Rattle.definitions.specs.Basics.{List, [], ◌∷◌, ◌++◌}
+use Rattle.definitions.specs.Basics.{List, []}
 
 -- The store holds the numbers as far as it goes. What stands behind them is not said.
 pub record Stored (store numbers : List ℕ) : Type 0 where

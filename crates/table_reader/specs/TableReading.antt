@@ -1,6 +1,6 @@
 -- What is read of a table line, and what is held of it.
-use Rattle.std.specs.Prelude.{◌≤◌, drop}
-use Rattle.definitions.specs.Basics.{ℕ, ◌≡◌, Bool, true, false, Option, none, some, List, ◌++◌, map, length}
+use Rattle.std.specs.Prelude.{◌≤◌, drop, ◌≡◌, ◌++◌}
+use Rattle.definitions.specs.Basics.{ℕ, Bool, true, false, Option, none, some, List, map, length}
 use Rattle.definitions.specs.Syntax as Said
 use Rattle.definitions.specs.Layout.{Reader, whole, word, number, hyphen_or_number, items, table_line}
 use Rattle.held_region.specs.declared.Table.{Table}

@@ -5,7 +5,8 @@ use native.Mathlib.Omega.{arith}
 use Prim.Native.Nat.{◌≤◌}
 use lib.ListN.{drop, drop_of_length-le}
 use lib.Seq.{drop-cons}
-use Rattle.definitions.specs.Basics.{ℕ, zero, suc, ◌+◌, ◌*◌, ◌/◌, ◌%◌, ◌<◌, List, [], ◌∷◌, ◌++◌, flatten, length, get_or}
+use Rattle.std.specs.Prelude.{◌+◌, ◌*◌, ◌/◌, ◌%◌, ◌<◌, ◌∷◌, ◌++◌}
+use Rattle.definitions.specs.Basics.{ℕ, zero, suc, List, [], flatten, length, get_or}
 use Rattle.definitions.specs.Spelling.{decimal}
 use Rattle.theorems.specs.Numbers.{digits_one, decimal_more}
 use Rattle.text_writer.specs.Wrote.{Room, Wrote, Left, room_for, then_left, none_left, other_parts}

@@ -1,8 +1,8 @@
 -- Parts in brackets as they are written: each after the first has a space before it.
 use Rattle.std.specs.Prelude.{◌≡◌, refl, ◌≤◌, drop}
 use Rattle.std.proofs.Math.Path.{sym, ap}
-use Rattle.std.proofs.Common.{◌∙◌, append_assoc, append-nil, add-one, arith, drop_of_length-le, drop-cons}
-use Rattle.definitions.specs.Basics.{ℕ, zero, suc, ◌+◌, ◌<◌, List, [], ◌∷◌, ◌++◌, map, flat_map, flatten, length, get_or, text}
+use Rattle.std.proofs.Common.{◌∙◌, append_assoc, append-nil, add-one, arith, drop_of_length-le, drop-cons, ◌+◌, ◌<◌, ◌∷◌, ◌++◌}
+use Rattle.definitions.specs.Basics.{ℕ, zero, suc, List, [], map, flat_map, flatten, length, get_or, text}
 use Rattle.definitions.specs.Spelling.{bracketed, line}
 use Rattle.text_writer.specs.Wrote.{Wrote, Left, none_yet, none_left, other_parts}
 

@@ -1,11 +1,11 @@
 -- Texts written into a lent area, one after another.
 use Rattle.std.specs.Prelude.{◌≡◌, refl, ◌≤◌, set, take, drop}
 use Rattle.std.proofs.Math.Path.{sym, ap}
-use Rattle.std.proofs.Common.{◌∙◌, arith, take_at}
+use Rattle.std.proofs.Common.{◌∙◌, arith, take_at, ◌+◌, ◌∷◌, ◌++◌}
 use Rattle.std.proofs.Math.ListN.{length-append}
 use Rattle.std.proofs.Math.Seq.{length-sets}
 use Rattle.std.proofs.lemmas.List.Edits.{sets-eq}
-use Rattle.definitions.specs.Basics.{ℕ, suc, ◌+◌, List, [], ◌∷◌, ◌++◌, flatten, length, sets}
+use Rattle.definitions.specs.Basics.{ℕ, suc, List, [], flatten, length, sets}
 
 -- A text has room at a place.
 abbrev pub Room : List ℕ → ℕ → List ℕ → Type 0

@@ -1,8 +1,8 @@
 // Bytes, texts and numbers written into a lent area from a place on. Each writer gives the place after what it wrote.
 #![tactic(auto)]
 
-ghost use Rattle.std.specs.Prelude.{◌≡◌, ◌+◌, ◌<◌};
-ghost use Rattle.definitions.specs.Basics.{[], ◌∷◌, map, get_or, length};
+ghost use Rattle.std.specs.Prelude.{◌≡◌, ◌+◌, ◌<◌, ◌∷◌};
+ghost use Rattle.definitions.specs.Basics.{[], map, get_or, length};
 ghost use Rattle.definitions.specs.Spelling.{decimal, bracketed};
 ghost use Rattle.text_writer.specs.Wrote.{Room, Wrote};
 ghost use Rattle.text_writer.specs.Parts.{gap};

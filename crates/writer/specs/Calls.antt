@@ -1,8 +1,8 @@
 -- The call from C of an entry that writes a file and gives its byte count in the result area.
 use Rattle.std.specs.Prelude.{◌≡◌}
 use Rattle.std.proofs.Math.Path.{refl, sym, ap}
-use Rattle.std.proofs.Common.{◌∙◌}
-use Rattle.definitions.specs.Basics.{ℕ, zero, suc, Bool, true, false, List, [], ◌∷◌}
+use Rattle.std.proofs.Common.{◌∙◌, ◌∷◌}
+use Rattle.definitions.specs.Basics.{ℕ, zero, suc, Bool, true, false, List, []}
 use Rattle.definitions.specs.Questions.{first_no, Asks, entry_asks, call_asks}
 use Rattle.definitions.specs.Writer.{made_by, WriteOutcome, write_outcome_of}
 use Rattle.definitions.specs.Boundary.{room_for_numbers, result_after, WriteCall, write_call_of}

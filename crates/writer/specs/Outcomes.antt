@@ -1,9 +1,9 @@
 -- What write gives back, by the answers to questions 5 to 10 and to 15.
 use Rattle.std.specs.Prelude.{◌≡◌, ◌≤◌}
 use Rattle.std.proofs.Math.Path.{refl, sym}
-use Rattle.std.proofs.Common.{ap, ap₂, ◌∙◌, arith, le-leb}
+use Rattle.std.proofs.Common.{ap, ap₂, ◌∙◌, arith, le-leb, ◌<◌, ◌∷◌, ◌++◌}
 use Rattle.std.proofs.lemmas.Bool.{lt-leb}
-use Rattle.definitions.specs.Basics.{ℕ, ◌<◌, true, List, [], ◌∷◌, ◌++◌, length, take, sets}
+use Rattle.definitions.specs.Basics.{ℕ, true, List, [], length, take, sets}
 use Rattle.definitions.specs.Spelling.{spell}
 use Rattle.definitions.specs.Questions.{Asked, first_no, asked_of_region}
 use Rattle.definitions.specs.Outcomes.{unless_refused}

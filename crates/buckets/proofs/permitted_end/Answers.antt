@@ -1,7 +1,8 @@
 use mathlib.Core.Path.{◌≡◌, sym, ap, ◌∙◌}
 use native.Mathlib.Omega.{arith}
 use borrow.Author.Tests.{ltb-true}
-use Rattle.definitions.specs.Basics.{ℕ, ◌<◌, true}
+use Rattle.std.specs.Prelude.{◌<◌}
+use Rattle.definitions.specs.Basics.{ℕ, true}
 use Rattle.scanner.specs.declared.Optional.{Optional}
 use Rattle.scanner.specs.declared.Optional.TheVariants.{Number}
 use Rattle.held_region.specs.Meaning.{optional}

@@ -1,6 +1,6 @@
 use native.Mathlib.Omega.{arith}
 use borrow.Author.Tests.{lt-ltb, le-ltb}
-use Rattle.definitions.specs.Basics.{◌/◌}
+use Rattle.std.specs.Prelude.{◌/◌}
 use Rattle.definitions.specs.Limits.{limits, plans_wanted}
 use Rattle.byte_areas.specs.Room.{cost_room}
 use Rattle.byte_areas.proofs.cost_room.Goals as goal

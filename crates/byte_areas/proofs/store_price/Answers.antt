@@ -1,5 +1,6 @@
 use mathlib.Core.Path.{ap, ◌∙◌}
-use Rattle.definitions.specs.Basics.{[], ◌∷◌}
+use Rattle.std.specs.Prelude.{◌∷◌}
+use Rattle.definitions.specs.Basics.{[]}
 use Rattle.definitions.specs.Boundary.{result_after}
 use Rattle.byte_areas.proofs.Stores.{flag_number}
 use Rattle.byte_areas.proofs.store_price.Goals as goal

@@ -5,7 +5,8 @@ use mathlib.Core.Bool.{Bool, true, false, or-false}
 use mathlib.Core.Path.{◌≡◌, sym, ap, ◌∙◌}
 use Prim.Native.Nat.{ℕ, ◌-◌, ◌≤◌}
 use native.Mathlib.Omega.{arith}
-use Rattle.definitions.specs.Basics.{◌&&◌, ◌||◌, eqb, ltb, get_or}
+use Rattle.std.specs.Prelude.{◌&&◌, ◌||◌}
+use Rattle.definitions.specs.Basics.{eqb, ltb, get_or}
 use Rattle.patient_set.specs.declared.PatientSet.{PatientSet}
 use Rattle.patient_set.specs.Sets.{in_set}
 use Rattle.held_region.specs.Sets.{in_none, one_place}

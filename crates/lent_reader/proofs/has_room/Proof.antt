@@ -1,6 +1,6 @@
 use borrow.Author.Rules.{rules}
 use borrow.Author.Tests.{lt-leb, le-leb}
-use Rattle.definitions.specs.Basics.{◌*◌}
+use Rattle.std.specs.Prelude.{◌*◌}
 use Rattle.lent_reader.proofs.has_room.Statement.{statement}
 use Rattle.lent_reader.proofs.has_room.Tie as tie
 

@@ -1,6 +1,7 @@
 use borrow.Author.Tests.{le-leb, lt-leb}
 use mathlib.Core.Path.{ap, sym, ◌∙◌}
-use Rattle.definitions.specs.Basics.{◌&&◌, leb}
+use Rattle.std.specs.Prelude.{◌&&◌}
+use Rattle.definitions.specs.Basics.{leb}
 use Rattle.definitions.specs.Limits.{within}
 use Rattle.limits.specs.declared.Limit.{Limit}
 use Rattle.limits.proofs.within.Goals as goal

@@ -1,7 +1,8 @@
 use Rattle.reader.specs.Loading.{checks}
 use borrow.Author.Rules.{rules}
 use mathlib.Core.Path.{ap, sym, ◌∙◌}
-use Rattle.definitions.specs.Basics.{[], ◌∷◌}
+use Rattle.std.specs.Prelude.{◌∷◌}
+use Rattle.definitions.specs.Basics.{[]}
 use Rattle.definitions.specs.Questions.{region_of, plan_fits, asked_by_price}
 use Rattle.definitions.specs.Outcomes.{price_outcome}
 use Rattle.answers.specs.Answers.{checked_number, not_allowed}

@@ -1,5 +1,6 @@
 use mathlib.Core.Path.{ap₂, ◌∙◌}
-use Rattle.definitions.specs.Basics.{◌*◌, [], ◌∷◌}
+use Rattle.std.specs.Prelude.{◌*◌, ◌∷◌}
+use Rattle.definitions.specs.Basics.{[]}
 use Rattle.definitions.specs.Outcomes.{written}
 use Rattle.definitions.specs.Boundary.{bytes_of}
 use Rattle.region_areas.proofs.store_patient.Goals as goal

@@ -2,7 +2,7 @@ use borrow.Author.Rules.{rules}
 use mathlib.Core.Path.{ap, ◌∙◌}
 use Prim.Native.Nat.{◌-◌}
 use native.Mathlib.Omega.{arith}
-use Rattle.definitions.specs.Basics.{◌&&◌}
+use Rattle.std.specs.Prelude.{◌&&◌}
 use Rattle.held_region.specs.Related.{set_in}
 use Rattle.region_parents.specs.Making.{underway_none, underway_next, underway_all}
 use Rattle.region_parents.proofs.make_patients.Goals as goal

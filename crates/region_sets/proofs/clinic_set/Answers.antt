@@ -4,7 +4,8 @@ use mathlib.Core.Bool.{Bool, true, false, or-false}
 use mathlib.Core.Path.{◌≡◌, sym, ap, ◌∙◌}
 use Prim.Native.Nat.{ℕ, ◌-◌}
 use native.Mathlib.Omega.{arith}
-use Rattle.definitions.specs.Basics.{◌&&◌, ◌||◌, eqb, ltb}
+use Rattle.std.specs.Prelude.{◌&&◌, ◌||◌}
+use Rattle.definitions.specs.Basics.{eqb, ltb}
 use Rattle.patient_set.specs.declared.PatientSet.{PatientSet}
 use Rattle.patient_set.specs.Sets.{in_set}
 use Rattle.held_region.specs.Meaning.{patient_in}

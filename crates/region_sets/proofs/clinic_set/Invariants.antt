@@ -1,6 +1,7 @@
 use mathlib.Core.Path.{◌≡◌}
 use Prim.Native.Nat.{ℕ, ◌-◌, ◌≤◌}
-use Rattle.definitions.specs.Basics.{◌&&◌, eqb, ltb}
+use Rattle.std.specs.Prelude.{◌&&◌}
+use Rattle.definitions.specs.Basics.{eqb, ltb}
 use Rattle.patient_set.specs.Sets.{in_set}
 use Rattle.held_region.specs.Meaning.{patient_in}
 use Rattle.region_sets.proofs.clinic_set.Given as goal

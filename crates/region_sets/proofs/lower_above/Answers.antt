@@ -1,5 +1,6 @@
 use mathlib.Core.Path.{ap, ◌∙◌}
-use Rattle.definitions.specs.Basics.{not, ◌&&◌}
+use Rattle.std.specs.Prelude.{◌&&◌}
+use Rattle.definitions.specs.Basics.{not}
 use Rattle.patient_set.specs.Sets.{in_set}
 use Rattle.held_region.specs.Sets.{lower_left}
 use Rattle.region_sets.proofs.lower_above.Goals as goal

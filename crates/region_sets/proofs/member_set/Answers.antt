@@ -2,7 +2,8 @@ use mathlib.Core.Bool.{or_assoc, or-false}
 use mathlib.Core.Path.{sym, ap, ◌∙◌}
 use Prim.Native.Nat.{◌+◌, ◌-◌}
 use native.Mathlib.Omega.{arith}
-use Rattle.definitions.specs.Basics.{◌||◌, contains}
+use Rattle.std.specs.Prelude.{◌||◌}
+use Rattle.definitions.specs.Basics.{contains}
 use Rattle.patient_set.specs.Sets.{in_set}
 use Rattle.held_region.specs.Members.{members_from, members_all, members_next, members_done}
 use Rattle.held_region.specs.Meaning.{members_of}

@@ -1,6 +1,7 @@
 use mathlib.Core.Path.{◌≡◌}
 use Prim.Native.Nat.{ℕ, ◌-◌}
-use Rattle.definitions.specs.Basics.{◌||◌, contains}
+use Rattle.std.specs.Prelude.{◌||◌}
+use Rattle.definitions.specs.Basics.{contains}
 use Rattle.patient_set.specs.Sets.{in_set}
 use Rattle.held_region.specs.Members.{members_from}
 use Rattle.held_region.specs.Meaning.{members_of}
