@@ -1,11 +1,11 @@
 -- A region that passes the questions that parents asks is accepted with the parents that are made.
 use Rattle.std.specs.Prelude.{◌≡◌, refl}
 use Rattle.std.proofs.Math.Path.{sym, ap}
-use Rattle.std.proofs.Common.{◌∙◌, arith}
+use Rattle.std.proofs.Common.{◌∙◌, arith, ◌<◌, ◌&&◌, ◌||◌}
 use Rattle.std.proofs.Math.Bool.{or-true}
 use borrow.Author.Tests.{lt-ltb, ltb-true}
-use Rattle.definitions.specs.Basics.{ℕ, ◌<◌, Bool, true, ◌&&◌, ◌||◌, List, length, eqb, ltb, product, every, contains}
-use Rattle.definitions.specs.Limits.{patient_count, table_count, plans_wanted, member_count, entry_count, within}
+use Rattle.definitions.specs.Basics.{ℕ, Bool, true, List, length, eqb, ltb, product, every, contains}
+use Rattle.definitions.specs.Limits.{member_count, entry_count, within}
 use Rattle.definitions.specs.Syntax.{Table, Region, patient_numbers, patient_at, bed_counts}
 use Rattle.definitions.specs.Questions.{short_enough, laid_out, counts_true, sum_true, counts_within, patients_within, parents_smaller, members_right, entries_of, entry_counts_right, entries_within, ancestors, members_related}
 use Rattle.definitions.specs.Questions.{region_of}

@@ -1,11 +1,11 @@
 -- A region with other parents: all else that is read of it stays, and a patient has the parent that was chosen.
 use Rattle.std.specs.Prelude.{◌≡◌}
 use Rattle.std.proofs.Math.Path.{refl, sym, ap}
-use Rattle.std.proofs.Common.{◌∙◌, arith}
+use Rattle.std.proofs.Common.{◌∙◌, arith, ◌<◌}
 use Rattle.std.proofs.Math.Option.{none-ne-some}
 use Rattle.std.proofs.Math.Decide.{dec_lt}
 use Rattle.std.proofs.Math.ListN.{get_or-eq_default}
-use Rattle.definitions.specs.Basics.{ℕ, ◌<◌, true, Option, none, some, List, map, length, get_or}
+use Rattle.definitions.specs.Basics.{ℕ, true, Option, none, some, List, map, length, get_or}
 use Rattle.definitions.specs.Syntax.{Patient, Region, patient_numbers, patient_at}
 use Rattle.definitions.specs.Questions.{counts_true}
 use Rattle.definitions.specs.Writer.{region_from, as_held}

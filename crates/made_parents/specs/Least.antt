@@ -1,10 +1,10 @@
 -- Every choice of parents that passes questions 6 and 10 has at least the ancestors that are made, no other has so few, and a region's own parents are a choice.
 use Rattle.std.specs.Prelude.{◌≡◌, refl}
-use Rattle.std.proofs.Common.{sym, ap, ◌∙◌, subst, arith}
+use Rattle.std.proofs.Common.{sym, ap, ◌∙◌, subst, arith, ◌<◌, ◌||◌}
 use Rattle.std.proofs.Math.Logic.{inl, inr}
 use Rattle.std.proofs.Math.Bool.{or_comm}
-use Rattle.definitions.specs.Basics.{ℕ, zero, suc, ◌<◌, true, ◌||◌, Option, none, List, map, length, get_or, contains}
-use Rattle.definitions.specs.Syntax.{Patient, Table, Region, patient_at}
+use Rattle.definitions.specs.Basics.{ℕ, zero, suc, true, Option, none, List, map, length, get_or, contains}
+use Rattle.definitions.specs.Syntax.{Patient, Table, Region, patient_numbers, patient_at}
 use Rattle.definitions.specs.Questions.{parents_smaller, ancestors, members_related}
 use Rattle.definitions.specs.Writer.{region_from, as_held}
 use Rattle.definitions.specs.Parents.{shared_tables, parents_made, with_parent, with_parents}
@@ -58,9 +58,25 @@ module _ (r : Region) (choice : List (Option ℕ)) (smaller : parents_smaller (w
       let above = made_above chosen smaller (shared_tables r) (length r.patients) tables_related s p (parent_chosen r (parents_made r) s p e) in
       elim is [ inl q ↦ rw q above | inr t ↦ ancestor_through chosen smaller s p above (least_below n p (omega arith) t) ]
 
+  -- So it has, for each patient, at least the ancestors that are made, and where it has at most these it is the made one.
+  pub made_within : Within r (parents_made r) choice
+  made_within s a k = least_below (suc s) s (omega arith) k
+
+  pub only_within : Within r choice (parents_made r) → with_parents r choice ≡ with_parents r (parents_made r)
+  unfolding with_parents
+  only_within fewest = ap (λ patients. region_from r.plans_wanted patients r.tables) (below_same _ _ (length r.patients) alike)
+    where
+      made : List (Option ℕ)
+      made = parents_made r
+
+      alike : (s : ℕ) → s < length r.patients → with_parent (patient_at r s) (get_or choice s none) ≡ with_parent (patient_at r s) (get_or made s none)
+      alike s h =
+          let same = same_parents chosen (with_parents r made) smaller (made_parents_smaller r) fewest made_within s in
+          ap (with_parent (patient_at r s)) (sym (chosen_parent r choice s h) ∙ same ∙ chosen_parent r made s h)
+
 -- Every choice that passes has, for each patient, at least the ancestors that are made.
 pub parents_least : (r : Region) (choice : List (Option ℕ)) → Passing r choice → Within r (parents_made r) choice
-parents_least r choice passing s a k = least_below r choice passing.smaller passing.related (suc s) s (omega arith) k
+parents_least r choice passing = made_within r choice passing.smaller passing.related
 
 -- The made one passes itself, ..
 pub made_passing : (r : Region) → PassesNine r → Passing r (parents_made r)
@@ -69,22 +85,18 @@ made_passing r nine = record { smaller = made_parents_smaller r; related = (made
 -- .. and it is the only one that has at most the ancestors of every choice that passes.
 pub only_parents : (r : Region) → PassesNine r → (choice : List (Option ℕ)) → Passing r choice → ((other : List (Option ℕ)) → Passing r other → Within r choice other)
     → with_parents r choice ≡ with_parents r (parents_made r)
-unfolding with_parents
-only_parents r nine choice passing fewest = ap (λ patients. region_from r.plans_wanted patients r.tables) (below_same _ _ (length r.patients) alike)
-  where
-    made : List (Option ℕ)
-    made = parents_made r
+only_parents r nine choice passing fewest =
+    only_within r choice passing.smaller passing.related (fewest (parents_made r) (record { smaller = made_parents_smaller r; related = (made_accepted r nine).related }))
 
-    alike : (s : ℕ) → s < length r.patients → with_parent (patient_at r s) (get_or choice s none) ≡ with_parent (patient_at r s) (get_or made s none)
-    alike s h =
-        let same = same_parents (with_parents r choice) (with_parents r made) passing.smaller (made_parents_smaller r)
-        (fewest made (made_passing r nine)) (parents_least r choice passing) s in
-        ap (with_parent (patient_at r s)) (sym (chosen_parent r choice s h) ∙ same ∙ chosen_parent r made s h)
-
--- The region's own parents are one such choice.
-pub parents_choice : (r : Region) → with_parents r (map (λ p. p.parent) r.patients) ≡ as_held r
-unfolding with_parents as_held patient_at
-parents_choice r = ap (λ patients. region_from r.plans_wanted patients r.tables) (by_places_lem _ _ (length r.patients) r.patients refl own)
+-- The region's own parents, chosen, leave each patient as it is.
+pub own_patients : (r : Region) → map (λ s. with_parent (patient_at r s) (get_or (map (λ p. p.parent) r.patients) s none)) (patient_numbers r) ≡ r.patients
+unfolding patient_at
+own_patients r = by_places_lem _ _ (length r.patients) r.patients refl own
   where
     own : (s : ℕ) → s < length r.patients → with_parent (patient_at r s) (get_or (map (λ p. p.parent) r.patients) s none) ≡ patient_at r s
     own s h = ap (with_parent (patient_at r s)) (map_at (λ (p : Patient). p.parent) r.patients s _ none h)
+
+-- So they are one such choice.
+pub parents_choice : (r : Region) → with_parents r (map (λ p. p.parent) r.patients) ≡ as_held r
+unfolding with_parents as_held
+parents_choice r = ap (λ patients. region_from r.plans_wanted patients r.tables) (own_patients r)

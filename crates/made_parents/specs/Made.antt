@@ -1,12 +1,12 @@
 -- The parents that a graph makes: how the list of them reads, that each is smaller than its patient, and that members of one group are related by them.
 use Rattle.std.specs.Prelude.{◌≡◌, refl}
-use Rattle.std.proofs.Common.{sym, ◌∙◌, inl, inr, arith, length-append}
+use Rattle.std.proofs.Common.{sym, ◌∙◌, inl, inr, arith, length-append, ◌<◌, ◌∷◌, ◌++◌}
 use Rattle.std.proofs.Math.Path.{ap}
 use Rattle.std.proofs.Math.Option.{none-ne-some}
 use Rattle.std.proofs.Math.Decide.{dec_lt, ℕ_discrete}
 use Rattle.std.proofs.Math.ListN.{get_or-append, get_or-eq_default}
 use Rattle.std.proofs.Math.Seq.{get_or-append_seam}
-use Rattle.definitions.specs.Basics.{ℕ, zero, suc, ◌<◌, true, none, some, List, [], ◌∷◌, ◌++◌, length, get_or, ltb, every_two, below}
+use Rattle.definitions.specs.Basics.{ℕ, zero, suc, true, none, some, List, [], length, get_or, ltb, every_two, below}
 use Rattle.definitions.specs.Syntax.{Region, patient_at}
 use Rattle.definitions.specs.Questions.{parents_smaller, ancestors}
 use Rattle.definitions.specs.Parents.{earlier_neighbours, last, parents_from}

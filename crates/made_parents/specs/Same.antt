@@ -1,9 +1,9 @@
 -- Regions that differ only in parents have the same plans, totals, list and sheets, and questions 11 and 13 have the same answer.
 use Rattle.std.specs.Prelude.{◌≡◌}
-use Rattle.std.proofs.Common.{sym, ◌∙◌}
+use Rattle.std.proofs.Common.{sym, ◌∙◌, ◌∷◌, ◌++◌}
 use Rattle.std.proofs.Math.Path.{ap}
 use Rattle.std.proofs.lemmas.Simd.{map-map}
-use Rattle.definitions.specs.Basics.{ℕ, not, cond, Option, none, some, option_map, option_get_or, List, [], ◌∷◌, ◌++◌, map, get_or, take, filter_map, is_some, is_empty, eqb, below, sum, any, keep, on_all, sort, first_occurrences}
+use Rattle.definitions.specs.Basics.{ℕ, not, cond, Option, none, some, option_map, option_get_or, List, [], map, get_or, take, filter_map, is_some, is_empty, eqb, below, sum, any, keep, on_all, sort, first_occurrences}
 use Rattle.definitions.specs.Syntax.{Patient, Table, Region, patient_numbers, patient_at, patients_of}
 use Rattle.definitions.specs.Plans.{Plan, bed_of, plans_for, plans, place, entry_for, cost_over, fixing, constraints, total, Row, compare_rows, list_of}
 use Rattle.definitions.specs.Sheets.{part, lowest, own_tables, own_cost, own_row, same_beds, sheet_of}
