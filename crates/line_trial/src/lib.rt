@@ -2,7 +2,8 @@
 #![tactic(auto)]
 
 ghost use Rattle.std.specs.Prelude.{◌≡◌};
-ghost use Rattle.definitions.specs.Lookup.{line_outcome};
+ghost use Rattle.definitions.specs.Basics.{length};
+ghost use Rattle.definitions.specs.Lookup.{line_outcome, part_of};
 
 use planner::line;
 
@@ -18,7 +19,8 @@ pub extern "C" fn rigbasen_trial_line<'a>(
     typed: &[u8],
     handed: &mut HandedBack<'a>,
 ) -> u64
-    ensures { result ≡ (line_outcome file.now typed.now).number }
+    ensures number { result ≡ (line_outcome file.now typed.now).number }
+    ensures part { record { number = result; block = handed.new.part.ref_ptr.0; place = handed.new.part.ref_ptr.1; size = length handed.new.part.now; bytes = handed.new.part.now } ≡ part_of file.entry.ref_ptr.0 file.entry.ref_ptr.1 file.now (line_outcome file.now typed.now) }
 {
     let mut number = 0;
     handed.part = line(file, typed, &mut number);
