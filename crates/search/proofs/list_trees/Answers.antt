@@ -1,0 +1,31 @@
+use Prim.Native.Nat.{◌-◌}
+use native.Mathlib.Omega.{arith}
+use Rattle.search.proofs.Forests.{forest_few, asks_start, listed_start, listed_done, asks_tree, listed_tree, listed_none}
+use Rattle.search.proofs.list_trees.Goals as goal
+use Rattle.search.proofs.list_trees.Goals.{then-size-gt0, else-size-gt0}
+
+pub start_list-requires : goal.start_list-requires
+start_list-requires c = asks_start c.requires
+
+pub loop-k-init : goal.loop-k-init
+loop-k-init c = listed_start c.requires c.start_list.ensures
+
+pub tree-set-requires : goal.tree-set-requires
+tree-set-requires c = forest_few c.requires
+
+pub add_tree-n-requires : goal.add_tree-n-requires
+add_tree-n-requires c = asks_tree c.requires c.loop-k.invariant c.start_list.ensures.long c.loop-k-test.true _ c.tree-set.ensures
+
+pub loop-k-preserved : goal.loop-k-preserved
+loop-k-preserved c =
+    let pre = c.requires in
+    let inv = c.loop-k.invariant in
+    let same = c.start_list.ensures.long in
+    let more = c.loop-k-test.true in
+    elim c.if-size-gt0.branch [
+      | then-size-gt0 w ↦ rw (w.work-is, w.n-is) (listed_tree pre inv same more _ c.tree-set.ensures w.add_tree-n.ensures)
+      | else-size-gt0 w ↦ rw (w.work-is, w.n-is) (listed_none pre inv same more _ c.tree-set.ensures (omega (arith, c.size.ensures, w.if-size-gt0.false)))
+    ]
+
+pub returns : goal.returns
+returns c = listed_done c.requires c.loop-k.invariant c.start_list.ensures.long c.loop-k-test.false
