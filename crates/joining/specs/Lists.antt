@@ -16,7 +16,8 @@ use Rattle.lists.specs.Maps.{map_take, map_cross}
 use Rattle.ranking.specs.First.{First, first_iff, first_unique, sorted_distinct}
 use Rattle.ranking.specs.Mapped.{sort_map}
 use Rattle.ranking.specs.Combining.{Combined, Rising, Injective, cross, cross_enumerates, first_cross}
-use Rattle.theorems.specs.List.{row_order, Fits, plans_enumerate, Allowed, by_beds, list_first}
+use Rattle.theorems.specs.List.{row_order, Fits, Allowed, by_beds}
+use Rattle.theorems.proofs.List.{plans_enumerate, list_first}
 use Rattle.theorems.specs.Interleaving.{Interleaved, done, marked, unmarked, unweave, rising_marked, rising_unmarked, fits_apart, fits_together}
 use Rattle.theorems.specs.Isolation.{fits_length}
 use Rattle.theorems.specs.Sums.{plus, Halves, halves}

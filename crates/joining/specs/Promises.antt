@@ -19,9 +19,11 @@ use Rattle.lists.specs.Every.{every_split}
 use Rattle.theorems.specs.Answers.{numbers, all_yes, Numbered, Says, says}
 use Rattle.theorems.specs.Refusals.{after_check, refused_before}
 use Rattle.theorems.specs.Accepted.{Accepted, accepted}
-use Rattle.theorems.specs.Yields.{yields, asked_after, sheet_some}
+use Rattle.theorems.specs.Yields.{yields, asked_after}
+use Rattle.theorems.proofs.Yields.{sheet_some}
 use Rattle.theorems.specs.Lengths.{most_written}
-use Rattle.theorems.specs.Writer.{written_short, written_region, written_accepted, Wrote, Unwritten, made_wrote, made_refused}
+use Rattle.theorems.specs.Writer.{Wrote, Unwritten, made_wrote, made_refused}
+use Rattle.theorems.proofs.Writer.{written_short, written_region, written_accepted}
 use Rattle.joining.specs.Joined.{joined_held}
 use Rattle.joining.specs.Accepted.{joined_accepted}
 use Rattle.joining.specs.Lists.{joined_list_lem, joined_none}

@@ -24,7 +24,8 @@ use Rattle.ranking.specs.FirstComing.{first_few, first_begins, first_images}
 use Rattle.theorems.specs.Readers.{empty_is}
 use Rattle.theorems.specs.Accepted.{Accepted, table_right, plans_wanted_lem}
 use Rattle.theorems.specs.Clinics.{clinic_patient, present_asked}
-use Rattle.theorems.specs.List.{row_order, Allowed, by_beds, list_first}
+use Rattle.theorems.specs.List.{row_order, Allowed, by_beds}
+use Rattle.theorems.proofs.List.{list_first}
 use Rattle.theorems.specs.Lowest.{lowest_in_lem}
 use Rattle.theorems.specs.Sameness.{beds_tests}
 use Rattle.theorems.specs.Sums.{sum_map}

@@ -12,7 +12,8 @@ use Rattle.theorems.specs.Accepted.{region_said_lem}
 use Rattle.theorems.specs.Readers.{Takes, then_each, whole_takes}
 use Rattle.theorems.specs.Lines.{in_file, flatten_lines, lines_flatten, lines_bytes}
 use Rattle.theorems.specs.Forms.{spell_end}
-use Rattle.theorems.specs.Files.{body_lines, file_lines, file_reads, flatten_body, flatten_file, file_lines_lem}
+use Rattle.theorems.specs.Files.{body_lines, file_lines, file_reads, flatten_body, flatten_file}
+use Rattle.theorems.proofs.Files.{file_lines_lem}
 
 -- A spelled tree is cut into its lines, whatever stands after it.
 lines_spell : (t : Region) (rest : List ℕ) → lines (spell t ++ rest) ≡ file_lines t ++ lines rest
