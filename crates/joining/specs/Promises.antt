@@ -1,9 +1,9 @@
 -- Request #106 as promised: what join's number says, what it leaves, and what the joined file is. Two files, f and g, and an output area.
 use Rattle.std.specs.Prelude.{◌≡◌, refl, ◌↔◌, ◌≤◌}
-use Rattle.std.proofs.Common.{sym, ◌∙◌, subst, append_assoc, arith}
+use Rattle.std.proofs.Common.{sym, ◌∙◌, subst, append_assoc, arith, ◌&&◌, ◌∷◌, ◌++◌}
 use Rattle.std.proofs.Math.Path.{ap, ap₂}
 use Rattle.std.proofs.Math.Dec.{eqb-suc-zero}
-use Rattle.definitions.specs.Basics.{ℕ, zero, suc, min, true, ◌&&◌, cond, List, [], ◌∷◌, ◌++◌, length, eqb}
+use Rattle.definitions.specs.Basics.{ℕ, zero, suc, min, true, cond, List, [], length, eqb}
 use Rattle.definitions.specs.Syntax.{Region}
 use Rattle.definitions.specs.Plans.{list_of}
 use Rattle.definitions.specs.Sheets.{sheet_of}

@@ -1,9 +1,9 @@
 -- Demand 3: two files that yield a list and have the same clinic, which no table joins to the others, have sheets that begin alike.
 use Rattle.std.proofs.Math.Path.{sym, ap}
-use Rattle.std.proofs.Common.{◌∙◌, arith, get_or-take, get_or-drop}
+use Rattle.std.proofs.Common.{◌∙◌, arith, get_or-take, get_or-drop, ◌+◌, ◌*◌, ◌<◌, ◌≡◌}
 use Rattle.std.specs.Prelude.{drop}
 use Rattle.std.proofs.lemmas.List.{length-map}
-use Rattle.definitions.specs.Basics.{ℕ, ◌+◌, ◌*◌, ◌<◌, min, ◌≡◌, List, [], length, get_or, take}
+use Rattle.definitions.specs.Basics.{ℕ, min, List, [], length, get_or, take}
 use Rattle.definitions.specs.Syntax.{Patient, Table, Region, patient_numbers, patient_at, patients_of}
 use Rattle.definitions.specs.Plans.{Plan, entry_for, cost_over, total, Row}
 use Rattle.definitions.specs.Sheets.{sheet_of}

@@ -1,7 +1,7 @@
 -- Demand 1: every cut of a laid-out file, short of the whole, is refused with number 2 by every entry and every call.
-use Rattle.std.proofs.Common.{sym, ap, ◌∙◌, arith, length-drop, length-take, take-append-drop, le-leb}
+use Rattle.std.proofs.Common.{sym, ap, ◌∙◌, arith, length-drop, length-take, take-append-drop, le-leb, ◌-◌, ◌<◌, ◌≡◌, ◌++◌}
 use Rattle.std.specs.Prelude.{drop}
-use Rattle.definitions.specs.Basics.{ℕ, ◌-◌, ◌<◌, ◌≡◌, refl, Bool, true, false, List, [], ◌++◌, flatten, length, take, is_empty}
+use Rattle.definitions.specs.Basics.{ℕ, refl, Bool, true, false, List, [], flatten, length, take, is_empty}
 use Rattle.definitions.specs.Limits.{file_length, limits, within}
 use Rattle.definitions.specs.Layout.{lines, layout}
 use Rattle.definitions.specs.Questions.{short_enough, laid_out, check_of, asked_by_check}

@@ -1,11 +1,11 @@
 -- The place of a table's entry, kept while beds change: it begins at 0, and one bed moves it by the patient's stride alone.
-use Rattle.std.proofs.Common.{add-mul}
+use Rattle.std.proofs.Common.{add-mul, ◌+◌, ◌*◌, ◌<◌, ◌≡◌, ◌∷◌}
 use Rattle.std.proofs.Math.Decide.{ℕ_discrete}
 use native.Mathlib.Omega.{arith}
 use borrow.Author.Tests.{ltb-true, eq-eqb, ne_eqb}
 use Rattle.std.specs.Prelude.{set}
 use Rattle.std.proofs.Math.Seq.{get_or-set_same, get_or-set_other}
-use Rattle.definitions.specs.Basics.{ℕ, ◌+◌, ◌*◌, ◌<◌, ◌≡◌, true, List, [], ◌∷◌, length, ltb, every, every_two}
+use Rattle.definitions.specs.Basics.{ℕ, true, List, [], length, ltb, every, every_two}
 use Rattle.definitions.specs.Syntax.{Table, Region}
 use Rattle.definitions.specs.Plans.{Plan, bed_of, place, place_in, stride}
 use Rattle.lists.specs.Tests.{both}

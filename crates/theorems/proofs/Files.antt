@@ -1,5 +1,6 @@
 -- The lines of a whole file, in their order.
-use Rattle.definitions.specs.Basics.{ℕ, ◌≡◌, refl, true, Option, none, some, [], ◌∷◌, map}
+use Rattle.std.specs.Prelude.{◌≡◌, ◌∷◌}
+use Rattle.definitions.specs.Basics.{ℕ, refl, true, Option, none, some, [], map}
 use Rattle.definitions.specs.Basics.{text, every}
 use Rattle.definitions.specs.Syntax.{Patient, Table, Region}
 use Rattle.definitions.specs.Spelling.{decimal, hyphen_or_decimal, bracketed, spell_patient, spell_table}

@@ -1,10 +1,10 @@
 -- Where no table joins a clinic to the others, its sheet is the beginning of the ranked list of the clinic alone.
 use Rattle.std.proofs.Math.Path.{sym, ap, ap₂}
-use Rattle.std.proofs.Common.{◌∙◌, inl, inr, arith}
+use Rattle.std.proofs.Common.{◌∙◌, inl, inr, arith, ◌≡◌}
 use Rattle.std.proofs.lemmas.Simd.{map-map}
 use Rattle.std.specs.Prelude.{◌≤◌}
 use Rattle.std.proofs.lemmas.List.{length-map}
-use Rattle.definitions.specs.Basics.{ℕ, ◌≡◌, Bool, false, not, Option, some, option_get_or}
+use Rattle.definitions.specs.Basics.{ℕ, Bool, false, not, Option, some, option_get_or}
 use Rattle.definitions.specs.Basics.{List, map, length, take, any, keep, contains, below}
 use Rattle.definitions.specs.Syntax.{Patient, Table, Region, patient_numbers, patient_at, bed_counts, patients_of}
 use Rattle.definitions.specs.Plans.{Plan, bed_of, entry_for, cost_over, total, Row, list_of}

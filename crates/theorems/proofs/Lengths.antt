@@ -1,10 +1,10 @@
 -- How long the lines of an accepted region are: a file that is written has at most `most_written` bytes.
 use Rattle.std.specs.Prelude.{◌≡◌, refl, ◌≤◌}
-use Rattle.std.proofs.Common.{sym, ap, ◌∙◌}
+use Rattle.std.proofs.Common.{sym, ap, ◌∙◌, ◌+◌, ◌*◌, ◌<◌, ◌∷◌, ◌++◌}
 use Rattle.std.proofs.Math.Nat.{mul-le-mul_right}
 use native.Mathlib.Omega.{arith}
 use Rattle.std.proofs.Math.ListN.{length-append}
-use Rattle.definitions.specs.Basics.{ℕ, suc, ◌+◌, ◌*◌, ◌<◌, Option, none, some, none_or, List, [], ◌∷◌, ◌++◌, map, flat_map, length, replicate}
+use Rattle.definitions.specs.Basics.{ℕ, suc, Option, none, some, none_or, List, [], map, flat_map, length, replicate}
 use Rattle.definitions.specs.Basics.{text, sum}
 use Rattle.definitions.specs.Limits.{Field, patient_count, table_count, plans_wanted, clinic, bed_count, member_count, entry_count, entry, limits, within}
 use Rattle.definitions.specs.Syntax.{Patient, Table, Region}

@@ -1,11 +1,11 @@
 -- Demand 2: the list is the one that the plans, their totals and their order determine.
-use Rattle.std.proofs.Common.{sym, ap, ◌∙◌, inl, inr, true≢false, arith, ltb-true, lt-ltb}
+use Rattle.std.proofs.Common.{sym, ap, ◌∙◌, inl, inr, true≢false, arith, ltb-true, lt-ltb, ◌+◌, ◌<◌, ◌≡◌, ◌∷◌, ◌&&◌}
 use Rattle.std.specs.Prelude.{◌⊎◌, ◌↔◌, ◌≤◌}
 use mathlib.Core.List.{head-eq_of_cons-eq, tail-eq_of_cons-eq}
 use Rattle.std.proofs.Math.Option.{none-ne-some}
 use Rattle.std.proofs.Math.Dec.{eqb-suc-suc, eqb-suc-zero, eqb-zero-suc}
-use Rattle.definitions.specs.Basics.{ℕ, suc, ◌+◌, ◌<◌, min, ◌≡◌, refl, Bool, true, false, Option, none, some, option_map}
-use Rattle.definitions.specs.Basics.{option_elim, List, [], ◌∷◌, map, length, filter_map, below, is_some, every, keep, get_or, cond, ◌&&◌, eqb, ltb}
+use Rattle.definitions.specs.Basics.{ℕ, suc, min, refl, Bool, true, false, Option, none, some, option_map}
+use Rattle.definitions.specs.Basics.{option_elim, List, [], map, length, filter_map, below, is_some, every, keep, get_or, cond, eqb, ltb}
 use Rattle.definitions.specs.Syntax.{Patient, Region, patient_at}
 use Rattle.definitions.specs.Plans.{Plan, plans_for, plans, total, allowed, Row, row_of, list_of}
 use Rattle.definitions.specs.Questions.{plan_allowed, plan_fits}

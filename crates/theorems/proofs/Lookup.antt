@@ -1,10 +1,10 @@
 -- Request #103: the line over the typed members.
-use Rattle.std.proofs.Common.{sym, ◌∙◌}
+use Rattle.std.proofs.Common.{sym, ◌∙◌, ◌≡◌, ◌++◌}
 use Rattle.std.proofs.Math.Path.{ap}
 use Rattle.std.specs.Prelude.{◌⊎◌}
 use Rattle.std.proofs.Math.Logic.{inl, inr}
 use Rattle.std.proofs.Math.Option.{some-injective, none-ne-some}
-use Rattle.definitions.specs.Basics.{ℕ, ◌≡◌, refl, true, false, none, some, bind, List, ◌++◌, map, text}
+use Rattle.definitions.specs.Basics.{ℕ, refl, true, false, none, some, bind, List, map, text}
 use Rattle.definitions.specs.Syntax.{Patient, Table, Region}
 use Rattle.definitions.specs.Layout.{whole, lines, table_line}
 use Rattle.definitions.specs.Spelling.{spell_patient, spell_table}

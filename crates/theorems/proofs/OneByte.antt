@@ -1,5 +1,5 @@
 -- A file whose questions 1 to 4 are answered yes, with one byte changed to another, is refused by every entry, by every call from C and in print.
-use Rattle.std.proofs.Common.{sym, ap, subst, ◌∙◌, arith, length-set, length-append, lt-length-set, get_or-set_same, get_or-set_other, get_or-append-add, take_at, drop_at, lt-ltb, le-leb, leb-true, eqb-true, ne_eqb}
+use Rattle.std.proofs.Common.{sym, ap, subst, ◌∙◌, arith, length-set, length-append, lt-length-set, get_or-set_same, get_or-set_other, get_or-append-add, take_at, drop_at, lt-ltb, le-leb, leb-true, eqb-true, ne_eqb, ◌+◌, ◌-◌, ◌<◌, ◌≡◌, ◌∷◌, ◌++◌}
 use Rattle.std.specs.Prelude.{◌≢◌, ◌≤◌, drop, set}
 use Rattle.std.proofs.lemmas.Bool.{false≢true, lt-leb}
 use Rattle.std.proofs.Math.Option.{some-injective}
@@ -7,7 +7,7 @@ use Rattle.std.proofs.Math.Decide.{dec_lt, ℕ_discrete}
 use Rattle.std.proofs.Math.ListN.{get_or-append}
 use Rattle.std.proofs.lemmas.List.{set-append_left, take-set-le}
 use Rattle.std.proofs.Math.Seq.{append_snoc, take-append_seam, drop-append_seam}
-use Rattle.definitions.specs.Basics.{ℕ, zero, suc, ◌+◌, ◌-◌, ◌<◌, ◌≡◌, refl, Bool, true, false, not, some, List, [], ◌∷◌, ◌++◌, take, length, leb}
+use Rattle.definitions.specs.Basics.{ℕ, zero, suc, refl, Bool, true, false, not, some, List, [], take, length, leb}
 use Rattle.definitions.specs.Basics.{get_or, eqb, sum, text, every}
 use Rattle.definitions.specs.Limits.{limits}
 use Rattle.definitions.specs.Layout.{is_digit, whole, end_line}

@@ -1,13 +1,13 @@
 -- Read, the mirror of write: what its number says, what it leaves in the lent areas, and that writing what was read gives the file back.
 use Rattle.std.specs.Prelude.{◌≡◌, ◌≤◌}
 use Rattle.std.proofs.Math.Path.{refl, ap}
-use Rattle.std.proofs.Common.{ap₂, ◌∙◌, length-append, length-drop, take_at}
+use Rattle.std.proofs.Common.{ap₂, ◌∙◌, length-append, length-drop, take_at, ◌+◌, ◌*◌, ◌^◌, ◌<◌, ◌&&◌, ◌∷◌, ◌++◌}
 use native.Mathlib.Omega.{arith}
 use Rattle.std.proofs.lemmas.List.{length-map, take-append-le, drop-append-le}
 use Rattle.std.proofs.Math.ListN.{drop}
 use Rattle.std.proofs.lemmas.List.Edits.{sets-eq}
 use borrow.Author.Tests.{lt-ltb, leb-true, le-leb}
-use Rattle.definitions.specs.Basics.{ℕ, suc, ◌+◌, ◌*◌, ◌^◌, ◌<◌, Bool, true, ◌&&◌, List, [], ◌∷◌, ◌++◌, flat_map, length, get_or, take, leb, every}
+use Rattle.definitions.specs.Basics.{ℕ, suc, Bool, true, List, [], flat_map, length, get_or, take, leb, every}
 use Rattle.definitions.specs.Limits.{patient_count, table_count, plans_wanted, limits}
 use Rattle.definitions.specs.Syntax.{Patient, Table, Region}
 use Rattle.definitions.specs.Questions.{Asked, entries_of, region_of, asked_of_region, asked_by_check}

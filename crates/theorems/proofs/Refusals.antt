@@ -1,10 +1,10 @@
 -- Demand 1, of the entries over a file and their calls from C: what each number says, and what a refusal hands back and leaves.
 -- (What the writer's number says stands in `Writer`.)
 use Rattle.std.specs.Prelude.{◌≡◌, refl, drop}
-use Rattle.std.proofs.Common.{ap, ap₂, ◌∙◌, inl, inr, arith, ne_eqb, le-leb}
+use Rattle.std.proofs.Common.{ap, ap₂, ◌∙◌, inl, inr, arith, ne_eqb, le-leb, ◌+◌, ◌*◌, ◌++◌}
 use Rattle.std.proofs.lemmas.List.{length-replicate, replicate-append-replicate}
 use Rattle.std.proofs.lemmas.Bool.{lt-leb}
-use Rattle.definitions.specs.Basics.{ℕ, zero, suc, ◌+◌, ◌*◌, List, [], ◌++◌, flat_map, length, replicate}
+use Rattle.definitions.specs.Basics.{ℕ, zero, suc, List, [], flat_map, length, replicate}
 use Rattle.definitions.specs.Plans.{Plan, Row}
 use Rattle.definitions.specs.Questions.{Asked, region_of, room_for_rows}
 use Rattle.definitions.specs.Questions.{call_asks, asked_by_list, asked_by_sheet, asked_by_price}

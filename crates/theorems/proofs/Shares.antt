@@ -1,6 +1,6 @@
 -- Request #104: the clinics' shares of an allowed plan add up to its total, and where no table joins the figures are what they were.
-use Rattle.std.proofs.Common.{ap, ◌∙◌, arith}
-use Rattle.definitions.specs.Basics.{ℕ, ◌+◌, ◌≡◌, refl, Bool, true, false, cond, option_get_or, List, [], ◌∷◌, map, below, sum, keep}
+use Rattle.std.proofs.Common.{ap, ◌∙◌, arith, ◌+◌, ◌≡◌, ◌∷◌}
+use Rattle.definitions.specs.Basics.{ℕ, refl, Bool, true, false, cond, option_get_or, List, [], map, below, sum, keep}
 use Rattle.definitions.specs.Limits.{limits}
 use Rattle.definitions.specs.Plans.{cost_over, Row, list_of}
 use Rattle.definitions.specs.Sheets.{own_cost}

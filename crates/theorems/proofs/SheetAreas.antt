@@ -1,12 +1,12 @@
 -- What stands in the lent areas after a sheet is printed: each row of the sheet in its place.
-use Rattle.std.proofs.Common.{sym, ◌∙◌, append_assoc, mul-le-mul, mul-le-mul_right, arith, take_at}
+use Rattle.std.proofs.Common.{sym, ◌∙◌, append_assoc, mul-le-mul, mul-le-mul_right, arith, take_at, ◌+◌, ◌*◌, ◌<◌, ◌≡◌, ◌∷◌, ◌++◌}
 use Rattle.std.proofs.Math.Path.{ap}
 use Rattle.std.proofs.Math.Nat.{le_trans}
 use borrow.Author.Tests.{leb-true}
 use Rattle.std.specs.Prelude.{◌≤◌}
 use Rattle.std.proofs.Math.ListN.{length-map}
 use Rattle.std.proofs.Math.Seq.{drop-append-add}
-use Rattle.definitions.specs.Basics.{ℕ, zero, suc, ◌+◌, ◌*◌, ◌<◌, ◌≡◌, refl, true, List, [], ◌∷◌, ◌++◌, map, flat_map, length, get_or, take}
+use Rattle.definitions.specs.Basics.{ℕ, zero, suc, refl, true, List, [], map, flat_map, length, get_or, take}
 use Rattle.definitions.specs.Basics.{leb}
 use Rattle.definitions.specs.Syntax.{Region, patients_of}
 use Rattle.definitions.specs.Plans.{Row, list_of}

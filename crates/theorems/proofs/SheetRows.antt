@@ -1,8 +1,8 @@
 -- A sheet holds each differing clinic part of its list once, with the own cost of the row where it first came.
-use Rattle.std.proofs.Common.{sym, ap, ◌∙◌, subst, inl, inr, arith}
+use Rattle.std.proofs.Common.{sym, ap, ◌∙◌, subst, inl, inr, arith, ◌+◌, ◌≡◌}
 use mathlib.Core.List.{map-map}
 use Rattle.std.proofs.lemmas.List.{length-map}
-use Rattle.definitions.specs.Basics.{ℕ, ◌+◌, ◌≡◌, refl, List, map, length, take, sort}
+use Rattle.definitions.specs.Basics.{ℕ, refl, List, map, length, take, sort}
 use Rattle.definitions.specs.Syntax.{Region}
 use Rattle.definitions.specs.Plans.{Plan, Row, list_of}
 use Rattle.definitions.specs.Sheets.{part, own_row, sheet_of}

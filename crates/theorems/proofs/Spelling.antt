@@ -1,9 +1,9 @@
 -- A file is laid out exactly where it is the spelling of a well-formed tree; so each accepted file has one spelling.
-use Rattle.std.proofs.Common.{sym, ap, ◌∙◌, append-nil}
+use Rattle.std.proofs.Common.{sym, ap, ◌∙◌, append-nil, ◌≡◌, ◌++◌}
 use Rattle.std.specs.Prelude.{◌↔◌}
 use Rattle.std.proofs.Math.Option.{some-injective}
 use Rattle.lists.specs.Maps.{drop_last_lem}
-use Rattle.definitions.specs.Basics.{ℕ, ◌≡◌, true, cond, none, some, List, [], ◌++◌, flatten, drop_last, every, is_empty}
+use Rattle.definitions.specs.Basics.{ℕ, true, cond, none, some, List, [], flatten, drop_last, every, is_empty}
 use Rattle.definitions.specs.Syntax.{Region}
 use Rattle.definitions.specs.Layout.{whole, lines, region_lines, layout}
 use Rattle.definitions.specs.Spelling.{spell_body, spell, well_formed}

@@ -1,12 +1,12 @@
 -- Request #101: a written file is read as the region that was written, and a region that was read is written as its file.
 use Rattle.std.specs.Prelude.{◌≡◌, ◌≤◌}
 use Rattle.std.proofs.Math.Path.{refl, sym, ap}
-use Rattle.std.proofs.Common.{ap₂, ◌∙◌}
+use Rattle.std.proofs.Common.{ap₂, ◌∙◌, ◌∷◌, ◌++◌}
 use Rattle.std.proofs.Math.Option.{some-injective}
 use native.Mathlib.Omega.{arith}
 use Rattle.std.proofs.Math.ListN.{drop}
 use borrow.Author.Tests.{le-leb, eqb-true, eq-eqb}
-use Rattle.definitions.specs.Basics.{ℕ, suc, Bool, true, some, List, [], ◌∷◌, ◌++◌, length}
+use Rattle.definitions.specs.Basics.{ℕ, suc, Bool, true, some, List, [], length}
 use Rattle.definitions.specs.Basics.{is_some}
 use Rattle.definitions.specs.Limits.{limits, within}
 use Rattle.definitions.specs.Syntax.{Region}

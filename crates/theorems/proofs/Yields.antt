@@ -1,6 +1,6 @@
 -- Which files yield a list, and when a sheet is printed: what list's and sheet's number 0 says of the questions.
-use Rattle.std.proofs.Common.{sym, ◌∙◌, true≢false, arith}
-use Rattle.definitions.specs.Basics.{ℕ, ◌<◌, ◌≡◌, refl, List, [], ◌∷◌, map, length}
+use Rattle.std.proofs.Common.{sym, ◌∙◌, true≢false, arith, ◌<◌, ◌≡◌, ◌∷◌}
+use Rattle.definitions.specs.Basics.{ℕ, refl, List, [], map, length}
 use Rattle.definitions.specs.Syntax.{Region}
 use Rattle.definitions.specs.Plans.{Plan, Row, list_of}
 use Rattle.definitions.specs.Sheets.{part, sheet_of}

@@ -2,15 +2,15 @@
 -- (Theorems that rest on these stand in `proofs/Accepted.antt`.)
 use Rattle.std.specs.Prelude.{◌≡◌, ◌⊎◌, ◌≤◌}
 use Rattle.std.proofs.Math.Path.{refl, sym}
-use Rattle.std.proofs.Common.{ap, ◌∙◌, subst, true≢false, le_trans, mul-le-mul_right}
+use Rattle.std.proofs.Common.{ap, ◌∙◌, subst, true≢false, le_trans, mul-le-mul_right, ◌*◌, ◌<◌, ◌&&◌, ◌||◌, ◌∷◌}
 use Rattle.std.proofs.Math.Logic.{inl, inr}
 use Rattle.std.proofs.Math.Option.{none-ne-some}
 use Rattle.std.proofs.Math.Decide.{dec_lt}
 use native.Mathlib.Omega.{arith}
 use borrow.Author.Tests.{leb-true, ltb-true, eqb-true}
 use Rattle.std.proofs.Math.ListN.{get_or-eq_default}
-use Rattle.definitions.specs.Basics.{ℕ, ◌*◌, ◌<◌, Bool, true, false, ◌&&◌, ◌||◌, Option, none, some, option_get_or}
-use Rattle.definitions.specs.Basics.{List, [], ◌∷◌, map, length, get_or, leb, ltb, eqb, sum, product, every, every_two, keep, contains, none_or, is_some}
+use Rattle.definitions.specs.Basics.{ℕ, Bool, true, false, Option, none, some, option_get_or}
+use Rattle.definitions.specs.Basics.{List, [], map, length, get_or, leb, ltb, eqb, sum, product, every, every_two, keep, contains, none_or, is_some}
 use Rattle.definitions.specs.Limits.{Field, patient_count, table_count, plans_wanted, clinic, bed_count, member_count, entry_count, entry, limits, within}
 use Rattle.definitions.specs.Syntax.{Patient, Table, Region, patient_numbers, patient_at, bed_counts}
 use Rattle.definitions.specs.Layout.{layout}

@@ -1,6 +1,7 @@
 -- Demand 3: two files that yield a list and have the same clinic, which no table joins to the others, have sheets that begin alike.
 -- (Theorems that rest on these stand in `proofs/Agreement.antt`.)
-use Rattle.definitions.specs.Basics.{ℕ, ◌<◌, ◌≡◌, get_or, take}
+use Rattle.std.specs.Prelude.{◌<◌, ◌≡◌}
+use Rattle.definitions.specs.Basics.{ℕ, get_or, take}
 use Rattle.definitions.specs.Outcomes.{ListOutcome}
 use Rattle.definitions.specs.Boundary.{bytes_of, ListCall}
 use Rattle.theorems.specs.SheetAreas.{row_at}

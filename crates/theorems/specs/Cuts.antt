@@ -1,6 +1,7 @@
 -- Demand 1: every cut of a laid-out file, short of the whole, is refused with number 2 by every entry and every call.
 -- (Theorems that rest on these stand in `proofs/Cuts.antt`.)
-use Rattle.definitions.specs.Basics.{ℕ, ◌<◌, ◌≡◌, true, List, length, take}
+use Rattle.std.specs.Prelude.{◌<◌, ◌≡◌}
+use Rattle.definitions.specs.Basics.{ℕ, true, List, length, take}
 use Rattle.definitions.specs.Questions.{short_enough, laid_out}
 use Rattle.theorems.specs.Refused.{Refused}
 

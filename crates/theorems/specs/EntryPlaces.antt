@@ -1,12 +1,12 @@
 -- The place of a table's entry, kept while beds change: it begins at 0, and one bed moves it by the patient's stride alone.
 -- (Theorems that rest on these stand in `proofs/EntryPlaces.antt`.)
-use Rattle.std.proofs.Common.{sym, inl, inr}
+use Rattle.std.proofs.Common.{sym, inl, inr, ◌+◌, ◌*◌, ◌<◌, ◌≡◌, ◌∷◌}
 use Rattle.std.proofs.Math.Path.{ap}
 use Rattle.std.proofs.lemmas.Simd.{map-map}
 use native.Mathlib.Omega.{arith}
 use borrow.Author.Tests.{ltb-true, eq-eqb, ne_eqb}
 use Rattle.std.specs.Prelude.{set}
-use Rattle.definitions.specs.Basics.{ℕ, ◌+◌, ◌*◌, ◌<◌, ◌≡◌, refl, true, List, [], ◌∷◌, map, length, ltb, product, every, every_two}
+use Rattle.definitions.specs.Basics.{ℕ, refl, true, List, [], map, length, ltb, product, every, every_two}
 use Rattle.definitions.specs.Syntax.{Table, Region, patient_at, bed_counts}
 use Rattle.definitions.specs.Plans.{Plan, bed_of, place, place_in, stride}
 use Rattle.lists.specs.Tests.{both}

@@ -1,7 +1,7 @@
 -- The lines of a whole file, in their order.
 -- (Theorems that rest on these stand in `proofs/Files.antt`.)
-use Rattle.std.proofs.Common.{sym, ap, ◌∙◌, append_assoc, append-nil}
-use Rattle.definitions.specs.Basics.{ℕ, ◌≡◌, refl, Bool, true, ◌&&◌, none, some, bind, List, [], ◌∷◌, ◌++◌, map, flatten}
+use Rattle.std.proofs.Common.{sym, ap, ◌∙◌, append_assoc, append-nil, ◌≡◌, ◌&&◌, ◌∷◌, ◌++◌}
+use Rattle.definitions.specs.Basics.{ℕ, refl, Bool, true, none, some, bind, List, [], map, flatten}
 use Rattle.definitions.specs.Basics.{text, every, none_or}
 use Rattle.definitions.specs.Syntax.{Table, Region}
 use Rattle.definitions.specs.Layout.{is_digit, whole, patient_line, table_line, region_lines}

@@ -1,9 +1,9 @@
 -- Where no table joins a clinic to the others, its sheet is the beginning of the ranked list of the clinic alone.
 -- (Theorems that rest on these stand in `proofs/Isolation.antt`.)
 use Rattle.std.proofs.Math.Path.{sym, ap}
-use Rattle.std.proofs.Common.{◌∙◌}
-use Rattle.definitions.specs.Basics.{ℕ, suc, ◌+◌, ◌<◌, ◌≡◌, refl, Bool, false, option_get_or}
-use Rattle.definitions.specs.Basics.{List, [], ◌∷◌, map, length, eqb, any, keep, contains}
+use Rattle.std.proofs.Common.{◌∙◌, ◌+◌, ◌<◌, ◌≡◌, ◌∷◌}
+use Rattle.definitions.specs.Basics.{ℕ, suc, refl, Bool, false, option_get_or}
+use Rattle.definitions.specs.Basics.{List, [], map, length, eqb, any, keep, contains}
 use Rattle.definitions.specs.Syntax.{Table, Region, patient_numbers, patient_at, patients_of}
 use Rattle.definitions.specs.Plans.{Plan, cost_over, Row}
 use Rattle.definitions.specs.Sheets.{lowest, part, own_tables, own_cost}

@@ -1,7 +1,7 @@
 -- Demand 3 on files written out: its hypotheses can be met by files that differ in all else, and a table that joins does make a difference, and so does a fixed bed.
 -- (Theorems that rest on these stand in `proofs/IsolationExamples.antt`.)
-use Rattle.std.proofs.Common.{ap, arith}
-use Rattle.definitions.specs.Basics.{ℕ, ◌≡◌, refl, Bool, true, false, cond, none, some, List, [], ◌∷◌, length, get_or, any}
+use Rattle.std.proofs.Common.{ap, arith, ◌≡◌, ◌∷◌}
+use Rattle.definitions.specs.Basics.{ℕ, refl, Bool, true, false, cond, none, some, List, [], length, get_or, any}
 use Rattle.definitions.specs.Syntax.{Patient, Table, bed_counts, fixed_beds, patients_of}
 use Rattle.definitions.specs.Questions.{region_of}
 use Rattle.definitions.specs.Plans.{Row}

@@ -1,9 +1,9 @@
 -- Demand 2: the list is the one that the plans, their totals and their order determine.
 -- (Theorems that rest on these stand in `proofs/List.antt`.)
-use Rattle.std.proofs.Common.{ap}
+use Rattle.std.proofs.Common.{ap, ◌<◌, ◌≡◌, ◌∷◌}
 use Rattle.std.specs.Prelude.{◌⊎◌}
-use Rattle.definitions.specs.Basics.{ℕ, ◌<◌, min, ◌≡◌, refl, some}
-use Rattle.definitions.specs.Basics.{List, [], ◌∷◌, map, length, keep}
+use Rattle.definitions.specs.Basics.{ℕ, min, refl, some}
+use Rattle.definitions.specs.Basics.{List, [], map, length, keep}
 use Rattle.definitions.specs.Syntax.{Region}
 use Rattle.definitions.specs.Plans.{Plan, plans, total, allowed, Row, compare_rows, list_of}
 use Rattle.lists.specs.Members.{◌∈◌, Distinct}

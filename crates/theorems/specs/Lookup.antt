@@ -1,6 +1,6 @@
 -- Request #103: the line over the typed members.
 -- (Theorems that rest on these stand in `proofs/Lookup.antt`.)
-use Rattle.std.proofs.Common.{sym, ap₂, ◌∙◌, true≢false, append_assoc, append-nil, zero-add, take-append-drop}
+use Rattle.std.proofs.Common.{sym, ap₂, ◌∙◌, true≢false, append_assoc, append-nil, zero-add, take-append-drop, ◌+◌, ◌-◌, ◌≡◌, ◌∷◌, ◌++◌}
 use Rattle.std.proofs.Math.Path.{ap}
 use Rattle.std.specs.Prelude.{◌↔◌, ◌⊎◌, ◌≤◌}
 use Rattle.std.proofs.Math.Logic.{inl, inr}
@@ -8,7 +8,7 @@ use Rattle.std.proofs.lemmas.Bool.{false≢true}
 use native.Mathlib.Omega.{arith}
 use Rattle.std.proofs.Math.ListN.{length-append}
 use Rattle.std.proofs.Math.Seq.{take-append_seam, drop-append_seam}
-use Rattle.definitions.specs.Basics.{ℕ, zero, suc, ◌+◌, ◌-◌, ◌≡◌, refl, Bool, true, false, cond, Option, none, some, option_get_or, List, [], ◌∷◌, ◌++◌, map, length, take, drop, text}
+use Rattle.definitions.specs.Basics.{ℕ, zero, suc, refl, Bool, true, false, cond, Option, none, some, option_get_or, List, [], map, length, take, drop, text}
 use Rattle.definitions.specs.Basics.{flatten, eqb, same, is_some, any}
 use Rattle.definitions.specs.Syntax.{Table}
 use Rattle.definitions.specs.Layout.{whole, number, exactly, lines, items, table_line}

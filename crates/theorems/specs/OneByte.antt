@@ -1,7 +1,7 @@
 -- A file whose questions 1 to 4 are answered yes, with one byte changed to another, is refused by every entry, by every call from C and in print.
 -- (Theorems that rest on these stand in `proofs/OneByte.antt`.)
-use Rattle.std.specs.Prelude.{◌≢◌, ◌≤◌, set}
-use Rattle.definitions.specs.Basics.{ℕ, ◌<◌, ◌≡◌, List, length}
+use Rattle.std.specs.Prelude.{◌≢◌, ◌≤◌, set, ◌<◌, ◌≡◌}
+use Rattle.definitions.specs.Basics.{ℕ, List, length}
 use Rattle.definitions.specs.Basics.{get_or}
 use Rattle.definitions.specs.Questions.{first_no, asked_of_file, check_of}
 use Rattle.theorems.specs.Refused.{Refused}

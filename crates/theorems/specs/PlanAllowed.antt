@@ -1,8 +1,8 @@
 -- Question 13 of a region, as the list's row count answers it.
 -- (Theorems that rest on these stand in `proofs/PlanAllowed.antt`.)
 use Rattle.std.specs.Prelude.{◌≡◌, refl}
-use Rattle.std.proofs.Common.{sym, ◌∙◌, arith}
-use Rattle.definitions.specs.Basics.{ℕ, List, [], ◌∷◌, length}
+use Rattle.std.proofs.Common.{sym, ◌∙◌, arith, ◌∷◌}
+use Rattle.definitions.specs.Basics.{ℕ, List, [], length}
 use Rattle.definitions.specs.Syntax as Said
 use Rattle.definitions.specs.Plans.{Row, list_of}
 use Rattle.theorems.specs.Accepted.{Accepted}

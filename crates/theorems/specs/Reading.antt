@@ -1,8 +1,8 @@
 -- Read, the mirror of write: what its number says, what it leaves in the lent areas, and that writing what was read gives the file back.
 -- (Theorems that rest on these stand in `proofs/Reading.antt`.)
-use Rattle.std.specs.Prelude.{◌≡◌, ◌≤◌}
+use Rattle.std.specs.Prelude.{◌≡◌, ◌≤◌, ◌*◌, ◌∷◌, ◌++◌}
 use Rattle.std.proofs.Math.ListN.{drop}
-use Rattle.definitions.specs.Basics.{ℕ, ◌*◌, true, List, [], ◌∷◌, ◌++◌, length, take}
+use Rattle.definitions.specs.Basics.{ℕ, true, List, [], length, take}
 use Rattle.definitions.specs.Syntax.{Region}
 use Rattle.definitions.specs.Questions.{Asked, entries_of, asked_by_check, check_of, call_asks}
 use Rattle.definitions.specs.Writer.{written_file, room_for_file, made_by}

@@ -2,8 +2,8 @@
 -- (What the writer's number says stands in `Writer`.)
 -- (Theorems that rest on these stand in `proofs/Refusals.antt`.)
 use Rattle.std.specs.Prelude.{◌≡◌, refl, ◌⊎◌, drop, ◌≤◌}
-use Rattle.std.proofs.Common.{ap, arith}
-use Rattle.definitions.specs.Basics.{ℕ, zero, suc, ◌*◌, ◌<◌, Bool, true, false, Option, none, some, List, [], ◌∷◌, ◌++◌, length, replicate}
+use Rattle.std.proofs.Common.{ap, arith, ◌*◌, ◌<◌, ◌∷◌, ◌++◌}
+use Rattle.definitions.specs.Basics.{ℕ, zero, suc, Bool, true, false, Option, none, some, List, [], length, replicate}
 use Rattle.definitions.specs.Syntax.{Region}
 use Rattle.definitions.specs.Plans.{Plan, Row, total, list_of}
 use Rattle.definitions.specs.Sheets.{sheet_of}

@@ -1,7 +1,7 @@
 -- Request #104: the clinics' shares of an allowed plan add up to its total, and where no table joins the figures are what they were.
 -- (Theorems that rest on these stand in `proofs/Shares.antt`.)
-use Rattle.std.proofs.Common.{sym, ap, ◌∙◌, true≢false, arith}
-use Rattle.definitions.specs.Basics.{ℕ, ◌≡◌, refl, true, false, not, some, option_get_or, List, [], ◌∷◌, map, is_empty, below, sum, any, keep, contains}
+use Rattle.std.proofs.Common.{sym, ap, ◌∙◌, true≢false, arith, ◌≡◌, ◌∷◌}
+use Rattle.definitions.specs.Basics.{ℕ, refl, true, false, not, some, option_get_or, List, [], map, is_empty, below, sum, any, keep, contains}
 use Rattle.definitions.specs.Syntax.{Region, patient_at, patients_of}
 use Rattle.definitions.specs.Plans.{entry_for, cost_over, total, Row}
 use Rattle.definitions.specs.Sheets.{lowest, own_tables, own_cost}

@@ -1,10 +1,10 @@
 -- What stands in the lent areas after a sheet is printed: each row of the sheet in its place.
 -- (Theorems that rest on these stand in `proofs/SheetAreas.antt`.)
-use Rattle.std.proofs.Common.{arith}
+use Rattle.std.proofs.Common.{arith, ◌*◌, ◌<◌, ◌≡◌}
 use Rattle.std.proofs.Math.Path.{ap}
 use Rattle.std.proofs.Math.Nat.{le_trans}
 use Rattle.std.specs.Prelude.{◌≤◌, drop}
-use Rattle.definitions.specs.Basics.{ℕ, ◌*◌, ◌<◌, ◌≡◌, List, length, get_or, take}
+use Rattle.definitions.specs.Basics.{ℕ, List, length, get_or, take}
 use Rattle.definitions.specs.Syntax.{Region, patient_numbers, patients_of}
 use Rattle.definitions.specs.Plans.{Row}
 use Rattle.definitions.specs.Sheets.{sheet_of}

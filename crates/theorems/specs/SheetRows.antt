@@ -1,7 +1,7 @@
 -- A sheet holds each differing clinic part of its list once, with the own cost of the row where it first came.
 -- (Theorems that rest on these stand in `proofs/SheetRows.antt`.)
-use Rattle.std.proofs.Common.{sym, subst}
-use Rattle.definitions.specs.Basics.{ℕ, ◌≡◌, List, [], ◌∷◌, ◌++◌, map, length}
+use Rattle.std.proofs.Common.{sym, subst, ◌≡◌, ◌∷◌, ◌++◌}
+use Rattle.definitions.specs.Basics.{ℕ, List, [], map, length}
 use Rattle.definitions.specs.Syntax.{Region}
 use Rattle.definitions.specs.Plans.{Plan, Row, list_of}
 use Rattle.definitions.specs.Sheets.{part, own_row, sheet_of}

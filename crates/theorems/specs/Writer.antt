@@ -2,12 +2,12 @@
 -- (Theorems that rest on these stand in `proofs/Writer.antt`.)
 use Rattle.std.specs.Prelude.{◌≡◌, ◌≤◌}
 use Rattle.std.proofs.Math.Path.{refl, sym, ap}
-use Rattle.std.proofs.Common.{◌∙◌}
+use Rattle.std.proofs.Common.{◌∙◌, ◌+◌, ◌<◌, ◌&&◌, ◌∷◌, ◌++◌}
 use native.Mathlib.Omega.{arith}
 use Rattle.std.proofs.Math.ListN.{drop}
 use Rattle.std.proofs.Math.Seq.{sets-eq}
 use borrow.Author.Tests.{lt-ltb, ltb-true, leb-true, eq-eqb}
-use Rattle.definitions.specs.Basics.{ℕ, suc, ◌+◌, ◌<◌, Bool, true, ◌&&◌, not, Option, none, some, none_or, List, [], ◌∷◌, ◌++◌, length, take}
+use Rattle.definitions.specs.Basics.{ℕ, suc, Bool, true, not, Option, none, some, none_or, List, [], length, take}
 use Rattle.definitions.specs.Basics.{leb, every, is_empty, sets}
 use Rattle.definitions.specs.Limits.{Field, patient_count, table_count, plans_wanted, clinic, bed_count, entry, limits, within}
 use Rattle.definitions.specs.Syntax.{Patient, Table, Region}

@@ -1,8 +1,8 @@
 -- Which files yield a list, and when a sheet is printed: what list's and sheet's number 0 says of the questions.
 -- (Theorems that rest on these stand in `proofs/Yields.antt`.)
-use Rattle.std.proofs.Common.{sym, ap, ◌∙◌}
+use Rattle.std.proofs.Common.{sym, ap, ◌∙◌, ◌≡◌, ◌&&◌, ◌∷◌, ◌++◌}
 use Rattle.std.specs.Prelude.{◌↔◌}
-use Rattle.definitions.specs.Basics.{ℕ, ◌≡◌, refl, true, ◌&&◌, List, [], ◌∷◌, ◌++◌}
+use Rattle.definitions.specs.Basics.{ℕ, refl, true, List, []}
 use Rattle.definitions.specs.Questions.{Asked, region_of, check_of, clinic_present, room_for_rows, areas_long_enough, plan_allowed}
 use Rattle.definitions.specs.Questions.{asked_by_check, asked_by_list, asked_by_sheet}
 use Rattle.definitions.specs.Outcomes.{sheet_outcome}
