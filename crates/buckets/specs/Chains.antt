@@ -10,7 +10,8 @@ use Rattle.definitions.specs.Syntax.{Table, Region, patient_at}
 use Rattle.definitions.specs.Plans.{Plan, bed_of, entry_for}
 use Rattle.lists.specs.Members.{◌∈◌, get_d_in}
 use Rattle.theorems.specs.Accepted.{Accepted, TableRight, member_at_lem, table_right, patients_few, entries_few, beds_some, entry_small}
-use Rattle.theorems.specs.EntryPlaces.{place_moved, stride_highest}
+use Rattle.theorems.specs.EntryPlaces.{stride_highest}
+use Rattle.theorems.proofs.EntryPlaces.{place_moved}
 use Rattle.held_region.specs.Stores.{table_at, start_of, start_next, start_most, HasEntries}
 use Rattle.bucket_words.specs.Words.{start_at, next_at, member_at, stride_at}
 use Rattle.bucket_words.specs.Kept.{kept_at}

@@ -7,8 +7,9 @@ use Rattle.definitions.specs.Syntax as Said
 use Rattle.definitions.specs.Plans.{Row}
 use Rattle.definitions.specs.Sheets.{own_row, sheet_of}
 use Rattle.lists.specs.Members.{◌∈◌}
-use Rattle.theorems.specs.Accepted.{Accepted, own_small, most_total}
-use Rattle.theorems.specs.SheetRows.{sheet_rows}
+use Rattle.theorems.specs.Accepted.{Accepted, most_total}
+use Rattle.theorems.proofs.Accepted.{own_small}
+use Rattle.theorems.proofs.SheetRows.{sheet_rows}
 
 -- Each own cost is at most `most_total`.
 pub own_costs_small : (r : Said.Region) → Accepted r → (c : ℕ) (z : Row) → z ∈ sheet_of r c → z.cost ≤ most_total

@@ -28,7 +28,8 @@ use Rattle.answers.specs.declared.Sheeted.TheVariants.{Absent, Short, Nothing, R
 use Rattle.answers.specs.Answers.{sheeted_outcome}
 use Rattle.region_answers.specs.Found.{last_asked, no_twelve, no_thirteen, no_refusal, outcome_with, asked_outcome}
 use Rattle.theorems.specs.Clinics.{present_asked}
-use Rattle.theorems.specs.PlanAllowed.{no_list, list_none, list_some}
+use Rattle.theorems.specs.PlanAllowed.{no_list}
+use Rattle.theorems.proofs.PlanAllowed.{list_none, list_some}
 use Rattle.clinic_sheet.specs.Sheets.{late_asked, AsksSheet, SheetWritten, RegionSheeted, no_eleven, yes_eleven}
 use Rattle.region_answers.proofs.Areas.{question, all_long, narrow, written_out}
 use Rattle.region_answers.proofs.Lists.{most, found_count}

@@ -7,7 +7,7 @@ use Rattle.definitions.specs.Syntax.{patients_of}
 use Rattle.definitions.specs.Sheets.{sheet_of}
 use Rattle.definitions.specs.Questions.{Asked, first_no, entry_asks, region_of, clinic_present, areas_long_enough, asked_by_check, asked_by_sheet}
 use Rattle.definitions.specs.Outcomes.{found_by, sheet_found, outcome_of, sheet_outcome}
-use Rattle.theorems.specs.SheetAreas.{rows_few}
+use Rattle.theorems.proofs.SheetAreas.{rows_few}
 use Rattle.held_region.specs.declared.Region.{Region}
 use Rattle.held_region.specs.Meaning.{said}
 use Rattle.sheets.specs.Sheets.{Given, Asks}

@@ -7,7 +7,7 @@ use Rattle.definitions.specs.Spelling.{spell_body, spell}
 use Rattle.definitions.specs.Questions.{checksum, counts_true}
 use Rattle.definitions.specs.Writer.{as_held, written_file}
 use Rattle.lists.specs.Tests.{join}
-use Rattle.theorems.specs.Writer.{as_held_lem}
+use Rattle.theorems.proofs.Writer.{as_held_lem}
 use Rattle.held_region.specs.declared.Region.{Region}
 use Rattle.held_region.specs.Meaning.{said}
 use Rattle.held_region.specs.Asked.{patients_said_lem, tables_said}

@@ -1,10 +1,10 @@
 -- Two accepted regions whose patients, tables and entries stay within 32, 64 and 4,096 are accepted when they are joined.
 use Rattle.std.specs.Prelude.{◌≡◌, ◌≤◌}
 use Rattle.std.proofs.Math.Path.{refl, ap, ap₂}
-use Rattle.std.proofs.Common.{sym, ◌∙◌, arith}
+use Rattle.std.proofs.Common.{sym, ◌∙◌, arith, ◌+◌, ◌<◌, ◌&&◌, ◌||◌, ◌∷◌, ◌++◌}
 use Rattle.std.proofs.lemmas.List.{length-map}
 use borrow.Author.Tests.{lt-ltb, le-leb, eq-eqb}
-use Rattle.definitions.specs.Basics.{ℕ, zero, suc, ◌+◌, ◌<◌, min, Bool, true, ◌&&◌, ◌||◌, Option, none, some, option_map, none_or, List, ◌∷◌, ◌++◌, map, length, eqb, ltb, product, every, every_two, contains}
+use Rattle.definitions.specs.Basics.{ℕ, zero, suc, min, Bool, true, Option, none, some, option_map, none_or, List, map, length, eqb, ltb, product, every, every_two, contains}
 use Rattle.definitions.specs.Limits.{patient_count, table_count, plans_wanted, member_count, limits, within}
 use Rattle.definitions.specs.Syntax.{Patient, Table, Region, patient_numbers, patient_at, bed_counts}
 use Rattle.definitions.specs.Questions.{counts_true, counts_within, patients_within, parents_smaller, members_right, entry_counts_right, entries_within, following, ancestors, members_related}

@@ -1,12 +1,12 @@
 -- Both regions stand in the joined one: the first from patient 0 on, the second behind it. So one law serves both.
 use Rattle.std.specs.Prelude.{◌≡◌, ◌≤◌}
 use Rattle.std.proofs.Math.Path.{refl, ap}
-use Rattle.std.proofs.Common.{sym, ◌∙◌, zero-add, arith, length-append}
+use Rattle.std.proofs.Common.{sym, ◌∙◌, zero-add, arith, length-append, ◌+◌, ◌<◌, ◌++◌}
 use mathlib.Core.List.{map-id, map-map}
 use Rattle.std.proofs.lemmas.List.{length-map}
 use Rattle.std.proofs.Math.ListN.{get_or-append}
 use Rattle.std.proofs.Math.Seq.{get_or-append-add}
-use Rattle.definitions.specs.Basics.{ℕ, ◌+◌, ◌<◌, min, Option, none, some, option_map, List, ◌++◌, map, length, below}
+use Rattle.definitions.specs.Basics.{ℕ, min, Option, none, some, option_map, List, map, length, below}
 use Rattle.definitions.specs.Syntax.{Patient, Table, Region, patient_numbers, patient_at}
 use Rattle.definitions.specs.Writer.{region_from, as_held}
 use Rattle.definitions.specs.Joining.{patient_after, table_after, joined_region}

@@ -1,10 +1,10 @@
 -- The list of the joined region is the first m pairs of a row from each list; it has none where either has none.
 use Rattle.std.specs.Prelude.{◌≡◌, refl, drop}
-use Rattle.std.proofs.Common.{sym, ap₂, ◌∙◌, subst, inl, inr, arith, length-drop, take-append-drop, length-take-le}
+use Rattle.std.proofs.Common.{sym, ap₂, ◌∙◌, subst, inl, inr, arith, length-drop, take-append-drop, length-take-le, ◌+◌, ◌<◌, ◌&&◌, ◌∷◌, ◌++◌}
 use Rattle.std.proofs.Math.Path.{ap}
 use Rattle.std.proofs.lemmas.List.{map-append, length-map}
 use Rattle.std.proofs.lemmas.Simd.{map-map}
-use Rattle.definitions.specs.Basics.{ℕ, ◌+◌, ◌<◌, min, compare, Bool, true, false, ◌&&◌, option_get_or, is_some, List, [], ◌∷◌, ◌++◌, map, length, take, replicate, sort}
+use Rattle.definitions.specs.Basics.{ℕ, min, compare, Bool, true, false, option_get_or, is_some, List, [], map, length, take, replicate, sort}
 use Rattle.definitions.specs.Syntax.{Patient, Region}
 use Rattle.definitions.specs.Plans.{bed_of, plans, total, allowed, Row, then_by, compare_rows, list_of}
 use Rattle.definitions.specs.Questions.{plan_allowed}
@@ -16,7 +16,8 @@ use Rattle.lists.specs.Maps.{map_take, map_cross}
 use Rattle.ranking.specs.First.{First, first_iff, first_unique, sorted_distinct}
 use Rattle.ranking.specs.Mapped.{sort_map}
 use Rattle.ranking.specs.Combining.{Combined, Rising, Injective, cross, cross_enumerates, first_cross}
-use Rattle.theorems.specs.List.{row_order, Fits, plans_enumerate, Allowed, by_beds, list_first}
+use Rattle.theorems.specs.List.{row_order, Fits, Allowed, by_beds}
+use Rattle.theorems.proofs.List.{plans_enumerate, list_first}
 use Rattle.theorems.specs.Interleaving.{Interleaved, done, marked, unmarked, unweave, rising_marked, rising_unmarked, fits_apart, fits_together}
 use Rattle.theorems.specs.Isolation.{fits_length}
 use Rattle.theorems.specs.Sums.{plus, Halves, halves}

@@ -1,9 +1,9 @@
 -- Request #106 as promised: what join's number says, what it leaves, and what the joined file is. Two files, f and g, and an output area.
 use Rattle.std.specs.Prelude.{◌≡◌, refl, ◌↔◌, ◌≤◌}
-use Rattle.std.proofs.Common.{sym, ◌∙◌, subst, append_assoc, arith}
+use Rattle.std.proofs.Common.{sym, ◌∙◌, subst, append_assoc, arith, ◌&&◌, ◌∷◌, ◌++◌}
 use Rattle.std.proofs.Math.Path.{ap, ap₂}
 use Rattle.std.proofs.Math.Dec.{eqb-suc-zero}
-use Rattle.definitions.specs.Basics.{ℕ, zero, suc, min, true, ◌&&◌, cond, List, [], ◌∷◌, ◌++◌, length, eqb}
+use Rattle.definitions.specs.Basics.{ℕ, zero, suc, min, true, cond, List, [], length, eqb}
 use Rattle.definitions.specs.Syntax.{Region}
 use Rattle.definitions.specs.Plans.{list_of}
 use Rattle.definitions.specs.Sheets.{sheet_of}
@@ -19,9 +19,11 @@ use Rattle.lists.specs.Every.{every_split}
 use Rattle.theorems.specs.Answers.{numbers, all_yes, Numbered, Says, says}
 use Rattle.theorems.specs.Refusals.{after_check, refused_before}
 use Rattle.theorems.specs.Accepted.{Accepted, accepted}
-use Rattle.theorems.specs.Yields.{yields, asked_after, sheet_some}
+use Rattle.theorems.specs.Yields.{yields, asked_after}
+use Rattle.theorems.proofs.Yields.{sheet_some}
 use Rattle.theorems.specs.Lengths.{most_written}
-use Rattle.theorems.specs.Writer.{written_short, written_region, written_accepted, Wrote, Unwritten, made_wrote, made_refused}
+use Rattle.theorems.specs.Writer.{Wrote, Unwritten, made_wrote, made_refused}
+use Rattle.theorems.proofs.Writer.{written_short, written_region, written_accepted}
 use Rattle.joining.specs.Joined.{joined_held}
 use Rattle.joining.specs.Accepted.{joined_accepted}
 use Rattle.joining.specs.Lists.{joined_list_lem, joined_none}

@@ -1,12 +1,12 @@
 -- The sheet of a clinic that only one of the regions has: in the joined region it is a beginning of the sheet in its own.
 use Rattle.std.specs.Prelude.{◌≡◌, ◌≤◌, drop}
 use Rattle.std.proofs.Math.Path.{sym, ap, ap₂}
-use Rattle.std.proofs.Common.{◌∙◌, true≢false, arith, length-append, take-append-drop}
+use Rattle.std.proofs.Common.{◌∙◌, true≢false, arith, length-append, take-append-drop, ◌+◌, ◌<◌, ◌++◌}
 use Rattle.std.proofs.Math.Bool.{not-eq-not}
 use mathlib.Core.List.{append-nil, map-append, map-map}
 use borrow.Author.Tests.{eqb-true, not-true, not-false}
 use Rattle.std.proofs.lemmas.List.{length-map, take-append-le}
-use Rattle.definitions.specs.Basics.{ℕ, ◌+◌, ◌<◌, min, true, false, not, option_get_or, List, [], ◌++◌, map, length, take, eqb, keep, is_empty, contains, below, first_occurrences}
+use Rattle.definitions.specs.Basics.{ℕ, min, true, false, not, option_get_or, List, [], map, length, take, eqb, keep, is_empty, contains, below, first_occurrences}
 use Rattle.definitions.specs.Syntax.{Patient, Region, patient_numbers, patient_at, patients_of}
 use Rattle.definitions.specs.Plans.{Plan, bed_of, cost_over, total, Row, list_of}
 use Rattle.definitions.specs.Questions.{clinic_present}
@@ -24,7 +24,8 @@ use Rattle.ranking.specs.FirstComing.{first_few, first_begins, first_images}
 use Rattle.theorems.specs.Readers.{empty_is}
 use Rattle.theorems.specs.Accepted.{Accepted, table_right, plans_wanted_lem}
 use Rattle.theorems.specs.Clinics.{clinic_patient, present_asked}
-use Rattle.theorems.specs.List.{row_order, Allowed, by_beds, list_first}
+use Rattle.theorems.specs.List.{row_order, Allowed, by_beds}
+use Rattle.theorems.proofs.List.{list_first}
 use Rattle.theorems.specs.Lowest.{lowest_in_lem}
 use Rattle.theorems.specs.Sameness.{beds_tests}
 use Rattle.theorems.specs.Sums.{sum_map}

@@ -1,7 +1,7 @@
 -- Numbers that are each v more: what tests and lists keep of them.
 use Rattle.std.specs.Prelude.{◌≡◌, refl}
-use Rattle.std.proofs.Common.{ap, ap₂, ◌∙◌, map-id, zero-add, arith, ltb-true, lt-ltb, eqb-true, eq-eqb}
-use Rattle.definitions.specs.Basics.{ℕ, zero, suc, ◌+◌, ◌<◌, min, Bool, true, false, ◌&&◌, ◌||◌, cond, List, [], ◌∷◌, ◌++◌, map, length, eqb, ltb, numbers_from, below, every_two, keep, contains}
+use Rattle.std.proofs.Common.{ap, ap₂, ◌∙◌, map-id, zero-add, arith, ltb-true, lt-ltb, eqb-true, eq-eqb, ◌+◌, ◌<◌, ◌&&◌, ◌||◌, ◌∷◌, ◌++◌}
+use Rattle.definitions.specs.Basics.{ℕ, zero, suc, min, Bool, true, false, cond, List, [], map, length, eqb, ltb, numbers_from, below, every_two, keep, contains}
 use Rattle.definitions.specs.Sheets.{lowest}
 use Rattle.lists.specs.Tests.{same_answer}
 use Rattle.lists.specs.Members.{◌∈◌, here, there}

@@ -1,10 +1,10 @@
 -- A plan of the joined region costs what its parts cost in the two regions.
 use Rattle.std.specs.Prelude.{◌≡◌}
 use Rattle.std.proofs.Math.Path.{sym, ap, ap₂}
-use Rattle.std.proofs.Common.{◌∙◌, zero-add, arith, get_or-append-add}
+use Rattle.std.proofs.Common.{◌∙◌, zero-add, arith, get_or-append-add, ◌+◌, ◌<◌, ◌++◌}
 use Rattle.std.proofs.lemmas.Simd.{map-map}
 use Rattle.std.proofs.Math.ListN.{get_or-append}
-use Rattle.definitions.specs.Basics.{ℕ, ◌+◌, ◌<◌, Option, none, ◌++◌, map, length, get_or}
+use Rattle.definitions.specs.Basics.{ℕ, Option, none, map, length, get_or}
 use Rattle.definitions.specs.Syntax.{Patient, Table, Region, patient_numbers}
 use Rattle.definitions.specs.Plans.{Plan, bed_of, place, entry_for, cost_over, total}
 use Rattle.definitions.specs.Joining.{table_after, joined_region}

@@ -9,7 +9,8 @@ use Rattle.definitions.specs.Questions.{first_no, entry_asks, check_of}
 use Rattle.definitions.specs.Lookup.{typed_right, first_line, line_over, asked_by_line, LineOutcome, part_unless_refused, line_found, line_outcome}
 use Rattle.theorems.specs.Accepted.{accepted}
 use Rattle.theorems.specs.Refusals.{after_check, refused_before}
-use Rattle.theorems.specs.Lookup.{begins, over_begins}
+use Rattle.theorems.specs.Lookup.{begins}
+use Rattle.theorems.proofs.Lookup.{over_begins}
 use Rattle.line_finder.specs.Found.{no_line}
 
 module _ (file typed : List ℕ) where

@@ -20,10 +20,12 @@ use Rattle.lists.specs.Tests.{join}
 use Rattle.lists.specs.Members.{◌∈◌}
 use Rattle.lists.specs.Every.{every_split}
 use Rattle.theorems.specs.Answers.{all_yes, Says, says}
-use Rattle.theorems.specs.Refusals.{ResultZeroed, result_zeroed, after_check}
+use Rattle.theorems.specs.Refusals.{ResultZeroed, after_check}
+use Rattle.theorems.proofs.Refusals.{result_zeroed}
 use Rattle.theorems.specs.Accepted.{Accepted, accepted, patients_counted_lem}
 use Rattle.theorems.specs.Lengths.{most_written}
-use Rattle.theorems.specs.Writer.{written_short, written_region, written_accepted, read_held, Wrote, Unwritten, made_wrote, made_refused}
+use Rattle.theorems.specs.Writer.{Wrote, Unwritten, made_wrote, made_refused}
+use Rattle.theorems.proofs.Writer.{written_short, written_region, written_accepted, read_held}
 use Rattle.made_parents.specs.Chosen.{Alike, chosen_held, chosen_alike}
 use Rattle.made_parents.specs.Accepted.{PassesNine, asked_nine, made_parents_smaller, made_accepted}
 use Rattle.made_parents.specs.Least.{Passing, Within, made_within, only_within, own_patients}

@@ -8,7 +8,8 @@ use Rattle.lists.specs.Members.{◌∈◌}
 use Rattle.lists.specs.Every.{every_all, any_in, any_false}
 use Rattle.lists.specs.Keep.{keep_all, keep_none}
 use Rattle.ranking.specs.First.{First, first_iff, first_unique}
-use Rattle.theorems.specs.List.{row_order, Allowed, list_first}
+use Rattle.theorems.specs.List.{row_order, Allowed}
+use Rattle.theorems.proofs.List.{list_first}
 use Rattle.theorems.specs.Accepted.{Accepted, constraint_held, constraint_known}
 use Rattle.partial_rows.specs.Adding.{add_beds, add_zeros}
 use Rattle.partial_rows.specs.Sets.{Patients}

@@ -16,7 +16,7 @@ use Rattle.row_sums.specs.Sums.{work_part}
 use Rattle.row_sums.specs.Areas.{part_long}
 use Rattle.search.specs.Trees.{GivesRegion}
 use Rattle.held_region.specs.Counts.{counts_few}
-use Rattle.theorems.specs.PlanAllowed.{list_none, list_some}
+use Rattle.theorems.proofs.PlanAllowed.{list_none, list_some}
 use Rattle.text_writer.specs.Wrote.{Room, Wrote, Left, none_yet, room_for, then_left, none_left}
 use Rattle.row_printer.specs.Printing.{Printable}
 use Rattle.printer.specs.Steps.{sheets_from, region_text, AsksText, AsksSheets, GivesSheets, GivesText}

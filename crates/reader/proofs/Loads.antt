@@ -19,7 +19,7 @@ use Rattle.theorems.specs.Accepted.{region_said_lem}
 use Rattle.theorems.specs.Items.{some_all}
 use Rattle.theorems.specs.Forms.{ok_table}
 use Rattle.theorems.specs.Files.{well_formed_lines}
-use Rattle.theorems.specs.Spelling.{layout_spelling, body_spelt}
+use Rattle.theorems.proofs.Spelling.{layout_spelling, body_spelt}
 use Rattle.line_reader.specs.Forms.{number_unmarked}
 use Rattle.held_region.specs.Meaning.{mark, said}
 use Rattle.held_region.specs.declared.Region.{Region}

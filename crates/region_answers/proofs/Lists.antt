@@ -10,8 +10,9 @@ use Rattle.definitions.specs.Plans.{Row, list_of}
 use Rattle.definitions.specs.Questions.{areas_long_enough}
 use Rattle.definitions.specs.Outcomes.{written, outcome_of}
 use Rattle.lists.specs.Members.{◌∈◌}
-use Rattle.theorems.specs.Accepted.{Accepted, total_small, most_total}
-use Rattle.theorems.specs.List.{list_first}
+use Rattle.theorems.specs.Accepted.{Accepted, most_total}
+use Rattle.theorems.proofs.Accepted.{total_small}
+use Rattle.theorems.proofs.List.{list_first}
 use Rattle.partial_rows.specs.Padding.{unpadded}
 use Rattle.held_region.specs.declared.Region.{Region}
 use Rattle.held_region.specs.Meaning.{said}
@@ -23,7 +24,8 @@ use Rattle.search.specs.Trees.{GivesRegion}
 use Rattle.answers.specs.declared.Listed.TheVariants.{Short, Nothing, Rows}
 use Rattle.answers.specs.Answers.{listed_outcome}
 use Rattle.held_region.specs.Counts.{counts_few}
-use Rattle.theorems.specs.PlanAllowed.{no_list, list_none, list_some}
+use Rattle.theorems.specs.PlanAllowed.{no_list}
+use Rattle.theorems.proofs.PlanAllowed.{list_none, list_some}
 use Rattle.region_answers.specs.Found.{last_asked, no_twelve, no_thirteen, no_refusal, asked_outcome}
 use Rattle.region_answers.specs.Lists.{RegionListed}
 use Rattle.region_answers.proofs.Areas.{question, all_long, rows_counted, narrow, written_out}

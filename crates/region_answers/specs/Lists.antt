@@ -5,7 +5,7 @@ use Rattle.definitions.specs.Syntax as Said
 use Rattle.definitions.specs.Plans.{list_of}
 use Rattle.definitions.specs.Questions.{entry_asks, region_of, areas_long_enough, asked_by_check, asked_by_list}
 use Rattle.definitions.specs.Outcomes.{found_by, list_found, outcome_of, list_outcome}
-use Rattle.theorems.specs.List.{list_first}
+use Rattle.theorems.proofs.List.{list_first}
 use Rattle.answers.specs.declared.Listed.{Listed}
 use Rattle.answers.specs.Answers.{listed_outcome}
 use Rattle.region_answers.specs.Found.{last_asked, AsksTwelve, asks_twelve}

@@ -14,7 +14,8 @@ use Rattle.theorems.specs.Accepted.{Accepted, plans_wanted_lem}
 use Rattle.theorems.specs.Forms.{ok_head, ok_patient, ok_table}
 use Rattle.theorems.specs.Files.{LinesOk, well_formed_lines}
 use Rattle.theorems.specs.Lengths.{most_written}
-use Rattle.theorems.specs.Writer.{written_short, written_formed}
+use Rattle.theorems.specs.Writer.{written_formed}
+use Rattle.theorems.proofs.Writer.{written_short}
 use Rattle.held_region.specs.declared.Table.{Table}
 use Rattle.held_region.specs.declared.Region.{Region}
 use Rattle.held_region.specs.Meaning.{patient_of, patient_in, members_of, table_in, start_in, table_said, said}

@@ -17,12 +17,14 @@ use Rattle.lists.specs.Every.{every_in}
 use Rattle.lists.specs.Keep.{keep_out, keep_short}
 use Rattle.lists.specs.Below.{numbers_enumerate, below_long}
 use Rattle.theorems.specs.Refusals.{yield_says}
-use Rattle.theorems.specs.Accepted.{Accepted, patients_few, plans_wanted_lem, beds_within, own_small, total_small}
-use Rattle.theorems.specs.List.{Fits, list_first}
+use Rattle.theorems.specs.Accepted.{Accepted, patients_few, plans_wanted_lem, beds_within}
+use Rattle.theorems.proofs.Accepted.{own_small, total_small}
+use Rattle.theorems.specs.List.{Fits}
+use Rattle.theorems.proofs.List.{list_first}
 use Rattle.theorems.specs.Isolation.{fits_length}
 use Rattle.theorems.specs.Yields.{yielding}
-use Rattle.theorems.specs.SheetRows.{sheet_rows}
-use Rattle.theorems.specs.SheetAreas.{rows_few, row_wide}
+use Rattle.theorems.proofs.SheetRows.{sheet_rows}
+use Rattle.theorems.proofs.SheetAreas.{rows_few, row_wide}
 use Rattle.row_printer.specs.Sizes.{Small, sheet_most, printed_most, list_size, sheets_size, refusal_size}
 use Rattle.row_printer.specs.Shares.{sum_keep, shares}
 

@@ -18,7 +18,8 @@ use Rattle.ranking.specs.Growing.{Grown, Ready, ready_nil}
 use Rattle.ranking.specs.Combining.{Combined, Injective}
 use Rattle.ranking.specs.Mapped.{sorted_back}
 use Rattle.theorems.specs.List.{row_order}
-use Rattle.theorems.specs.Accepted.{Accepted, beds_some, beds_few, part_small, most_total}
+use Rattle.theorems.specs.Accepted.{Accepted, beds_some, beds_few, most_total}
+use Rattle.theorems.proofs.Accepted.{part_small}
 use Rattle.patient_set.specs.Sets.{members}
 use Rattle.patient_set.specs.Laws.{size_most}
 use Rattle.partial_rows.specs.Sets.{Patients, Splits, not_both}

@@ -12,7 +12,7 @@ use Rattle.definitions.specs.Plans as Said
 use Rattle.definitions.specs.Plans.{list_of}
 use Rattle.definitions.specs.Sheets.{own_row, sheet_of}
 use Rattle.lists.specs.Members.{◌∈◌, get_d_in, none_in_nil}
-use Rattle.theorems.specs.List.{right_list}
+use Rattle.theorems.proofs.List.{right_list}
 use Rattle.patient_set.specs.Sets.{members}
 use Rattle.patient_set.specs.Laws.{size_most}
 use Rattle.buckets.specs.Terms.{Fitting}

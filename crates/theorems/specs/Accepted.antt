@@ -1,32 +1,32 @@
 -- What check's 0 says, and what an accepted region has: small counts, known members, and totals of at most `most_total`.
+-- (Theorems that rest on these stand in `proofs/Accepted.antt`.)
 use Rattle.std.specs.Prelude.{◌≡◌, ◌⊎◌, ◌≤◌}
 use Rattle.std.proofs.Math.Path.{refl, sym}
-use Rattle.std.proofs.Common.{ap, ◌∙◌, subst, true≢false, le_trans, mul-le-mul_right}
+use Rattle.std.proofs.Common.{ap, ◌∙◌, subst, true≢false, le_trans, mul-le-mul_right, ◌*◌, ◌<◌, ◌&&◌, ◌||◌, ◌∷◌}
 use Rattle.std.proofs.Math.Logic.{inl, inr}
 use Rattle.std.proofs.Math.Option.{none-ne-some}
 use Rattle.std.proofs.Math.Decide.{dec_lt}
 use native.Mathlib.Omega.{arith}
 use borrow.Author.Tests.{leb-true, ltb-true, eqb-true}
 use Rattle.std.proofs.Math.ListN.{get_or-eq_default}
-use Rattle.definitions.specs.Basics.{ℕ, ◌*◌, ◌<◌, Bool, true, false, ◌&&◌, ◌||◌, Option, none, some, option_get_or}
-use Rattle.definitions.specs.Basics.{List, [], ◌∷◌, map, length, get_or, leb, ltb, eqb, sum, product, every, every_two, keep, contains, none_or, is_some}
+use Rattle.definitions.specs.Basics.{ℕ, Bool, true, false, Option, none, some, option_get_or}
+use Rattle.definitions.specs.Basics.{List, [], map, length, get_or, leb, ltb, eqb, sum, product, every, every_two, keep, contains, none_or, is_some}
 use Rattle.definitions.specs.Limits.{Field, patient_count, table_count, plans_wanted, clinic, bed_count, member_count, entry_count, entry, limits, within}
 use Rattle.definitions.specs.Syntax.{Patient, Table, Region, patient_numbers, patient_at, bed_counts}
 use Rattle.definitions.specs.Layout.{layout}
-use Rattle.definitions.specs.Plans.{Plan, entry_for, cost_over, constraints, total, Row}
-use Rattle.definitions.specs.Sheets.{own_tables, own_cost}
+use Rattle.definitions.specs.Plans.{Plan, entry_for, cost_over, constraints}
 use Rattle.definitions.specs.Questions.{short_enough, laid_out, counts_true, sum_true, counts_within, patients_within, parents_smaller, members_right, entry_counts_right, entries_within, members_related}
 use Rattle.definitions.specs.Questions.{ancestors, region_of, asked_of_region, asked_by_check, check_of}
 use Rattle.lists.specs.Tests.{both, join}
 use Rattle.lists.specs.Members.{◌∈◌, get_d_in, here, there, here_or_there, none_in_nil, in_map_cases}
-use Rattle.lists.specs.Every.{every_in, every_all, every_two_in, every_some, contains_out}
-use Rattle.lists.specs.Keep.{keep_out, keep_all, keep_short}
+use Rattle.lists.specs.Every.{every_in, every_two_in, every_some, contains_out}
+use Rattle.lists.specs.Keep.{keep_out, keep_short}
 use Rattle.lists.specs.Maps.{product_some}
 use Rattle.lists.specs.Below.{below_in, by_number}
 use Rattle.theorems.specs.Answers.{all_yes}
 use Rattle.theorems.specs.Refusals.{check_says}
 use Rattle.theorems.specs.Sums.{halves, sum_over, sum_cons}
-use Rattle.theorems.specs.Fixed.{total_tables, part_tables, constraint_cases}
+use Rattle.theorems.specs.Fixed.{constraint_cases}
 
 -- Questions 3 and 5 to 10 of a region are answered yes.
 pub record Accepted (r : Region) : Type 0 where
@@ -292,23 +292,3 @@ module _ (r : Region) (a : Accepted r) where
       let most = cost_most r plan (keep test r.tables) (λ t k. entry_small r a (keep_out test r.tables k).0 plan) n e in
       let few : length (keep test r.tables) ≤ 64 = le_trans (keep_short test r.tables) (tables_few r a) in
       le_trans most (mul-le-mul_right 1_000_000 few)
-
-  pub own_small : (c : ℕ) (w : Row) → own_cost r c w ≤ most_total
-  unfolding own_cost own_tables
-  own_small c w = go (cost_over (own_tables r c) r w.beds) (tables_small _ w.beds)
-    where
-      go : (o : Option ℕ) → ((n : ℕ) → o ≡ some n → n ≤ most_total) → option_get_or o 0 ≤ most_total
-      go none h = omega arith
-      go (some n) h = h n refl
-
-  -- .. and so do the constraints whose members pass a test, and a plan.
-  pub part_small : (test : List ℕ → Bool) (plan : Plan) (n : ℕ) → cost_over (keep (λ t. test t.members) (constraints r)) r plan ≡ some n → n ≤ most_total
-  part_small test plan n e = tables_small (λ t. test t.members) plan n (part_tables r plan test n e)
-
-  pub total_small : (plan : Plan) (n : ℕ) → total r plan ≡ some n → n ≤ most_total
-  total_small plan n e =
-      tables_small (λ t. true) plan n (ap (λ l. cost_over l r plan) (keep_all (λ t. true) r.tables (every_all (λ t. true) r.tables (λ t k. refl))) ∙ total_tables r plan n e)
-
--- So it is for every plan of an accepted file.
-pub accepted_total : (file : List ℕ) (plan : Plan) (t : ℕ) → check_of file ≡ 0 → total (region_of file) plan ≡ some t → t ≤ most_total
-accepted_total file plan t e h = total_small (region_of file) (accepted file e).region plan t h

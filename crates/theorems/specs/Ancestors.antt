@@ -1,13 +1,13 @@
 -- Ancestors, where each parent has a smaller number than the patient's own: parent by parent, and that those of one patient are a chain.
 use Rattle.std.specs.Prelude.{◌≡◌, ◌⊎◌, ◌≤◌}
 use Rattle.std.proofs.Math.Path.{refl, ap}
-use Rattle.std.proofs.Common.{sym, subst, ◌∙◌, inl, inr, arith}
+use Rattle.std.proofs.Common.{sym, subst, ◌∙◌, inl, inr, arith, ◌<◌, ◌∷◌}
 use Rattle.std.proofs.Math.Option.{some-injective}
 use Rattle.std.proofs.Math.Bool.{and-eq-true_iff}
 use borrow.Author.Tests.{ltb-true, lt-ltb}
 use Rattle.lists.specs.Members.{◌∈◌, here, there, here_or_there, none_in_nil}
 use Rattle.lists.specs.Every.{every_in, every_weaken, every_contains}
-use Rattle.definitions.specs.Basics.{ℕ, zero, suc, ◌<◌, Bool, true, false, Option, none, some, List, [], ◌∷◌, length, ltb, every, contains}
+use Rattle.definitions.specs.Basics.{ℕ, zero, suc, Bool, true, false, Option, none, some, List, [], length, ltb, every, contains}
 use Rattle.definitions.specs.Syntax.{Region, patient_at}
 use Rattle.definitions.specs.Questions.{parents_smaller, following, ancestors}
 use Rattle.theorems.specs.Accepted.{parent_below}

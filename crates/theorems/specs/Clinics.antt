@@ -1,9 +1,9 @@
 -- The patients of a clinic: who is one, whether there are any, which question 11 asks, and that a number beyond the limits of clinics has none.
 use Rattle.std.specs.Prelude.{◌≡◌, refl}
-use Rattle.std.proofs.Common.{sym, ap, ◌∙◌, true≢false, arith, eqb-true}
+use Rattle.std.proofs.Common.{sym, ap, ◌∙◌, true≢false, arith, eqb-true, ◌<◌, ◌&&◌, ◌∷◌}
 use Rattle.std.proofs.Math.Decide.{dec_lt}
 use Rattle.std.proofs.Math.ListN.{get_or-eq_default}
-use Rattle.definitions.specs.Basics.{ℕ, ◌<◌, Bool, true, false, not, ◌&&◌, List, [], ◌∷◌, length, eqb, any, is_empty, contains}
+use Rattle.definitions.specs.Basics.{ℕ, Bool, true, false, not, List, [], length, eqb, any, is_empty, contains}
 use Rattle.definitions.specs.Limits.{within, clinic, limits}
 use Rattle.definitions.specs.Syntax as Said
 use Rattle.definitions.specs.Syntax.{patient_numbers, patient_at, patients_of}

@@ -1,13 +1,12 @@
 -- The place of a table's entry, kept while beds change: it begins at 0, and one bed moves it by the patient's stride alone.
-use Rattle.std.proofs.Common.{sym, inl, inr, add-mul}
+-- (Theorems that rest on these stand in `proofs/EntryPlaces.antt`.)
+use Rattle.std.proofs.Common.{sym, inl, inr, ◌+◌, ◌*◌, ◌<◌, ◌≡◌, ◌∷◌}
 use Rattle.std.proofs.Math.Path.{ap}
 use Rattle.std.proofs.lemmas.Simd.{map-map}
-use Rattle.std.proofs.Math.Decide.{ℕ_discrete}
 use native.Mathlib.Omega.{arith}
 use borrow.Author.Tests.{ltb-true, eq-eqb, ne_eqb}
 use Rattle.std.specs.Prelude.{set}
-use Rattle.std.proofs.Math.Seq.{get_or-set_same, get_or-set_other}
-use Rattle.definitions.specs.Basics.{ℕ, ◌+◌, ◌*◌, ◌<◌, ◌≡◌, refl, true, List, [], ◌∷◌, map, length, ltb, product, every, every_two}
+use Rattle.definitions.specs.Basics.{ℕ, refl, true, List, [], map, length, ltb, product, every, every_two}
 use Rattle.definitions.specs.Syntax.{Table, Region, patient_at, bed_counts}
 use Rattle.definitions.specs.Plans.{Plan, bed_of, place, place_in, stride}
 use Rattle.lists.specs.Tests.{both}
@@ -36,10 +35,10 @@ stride_highest region (a ∷ b ∷ members) s up among top =
 
 module _ (region : Region) where
   -- The place that some members' beds have: that of the first, and of the others.
-  abbrev place_over : Plan → List ℕ → ℕ
+  abbrev pub place_over : Plan → List ℕ → ℕ
   place_over plan members = place (map (λ s. ((patient_at region s).bed_count, bed_of plan s)) members)
 
-  place_first : (plan : Plan) (a : ℕ) (members : List ℕ) → place_over plan (a ∷ members) ≡ bed_of plan a * product (bed_counts region members) + place_over plan members
+  pub place_first : (plan : Plan) (a : ℕ) (members : List ℕ) → place_over plan (a ∷ members) ≡ bed_of plan a * product (bed_counts region members) + place_over plan members
   unfolding place
   place_first plan a members =
       ap (λ counts. bed_of plan a * product counts + place_over plan members) (map-map (λ (pair : ℕ × ℕ). pair.0) (λ s. ((patient_at region s).bed_count, bed_of plan s)) members)
@@ -49,32 +48,11 @@ module _ (region : Region) where
   over_none [] = refl
   over_none (a ∷ members) = omega (arith, place_first [] a members, over_none members)
 
-  module _ (plan : Plan) (s bed : ℕ) (known : s < length plan) where
-    over_moved : (members : List ℕ) → every_two ltb members ≡ true
-        → place_over (set plan s bed) members + bed_of plan s * stride region members s ≡ place_over plan members + bed * stride region members s
-    unfolding place stride
-    over_moved [] up = omega arith
-    over_moved (a ∷ members) up =
-        let (above, rising) = both (every (ltb a) members) up in
-        let others = over_moved members rising in
-        elim (ℕ_discrete a s) [
-          | yes e ↦
-              let stay = rw (stride_outside region members s (λ k. omega (arith, ltb-true a s (every_in (ltb a) members above k)))) at others in
-              rw (eq-eqb a s e, place_first (set plan s bed), place_first plan, e, get_or-set_same plan s bed 0 known) (omega arith)
-          | no apart ↦ rw (ne_eqb a s apart, place_first (set plan s bed), place_first plan, get_or-set_other plan s a bed 0 apart) (omega arith)
-        ]
-
 -- Before any patient has a bed the place is 0.
 pub place_none : (region : Region) (t : Table) → place_in region [] t ≡ 0
 place_none region t = over_none region t.members
 
 -- One bed set: the place moves by the stride alone, and by nothing where the patient is no member.
-pub place_moved : (region : Region) (plan : Plan) (t : Table) (s bed : ℕ) → every_two ltb t.members ≡ true → s < length plan
+abbrev pub PlaceMoved : Type 0
+PlaceMoved = (region : Region) (plan : Plan) (t : Table) (s bed : ℕ) → every_two ltb t.members ≡ true → s < length plan
     → place_in region (set plan s bed) t + bed_of plan s * stride region t.members s ≡ place_in region plan t + bed * stride region t.members s
-place_moved region plan t s bed up known = over_moved region plan s bed known t.members up
-
--- So where the bed goes up by k.
-pub place_grown : (region : Region) (plan : Plan) (t : Table) (s k : ℕ) → every_two ltb t.members ≡ true → s < length plan
-    → place_in region (set plan s (bed_of plan s + k)) t ≡ place_in region plan t + k * stride region t.members s
-place_grown region plan t s k up known =
-    omega (arith, rw add-mul at (place_moved region plan t s (bed_of plan s + k) up known))

@@ -1,21 +1,22 @@
 -- The lines of a whole file, in their order.
-use Rattle.std.proofs.Common.{sym, ap, ◌∙◌, append_assoc, append-nil}
-use Rattle.definitions.specs.Basics.{ℕ, ◌≡◌, refl, Bool, true, ◌&&◌, Option, none, some, bind, List, [], ◌∷◌, ◌++◌, map, flatten}
+-- (Theorems that rest on these stand in `proofs/Files.antt`.)
+use Rattle.std.proofs.Common.{sym, ap, ◌∙◌, append_assoc, append-nil, ◌≡◌, ◌&&◌, ◌∷◌, ◌++◌}
+use Rattle.definitions.specs.Basics.{ℕ, refl, Bool, true, none, some, bind, List, [], map, flatten}
 use Rattle.definitions.specs.Basics.{text, every, none_or}
-use Rattle.definitions.specs.Syntax.{Patient, Table, Region}
+use Rattle.definitions.specs.Syntax.{Table, Region}
 use Rattle.definitions.specs.Layout.{is_digit, whole, patient_line, table_line, region_lines}
-use Rattle.definitions.specs.Spelling.{decimal, hyphen_or_decimal, bracketed, line, spell_patient, spell_table, spell_body, spell, spellable, well_formed}
+use Rattle.definitions.specs.Spelling.{decimal, bracketed, line, spell_patient, spell_table, spell_body, spell, spellable, well_formed}
 use Rattle.lists.specs.Tests.{both, join}
-use Rattle.lists.specs.Every.{every_append, every_split, every_both, every_weaken, every_image}
+use Rattle.lists.specs.Every.{every_append, every_split, every_both, every_weaken}
 use Rattle.lists.specs.Maps.{flatten_append, flatten_map}
 use Rattle.theorems.specs.Readers.{Reads, Anything, Stops, then_only, then_each, gives_same, one_reads, many_reads}
 use Rattle.theorems.specs.Numbers.{decimal_digits}
 use Rattle.theorems.specs.Items.{spaced, bracketed_is, every_spaced, some_all}
-use Rattle.theorems.specs.Lines.{in_form, Line, AllLines, all_map, all_append}
+use Rattle.theorems.specs.Lines.{in_form, Line}
 use Rattle.theorems.specs.Forms.{spell_head, ok_head, ok_patient, ok_table, spell_end, head_takes, patient_takes, table_takes, end_takes}
 
 -- The lines that spell a tree.
-abbrev head_of : Region → ℕ × ℕ × ℕ
+abbrev pub head_of : Region → ℕ × ℕ × ℕ
 head_of r = (r.patient_count, r.table_count, r.plans_wanted)
 
 abbrev pub body_lines : Region → List (List ℕ)
@@ -121,47 +122,16 @@ flatten_file r =
     flatten_append (body_lines r) (end ∷ []) ∙ λ i. flatten_body r i ++ append-nil end i
 
 -- Each of them is a whole line.
-form_bytes : (ps : List (List ℕ)) → every (every in_form) ps ≡ true → every in_form (bracketed ps) ≡ true
+pub form_bytes : (ps : List (List ℕ)) → every (every in_form) ps ≡ true → every in_form (bracketed ps) ≡ true
 form_bytes [] h = refl
 form_bytes (p ∷ ps) h =
     ap (every in_form) (bracketed_is p ps) ∙ every_append in_form (spaced (p ∷ ps)) (text ")") (every_spaced in_form refl (p ∷ ps) h) refl
 
-line_is : (ps : List (List ℕ)) → every (every in_form) ps ≡ true → Line (line ps)
+pub line_is : (ps : List (List ℕ)) → every (every in_form) ps ≡ true → Line (line ps)
 line_is ps h = record { form = bracketed ps; is = refl; bytes = form_bytes ps h }
 
-decimal_bytes : (n : ℕ) → every in_form (decimal n) ≡ true
+pub decimal_bytes : (n : ℕ) → every in_form (decimal n) ≡ true
 decimal_bytes n = every_weaken is_digit in_form (λ b h. rw h) (decimal n) (decimal_digits n)
-
-hyphen_bytes : (p : Option ℕ) → every in_form (hyphen_or_decimal p) ≡ true
-hyphen_bytes none = refl
-hyphen_bytes (some n) = decimal_bytes n
-
-head_line : (h : ℕ × ℕ × ℕ) → Line (spell_head h)
-head_line h =
-    line_is (text "region" ∷ decimal h.0 ∷ decimal h.1 ∷ decimal h.2 ∷ [])
-    (rw (decimal_bytes h.0, decimal_bytes h.1, decimal_bytes h.2))
-
-patient_line_lem : (p : Patient) → Line (spell_patient p)
-unfolding spell_patient
-patient_line_lem p =
-    line_is (text "patient" ∷ decimal p.clinic ∷ decimal p.bed_count ∷ hyphen_or_decimal p.parent ∷ hyphen_or_decimal p.fixed_bed ∷ [])
-    (rw (decimal_bytes p.clinic, decimal_bytes p.bed_count, hyphen_bytes p.parent, hyphen_bytes p.fixed_bed))
-
-table_line_lem : (t : Table) → Line (spell_table t)
-unfolding spell_table
-table_line_lem t =
-    let members = form_bytes (map decimal t.members) (every_image (every in_form) decimal decimal_bytes t.members) in
-    let entries = form_bytes (map hyphen_or_decimal t.entries) (every_image (every in_form) hyphen_or_decimal hyphen_bytes t.entries) in
-    line_is (text "cost" ∷ bracketed (map decimal t.members) ∷ bracketed (map hyphen_or_decimal t.entries) ∷ []) (rw (members, entries))
 
 pub end_line_lem : (n : ℕ) → Line (spell_end n)
 end_line_lem n = line_is (text "end" ∷ decimal n ∷ []) (rw (decimal_bytes n))
-
-pub body_lines_lem : (r : Region) → AllLines (body_lines r)
-body_lines_lem r =
-    let patients = all_map spell_patient patient_line_lem r.patients in
-    let tables = all_map spell_table table_line_lem r.tables in
-    (head_line (head_of r), all_append (map spell_patient r.patients) (map spell_table r.tables) patients tables)
-
-pub file_lines_lem : (r : Region) → AllLines (file_lines r)
-file_lines_lem r = all_append (body_lines r) (spell_end r.stated_sum ∷ []) (body_lines_lem r) (end_line_lem r.stated_sum, tt)

@@ -1,13 +1,13 @@
 -- Request #102, in plain words: a plan that fits is allowed where the tables allow it and each fixed bed is kept, and fixed beds cost nothing.
 use Rattle.std.proofs.Math.Path.{sym, ap}
-use Rattle.std.proofs.Common.{ap₂, ◌∙◌, true≢false, append-nil, inl, inr, ltb-true}
+use Rattle.std.proofs.Common.{ap₂, ◌∙◌, true≢false, append-nil, inl, inr, ltb-true, ◌+◌, ◌*◌, ◌<◌, ◌≡◌, ◌&&◌, ◌∷◌, ◌++◌}
 use Rattle.std.specs.Prelude.{◌⊎◌}
 use Rattle.std.proofs.Math.Option.{none-ne-some, some-injective}
 use Rattle.std.proofs.Math.Decide.{dec_lt}
 use native.Mathlib.Omega.{arith}
 use Rattle.std.proofs.Math.ListN.{get_or-eq_default}
-use Rattle.definitions.specs.Basics.{ℕ, ◌+◌, ◌*◌, ◌<◌, ◌≡◌, refl, Bool, true, false, not, ◌&&◌, cond, Option, none, some, option_map, option_elim, none_or, is_some}
-use Rattle.definitions.specs.Basics.{List, [], ◌∷◌, ◌++◌, map, length, get_or, filter_map, eqb, below, every, keep}
+use Rattle.definitions.specs.Basics.{ℕ, refl, Bool, true, false, not, cond, Option, none, some, option_map, option_elim, none_or, is_some}
+use Rattle.definitions.specs.Basics.{List, [], map, length, get_or, filter_map, eqb, below, every, keep}
 use Rattle.definitions.specs.Syntax.{Table, Region, patient_numbers, patient_at}
 use Rattle.definitions.specs.Plans.{Plan, bed_of, plans, plans_for, place, entry_for, cost_over, fixing, constraints, total}
 use Rattle.definitions.specs.Questions.{plan_fits}

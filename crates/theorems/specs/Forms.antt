@@ -1,6 +1,6 @@
 -- The four forms of lines: each has one spelling.
-use Rattle.std.proofs.Common.{sym, ap, ◌∙◌, append_assoc, append-nil, ne_eqb, arith}
-use Rattle.definitions.specs.Basics.{ℕ, ◌≡◌, refl, Bool, true, ◌&&◌, Option, none, some, List, [], ◌∷◌, ◌++◌, map, flat_map, text, every, none_or}
+use Rattle.std.proofs.Common.{sym, ap, ◌∙◌, append_assoc, append-nil, ne_eqb, arith, ◌≡◌, ◌&&◌, ◌∷◌, ◌++◌}
+use Rattle.definitions.specs.Basics.{ℕ, refl, Bool, true, Option, none, some, List, [], map, flat_map, text, every, none_or}
 use Rattle.definitions.specs.Syntax.{Patient, Table}
 use Rattle.definitions.specs.Layout.{whole, is_digit, number, hyphen_or_number, items, region_line, patient_line, table_line, end_line}
 use Rattle.definitions.specs.Spelling.{decimal, hyphen_or_decimal, bracketed, line, spell_patient, spell_table, spellable}

@@ -1,6 +1,6 @@
 -- Two lists interleaved as marks say: a plan is the beds of the marked patients and the beds of the others.
-use Rattle.std.proofs.Common.{ap, inl, inr}
-use Rattle.definitions.specs.Basics.{ℕ, ◌≡◌, refl, Bool, true, false, not, cond, List, [], ◌∷◌, map, keep}
+use Rattle.std.proofs.Common.{ap, inl, inr, ◌≡◌, ◌∷◌}
+use Rattle.definitions.specs.Basics.{ℕ, refl, Bool, true, false, not, cond, List, [], map, keep}
 use Rattle.ranking.specs.Orders.{ListLt}
 use Rattle.theorems.specs.List.{Fits}
 

@@ -1,6 +1,7 @@
 -- Demand 3 on files written out: its hypotheses can be met by files that differ in all else, and a table that joins does make a difference, and so does a fixed bed.
-use Rattle.std.proofs.Common.{ap, arith}
-use Rattle.definitions.specs.Basics.{ℕ, ◌≡◌, refl, Bool, true, false, cond, none, some, List, [], ◌∷◌, length, get_or, any}
+-- (Theorems that rest on these stand in `proofs/IsolationExamples.antt`.)
+use Rattle.std.proofs.Common.{ap, arith, ◌≡◌, ◌∷◌}
+use Rattle.definitions.specs.Basics.{ℕ, refl, Bool, true, false, cond, none, some, List, [], length, get_or, any}
 use Rattle.definitions.specs.Syntax.{Patient, Table, bed_counts, fixed_beds, patients_of}
 use Rattle.definitions.specs.Questions.{region_of}
 use Rattle.definitions.specs.Plans.{Row}
@@ -9,7 +10,6 @@ use Rattle.definitions.specs.Isolation.{YieldsList, tables_among, times_in, join
 use Rattle.definitions.specs.Computing.{everything}
 use Rattle.definitions.specs.Examples.{patient, fixed, table, file_of, row}
 use Rattle.theorems.specs.Sameness.{same_table}
-use Rattle.theorems.specs.Agreement.{same_beginning_lem}
 
 -- Clinic 0 has two patients with 2 beds each and two tables, over its first patient and over both, by their numbers.
 abbrev single : ℕ → Table
@@ -77,10 +77,6 @@ apart_alike = record {
   no_patients = refl;
 }
 
--- Demand 3 speaks of them.
-pub alike : SameBeginning (sheet_of (region_of between) 0) (sheet_of (region_of apart) 0)
-alike = same_beginning_lem between apart 0 apart_alike.first_yields apart_alike.second_yields apart_alike.same_clinic
-
 -- The same but for a table that joins in the second file: the sheets differ in their first rows.
 pub record Joined : Type 0 where
   pub second_yields : YieldsList joined
@@ -100,7 +96,7 @@ joined_differs = record {
 }
 
 -- The sheets do not begin alike.
-otherwise : SameBeginning three_rows two_rows → ⊥
+pub otherwise : SameBeginning three_rows two_rows → ⊥
 otherwise h =
     let e : ◌≡◌ {A = ℕ} 2 3 = ap (λ rows. (get_or rows 0 (row 0 [])).cost) h.same_rows in
     omega arith
@@ -129,6 +125,3 @@ fixed_differs = record {
   apart_in_second = refl;
   second_sheet = refl;
 }
-
-pub not_alike_fixed : SameBeginning (sheet_of (region_of between) 0) (sheet_of (region_of stayed) 0) → ⊥
-not_alike_fixed h = otherwise (rw (apart_alike.first_sheet, fixed_differs.second_sheet) at h)

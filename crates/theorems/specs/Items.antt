@@ -1,9 +1,9 @@
 -- Items in brackets are cut apart at the spaces between them, and nowhere else.
-use Rattle.std.proofs.Common.{sym, ◌∙◌, append_assoc, append-nil, eqb-true}
+use Rattle.std.proofs.Common.{sym, ◌∙◌, append_assoc, append-nil, eqb-true, ◌≡◌, ◌&&◌, ◌∷◌, ◌++◌}
 use Rattle.std.proofs.Math.Path.{ap}
 use Rattle.std.proofs.lemmas.Bool.{false≢true, not-true}
 use Rattle.std.proofs.Math.Seq.{append_snoc}
-use Rattle.definitions.specs.Basics.{ℕ, ◌≡◌, refl, Bool, true, false, ◌&&◌, not, Option, some, List, [], ◌∷◌, ◌++◌, map, flat_map, eqb}
+use Rattle.definitions.specs.Basics.{ℕ, refl, Bool, true, false, not, Option, some, List, [], map, flat_map, eqb}
 use Rattle.definitions.specs.Basics.{every, is_empty, on_all}
 use Rattle.definitions.specs.Layout.{Reader, whole, give_if, onto_first, pieces, items}
 use Rattle.definitions.specs.Spelling.{bracketed}

@@ -9,7 +9,6 @@ pub mod Items
 pub mod Lines
 pub mod Forms
 pub mod Files
-pub mod Spelling
 pub mod Cuts
 pub mod OneByte
 pub mod List

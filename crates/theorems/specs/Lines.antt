@@ -1,10 +1,10 @@
 -- The lines of a file: together they are the file again, and a file made of whole lines is cut into them.
-use Rattle.std.proofs.Common.{sym, ap, ◌∙◌, append_assoc, append-nil, arith, length-append, ne_eqb}
+use Rattle.std.proofs.Common.{sym, ap, ◌∙◌, append_assoc, append-nil, arith, length-append, ne_eqb, ◌+◌, ◌<◌, ◌≡◌, ◌&&◌, ◌||◌, ◌∷◌, ◌++◌}
 use Rattle.std.proofs.lemmas.Bool.{false≢true}
 use Rattle.std.specs.Prelude.{◌≢◌}
 use Rattle.std.proofs.Math.ListN.{get_or-append}
 use Prim.Native.Char.{code}
-use Rattle.definitions.specs.Basics.{ℕ, suc, ◌+◌, ◌<◌, ◌≡◌, refl, Bool, true, false, ◌&&◌, ◌||◌, List, [], ◌∷◌, ◌++◌, map, flatten, length}
+use Rattle.definitions.specs.Basics.{ℕ, suc, refl, Bool, true, false, List, [], map, flatten, length}
 use Rattle.definitions.specs.Basics.{get_or, eqb, leb, text, every, contains}
 use Rattle.definitions.specs.Layout.{is_digit, onto_first, lines}
 use Rattle.lists.specs.Tests.{both}

@@ -1,32 +1,30 @@
 -- Request #103: the line over the typed members.
-use Rattle.std.proofs.Common.{sym, ap₂, ◌∙◌, true≢false, append_assoc, append-nil, zero-add, take-append-drop}
+-- (Theorems that rest on these stand in `proofs/Lookup.antt`.)
+use Rattle.std.proofs.Common.{sym, ap₂, ◌∙◌, true≢false, append_assoc, append-nil, zero-add, take-append-drop, ◌+◌, ◌-◌, ◌≡◌, ◌∷◌, ◌++◌}
 use Rattle.std.proofs.Math.Path.{ap}
 use Rattle.std.specs.Prelude.{◌↔◌, ◌⊎◌, ◌≤◌}
 use Rattle.std.proofs.Math.Logic.{inl, inr}
 use Rattle.std.proofs.lemmas.Bool.{false≢true}
-use Rattle.std.proofs.Math.Option.{some-injective, none-ne-some}
 use native.Mathlib.Omega.{arith}
 use Rattle.std.proofs.Math.ListN.{length-append}
 use Rattle.std.proofs.Math.Seq.{take-append_seam, drop-append_seam}
-use Rattle.definitions.specs.Basics.{ℕ, zero, suc, ◌+◌, ◌-◌, ◌≡◌, refl, Bool, true, false, cond, Option, none, some, bind, option_get_or, List, [], ◌∷◌, ◌++◌, map, length, take, drop, text}
-use Rattle.definitions.specs.Basics.{flatten, eqb, same, is_some, every, any}
-use Rattle.definitions.specs.Syntax.{Patient, Table, Region}
+use Rattle.definitions.specs.Basics.{ℕ, zero, suc, refl, Bool, true, false, cond, Option, none, some, option_get_or, List, [], map, length, take, drop, text}
+use Rattle.definitions.specs.Basics.{flatten, eqb, same, is_some, any}
+use Rattle.definitions.specs.Syntax.{Table}
 use Rattle.definitions.specs.Layout.{whole, number, exactly, lines, items, table_line}
-use Rattle.definitions.specs.Spelling.{decimal, hyphen_or_decimal, bracketed, spell_patient, spell_table, spellable}
-use Rattle.definitions.specs.Questions.{first_no, entry_asks, laid_out, region_of, check_of}
+use Rattle.definitions.specs.Spelling.{decimal, hyphen_or_decimal, bracketed, spell_table, spellable}
+use Rattle.definitions.specs.Questions.{first_no, entry_asks, region_of, check_of}
 use Rattle.definitions.specs.Lookup.{FilePart, bytes_at, typed_right, typed_members, is_over, first_line, line_over, asked_by_line, part_unless_refused, line_found, line_outcome}
 use Rattle.definitions.specs.Boundary.{room_for_numbers, result_after, line_call_of, line_call}
 use Rattle.lists.specs.Tests.{both, join, same_answer}
-use Rattle.lists.specs.Every.{every_in, any_false}
+use Rattle.lists.specs.Every.{any_false}
 use Rattle.lists.specs.Maps.{flatten_append}
-use Rattle.lists.specs.Members.{◌∈◌, here, there, here_or_there, none_in_nil, in_append_left, in_append_right, in_append_cases, in_map, in_map_cases, in_cast}
+use Rattle.lists.specs.Members.{◌∈◌, here, there}
 use Rattle.theorems.specs.Readers.{one_front, whole_takes, exactly_reads}
 use Rattle.theorems.specs.Lines.{flatten_lines}
 use Rattle.theorems.specs.Items.{some_all}
-use Rattle.theorems.specs.Forms.{line_spelt, members_read, spell_head, spell_end, ok_table, table_takes}
-use Rattle.theorems.specs.Files.{body_lines, file_lines, well_formed_lines}
-use Rattle.theorems.specs.Spelling.{laid_out_spelt, lines_spelt}
-use Rattle.theorems.specs.Accepted.{some_of, accepted}
+use Rattle.theorems.specs.Forms.{line_spelt, members_read, table_takes}
+use Rattle.theorems.specs.Accepted.{some_of}
 use Rattle.theorems.specs.Refusals.{line_says_lem, line_call_says}
 use Rattle.theorems.specs.Yields.{asked_after}
 use Rattle.theorems.specs.Sameness.{numbers_tests}
@@ -129,54 +127,6 @@ pub first_line_same : (test other : List ℕ → Bool) (start : ℕ) (ls : List 
 first_line_same test other start [] agree = refl
 first_line_same test other start (l ∷ ls) agree =
     rw (agree l (here refl), first_line_same test other (start + length l) ls (λ k i. agree k (there i)))
-
--- A line of a file is that of one of its tables, or another, which is no table line and does not begin as one.
-record Other (l : List ℕ) : Type 0 where
-  no_table : whole table_line l ≡ none
-  not_begun : (typed : List ℕ) → begins typed l ≡ false
-
-head_other : (h : ℕ × ℕ × ℕ) → Other (spell_head h)
-unfolding begins table_line bind
-head_other h = record { no_table = refl; not_begun = λ typed. refl }
-
-patient_other : (p : Patient) → Other (spell_patient p)
-unfolding begins table_line spell_patient bind
-patient_other p = record { no_table = refl; not_begun = λ typed. refl }
-
-end_other : (n : ℕ) → Other (spell_end n)
-unfolding begins table_line bind
-end_other n = record { no_table = refl; not_begun = λ typed. refl }
-
-file_line : (r : Region) {l : List ℕ} → l ∈ file_lines r → ((t : Table) × (t ∈ r.tables) × (spell_table t ≡ l)) ⊎ Other l
-file_line r i = elim (in_append_cases (body_lines r) i) [
-  | inl body ↦ elim (here_or_there body) [
-    | inl e ↦ inr (rw e (head_other (r.patient_count, r.table_count, r.plans_wanted)))
-    | inr later ↦ elim (in_append_cases (map spell_patient r.patients) later) [
-      | inl patient ↦ (let (p, _, e) = in_map_cases spell_patient r.patients patient in inr (rw (← e) (patient_other p)))
-      | inr table ↦ inl (in_map_cases spell_table r.tables table)
-    ]
-  ]
-  | inr end ↦ elim (here_or_there end) [ inl e ↦ inr (rw e (end_other r.stated_sum)) | inr k ↦ absurd (none_in_nil k) ]
-]
-
--- A laid-out file has the lines of its region, and its tables have one spelling.
-module _ (file : List ℕ) (laid : laid_out file ≡ true) where
-  file_cut : lines file ≡ file_lines (region_of file)
-  file_cut = ap lines (laid_out_spelt file laid).1 ∙ lines_spelt (region_of file)
-
-  table_read : {t : Table} → t ∈ (region_of file).tables → whole table_line (spell_table t) ≡ some t
-  table_read {t} k = table_takes.each t (every_in ok_table (region_of file).tables (well_formed_lines (region_of file) (laid_out_spelt file laid).0).tables k)
-
-  line_agrees : (typed : List ℕ) → typed_right typed ≡ true → (l : List ℕ) → l ∈ file_lines (region_of file) → is_over (typed_members typed) l ≡ begins typed l
-  unfolding is_over
-  line_agrees typed right l i = elim (file_line (region_of file) i) [
-    | inl found ↦ (let (t, k, e) = found in line_prefix typed l t (ap (whole table_line) (sym e) ∙ table_read k) right)
-    | inr other ↦ rw (other.no_table, is_over) (sym (other.not_begun typed))
-  ]
-
-  pub over_begins : (typed : List ℕ) → typed_right typed ≡ true → line_over file typed ≡ first_line (begins typed) 0 (lines file)
-  unfolding line_over
-  over_begins typed right = rw file_cut (first_line_same _ _ 0 (file_lines (region_of file)) (line_agrees typed right))
 
 -- ---- what is found
 
@@ -345,22 +295,11 @@ line_bytes file typed p t =
 
 -- Of the region that the file says: the line is that of one of its tables, and where there is no line, none of them is over the typed members.
 module _ (file typed : List ℕ) (fine : (line_outcome file typed).number ≡ 0) where
-  laid : laid_out file ≡ true
-  laid = (accepted file ((line_fine file typed).0 fine).0).laid
+  abbrev pub TheTable : FilePart → Type 0
+  TheTable p = (t : TheLine file typed p) → t.over.table ∈ (region_of file).tables
 
-  pub the_table : {p : FilePart} (t : TheLine file typed p) → t.over.table ∈ (region_of file).tables
-  the_table t =
-      let i : (t.line ++ text "\n") ∈ lines file = rw t.in_file (in_append_right t.before (here refl)) in
-      elim (file_line (region_of file) (rw (file_cut file laid) at i)) [
-        | inl found ↦ (let (u, k, e) = found in in_cast (some-injective _ _ (sym t.over.line_says ∙ ap (whole table_line) (sym e) ∙ table_read file laid k)) k)
-        | inr other ↦ absurd (none-ne-some _ (sym other.no_table ∙ t.over.line_says))
-      ]
-
-  pub no_table_lem : {p : FilePart} → NoLine file typed p → (t : Table) → t ∈ (region_of file).tables → whole (items number) typed ≡ some t.members → ⊥
-  no_table_lem n t k e =
-      let r = region_of file in
-      let in_body = there (in_append_right (map spell_patient r.patients) (in_map spell_table k)) in
-      n.none (spell_table t) (rw (file_cut file laid) (in_append_left _ in_body)) (record { table = t; line_says = table_read file laid k; typed_says = e })
+  abbrev pub NoTable : FilePart → Type 0
+  NoTable p = NoLine file typed p → (t : Table) → t ∈ (region_of file).tables → whole (items number) typed ≡ some t.members → ⊥
 
 -- The call from C: number 0 says that line's is 0 too, and the result is the start and the length of its part.
 pub line_call_found : (file typed result : List ℕ) → (line_call file typed result).number ≡ 0

@@ -1,8 +1,8 @@
 -- The lowest of some numbers is one of them, and none of them is lower; of rising ones it is the first.
 use Rattle.std.specs.Prelude.{◌≡◌, refl, ◌≤◌}
-use Rattle.std.proofs.Common.{inl, inr, arith, ltb-true}
+use Rattle.std.proofs.Common.{inl, inr, arith, ltb-true, ◌<◌, ◌∷◌}
 use Rattle.std.proofs.Math.Decide.{dec_le}
-use Rattle.definitions.specs.Basics.{ℕ, ◌<◌, min, true, List, [], ◌∷◌, length, get_or, ltb, every, every_two}
+use Rattle.definitions.specs.Basics.{ℕ, min, true, List, [], length, get_or, ltb, every, every_two}
 use Rattle.definitions.specs.Sheets.{lowest}
 use Rattle.lists.specs.Tests.{both}
 use Rattle.lists.specs.Members.{◌∈◌, here, there, here_or_there, none_in_nil, in_cast}

@@ -1,11 +1,11 @@
 -- The decimal digits of a number are the one digit string that is read as it.
-use Rattle.std.proofs.Common.{sym, ap, ◌∙◌, inl, inr, append_assoc, append-nil, arith, length-append, ltb-true, lt-ltb, le-ltb, leb-true, le-leb, ne_eqb}
+use Rattle.std.proofs.Common.{sym, ap, ◌∙◌, inl, inr, append_assoc, append-nil, arith, length-append, ltb-true, lt-ltb, le-ltb, leb-true, le-leb, ne_eqb, ◌+◌, ◌-◌, ◌*◌, ◌/◌, ◌%◌, ◌^◌, ◌<◌, ◌≡◌, ◌∷◌, ◌++◌}
 use Rattle.std.specs.Prelude.{◌↔◌, ◌⊎◌, ◌≤◌}
 use Rattle.std.proofs.lemmas.Bool.{false≢true, eqb-false, not-true}
 use Rattle.std.proofs.Math.Nat.{pow-le-pow_right, pow-succ'}
 use Rattle.std.proofs.Math.Decide.{dec_lt}
-use Rattle.definitions.specs.Basics.{ℕ, zero, suc, ◌+◌, ◌-◌, ◌*◌, ◌/◌, ◌%◌, ◌^◌, ◌<◌, ◌≡◌, refl, Bool, true, false, not, Option, none, some}
-use Rattle.definitions.specs.Basics.{bind, or_else, List, [], ◌∷◌, ◌++◌, length, eqb, leb, text, every, none_or}
+use Rattle.definitions.specs.Basics.{ℕ, zero, suc, refl, Bool, true, false, not, Option, none, some}
+use Rattle.definitions.specs.Basics.{bind, or_else, List, [], length, eqb, leb, text, every, none_or}
 use Rattle.definitions.specs.Limits.{digit_count, limits, within}
 use Rattle.definitions.specs.Layout.{◌>>=◌, ◌>>◌, passing, give, give_if, exactly, word, is_digit, no_leading_zero, value_from, number_of, number}
 use Rattle.definitions.specs.Layout.{hyphen_or_number}

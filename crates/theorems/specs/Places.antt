@@ -1,11 +1,11 @@
 -- A region of some patients alone: their beds and the tables among them, by places. It prices their beds as the whole region does.
 use Rattle.std.proofs.Math.Path.{sym, ap, ap₂}
-use Rattle.std.proofs.Common.{◌∙◌, inl, inr, eqb-true, arith}
+use Rattle.std.proofs.Common.{◌∙◌, inl, inr, eqb-true, arith, ◌≡◌, ◌∷◌}
 use Rattle.std.specs.Prelude.{◌⊎◌}
 use Rattle.std.proofs.lemmas.Bool.{eqb-false}
 use Rattle.std.proofs.lemmas.Simd.{map-map}
 use Rattle.std.proofs.lemmas.List.{length-map}
-use Rattle.definitions.specs.Basics.{ℕ, suc, ◌≡◌, refl, Bool, true, false, cond, none, some, List, [], ◌∷◌, map, length, get_or, drop, eqb, below}
+use Rattle.definitions.specs.Basics.{ℕ, suc, refl, Bool, true, false, cond, none, some, List, [], map, length, get_or, drop, eqb, below}
 use Rattle.definitions.specs.Syntax.{Patient, Table, Region, patient_numbers, patient_at, bed_counts, fixed_beds}
 use Rattle.definitions.specs.Plans.{Plan, bed_of, place, entry_for, cost_over, total, Row}
 use Rattle.definitions.specs.Isolation.{place_among}

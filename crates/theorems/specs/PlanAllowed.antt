@@ -1,12 +1,11 @@
 -- Question 13 of a region, as the list's row count answers it.
+-- (Theorems that rest on these stand in `proofs/PlanAllowed.antt`.)
 use Rattle.std.specs.Prelude.{◌≡◌, refl}
-use Rattle.std.proofs.Common.{sym, ap, ◌∙◌, arith}
-use Rattle.definitions.specs.Basics.{ℕ, Bool, true, false, List, [], ◌∷◌, length}
+use Rattle.std.proofs.Common.{sym, ◌∙◌, arith, ◌∷◌}
+use Rattle.definitions.specs.Basics.{ℕ, List, [], length}
 use Rattle.definitions.specs.Syntax as Said
 use Rattle.definitions.specs.Plans.{Row, list_of}
-use Rattle.definitions.specs.Questions.{plan_allowed}
-use Rattle.theorems.specs.List.{list_empty}
-use Rattle.theorems.specs.Accepted.{Accepted, plans_wanted_lem}
+use Rattle.theorems.specs.Accepted.{Accepted}
 
 -- Where at least one plan is wanted, question 13 asks whether the list has a row.
 module _ (r : Said.Region) (accepted : Accepted r) {n : ℕ} (count : n ≡ length (list_of r)) where
@@ -16,13 +15,3 @@ module _ (r : Said.Region) (accepted : Accepted r) {n : ℕ} (count : n ≡ leng
       no_rows : (l : List Row) → length l ≡ 0 → l ≡ []
       no_rows [] e = refl
       no_rows (x ∷ l) e = absurd (omega arith)
-
-  pub list_none : n ≡ 0 → plan_allowed r ≡ false
-  list_none None-found = (list_empty r (plans_wanted_lem r accepted).0).0 (no_list None-found)
-
-  pub list_some : (n ≡ 0 → ⊥) → plan_allowed r ≡ true
-  list_some some_found = not_false_true (λ e. some_found (count ∙ ap length ((list_empty r (plans_wanted_lem r accepted).0).1 e)))
-    where
-      not_false_true : {b : Bool} → (b ≡ false → ⊥) → b ≡ true
-      not_false_true {b = true} no_no = refl
-      not_false_true {b = false} no_no = absurd (no_no refl)

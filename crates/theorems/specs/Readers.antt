@@ -1,10 +1,10 @@
 -- Laws of readers: each reads one spelling of what it gives, and reads it wherever it stands at the front.
-use Rattle.std.proofs.Common.{sym, ◌∙◌, append-nil, map-id, eqb-true, eq-eqb}
+use Rattle.std.proofs.Common.{sym, ◌∙◌, append-nil, map-id, eqb-true, eq-eqb, ◌≡◌, ◌∷◌, ◌++◌}
 use Rattle.std.proofs.Math.Path.{ap}
 use Rattle.std.proofs.lemmas.Bool.{false≢true}
 use Rattle.std.proofs.Math.Option.{bind-eq-some_iff, map-eq-some_iff, some-injective, none-ne-some}
 use Prim.Native.String.{String}
-use Rattle.definitions.specs.Basics.{ℕ, ◌≡◌, refl, Bool, true, false, cond, Option, none, some, bind, option_map, List, [], ◌∷◌, ◌++◌, map}
+use Rattle.definitions.specs.Basics.{ℕ, refl, Bool, true, false, cond, Option, none, some, bind, option_map, List, [], map}
 use Rattle.definitions.specs.Basics.{eqb, text, every, is_empty, on_all}
 use Rattle.definitions.specs.Layout.{Reader, give_if, give, whole, one, many, passing, exactly, word}
 use Rattle.lists.specs.Tests.{both, join}

@@ -1,26 +1,24 @@
 -- Demand 1, of the entries over a file and their calls from C: what each number says, and what a refusal hands back and leaves.
 -- (What the writer's number says stands in `Writer`.)
+-- (Theorems that rest on these stand in `proofs/Refusals.antt`.)
 use Rattle.std.specs.Prelude.{◌≡◌, refl, ◌⊎◌, drop, ◌≤◌}
-use Rattle.std.proofs.Common.{ap, ap₂, ◌∙◌, inl, inr, arith, ne_eqb, le-leb}
-use Rattle.std.proofs.lemmas.List.{length-replicate, replicate-append-replicate}
-use Rattle.std.proofs.lemmas.Bool.{lt-leb}
-use Rattle.definitions.specs.Basics.{ℕ, zero, suc, ◌+◌, ◌*◌, ◌<◌, Bool, true, false, Option, none, some, List, [], ◌∷◌, ◌++◌, flat_map, length, replicate}
+use Rattle.std.proofs.Common.{ap, arith, ◌*◌, ◌<◌, ◌∷◌, ◌++◌}
+use Rattle.definitions.specs.Basics.{ℕ, zero, suc, Bool, true, false, Option, none, some, List, [], length, replicate}
 use Rattle.definitions.specs.Syntax.{Region}
 use Rattle.definitions.specs.Plans.{Plan, Row, total, list_of}
 use Rattle.definitions.specs.Sheets.{sheet_of}
 use Rattle.definitions.specs.Questions.{Asked, first_no, region_of, room_for_rows, areas_long_enough, asked_by_check, check_of}
 use Rattle.definitions.specs.Questions.{entry_asks, call_asks, asked_by_list, asked_by_sheet, asked_by_price}
-use Rattle.definitions.specs.Outcomes.{Found, unless_refused, list_found, sheet_found, written, work_after}
+use Rattle.definitions.specs.Outcomes.{Found, unless_refused, list_found, sheet_found, written}
 use Rattle.definitions.specs.Outcomes.{ListOutcome, outcome_of, list_outcome, sheet_outcome, PriceOutcome, priced, price_found, price_outcome}
 use Rattle.definitions.specs.Writer.{asked_by_write}
 use Rattle.definitions.specs.Joining.{asked_by_join}
 use Rattle.definitions.specs.Parents.{asked_by_parents}
 use Rattle.definitions.specs.Lookup.{line_over, asked_by_line, part_unless_refused, line_found, line_outcome}
-use Rattle.definitions.specs.Boundary.{bytes_of, room_for_numbers, result_after, ListCall, call_of, check_call, list_call, sheet_call, price_call_of, price_call}
+use Rattle.definitions.specs.Boundary.{room_for_numbers, ListCall, call_of, check_call, list_call, sheet_call, price_call_of, price_call}
 use Rattle.definitions.specs.Boundary.{asked_by_lent_write, line_call_of, line_call, asked_by_read}
 use Rattle.definitions.specs.Isolation.{yield_number}
 use Rattle.theorems.specs.Answers.{numbers, Numbered, Says, says, yes_then, no_then}
-use Rattle.theorems.specs.Writing.{written_is}
 
 -- ---- the questions of each entry, by number, whatever the file
 
@@ -169,11 +167,11 @@ pub record WorkLeft (number : ℕ) (before after : List ℕ) : Type 0 where
   pub untouched : (number ≡ 0 → ⊥) → (number ≡ 13 → ⊥) → after ≡ before
   pub zeroed : (number ≡ 0) ⊎ (number ≡ 13) → after ≡ replicate (length before) 0
 
-list_none : (file : List ℕ) (asked : Asked) (q : ℕ) → (list_found file asked).number ≡ suc q → (list_found file asked).rows ≡ []
+pub list_none : (file : List ℕ) (asked : Asked) (q : ℕ) → (list_found file asked).number ≡ suc q → (list_found file asked).rows ≡ []
 unfolding list_found
 list_none file asked q e = ap (λ (n : ℕ). unless_refused n (list_of (region_of file))) e
 
-sheet_none : (file : List ℕ) (c : ℕ) (asked : Asked) (q : ℕ) → (sheet_found file c asked).number ≡ suc q → (sheet_found file c asked).rows ≡ []
+pub sheet_none : (file : List ℕ) (c : ℕ) (asked : Asked) (q : ℕ) → (sheet_found file c asked).number ≡ suc q → (sheet_found file c asked).rows ≡ []
 unfolding sheet_found
 sheet_none file c asked q e = ap (λ (n : ℕ). unless_refused n (sheet_of (region_of file) c)) e
 
@@ -185,17 +183,11 @@ outcome_refused f beds costs work e = record {
   costs_kept = ap (λ (rows : List Row). written 0 1 (λ w. w.cost ∷ []) rows costs) e;
 }
 
-work_left : (number : ℕ) (work : List ℕ) → WorkLeft number work (work_after number work)
-work_left number work = record {
-  untouched = λ n m. simp (ne_eqb number 0 n, ne_eqb number 13 m);
-  zeroed = λ h. elim h [ inl e ↦ rw e | inr e ↦ rw e ];
-}
-
 module _ (file beds costs work : List ℕ) where
-  abbrev list_asked : Asked
+  abbrev pub list_asked : Asked
   list_asked = entry_asks (asked_by_list file (areas_long_enough (region_of file) beds costs work))
 
-  abbrev sheet_asked : ℕ → Asked
+  abbrev pub sheet_asked : ℕ → Asked
   sheet_asked c = entry_asks (asked_by_sheet file c (areas_long_enough (region_of file) beds costs work))
 
   pub list_refused : (q : ℕ) → (list_outcome file beds costs work).number ≡ suc q → RowsRefused beds costs (list_outcome file beds costs work)
@@ -205,14 +197,6 @@ module _ (file beds costs work : List ℕ) where
   pub sheet_refused : (c q : ℕ) → (sheet_outcome file c beds costs work).number ≡ suc q → RowsRefused beds costs (sheet_outcome file c beds costs work)
   unfolding sheet_outcome outcome_of
   sheet_refused c q e = outcome_refused (sheet_found file c (sheet_asked c)) beds costs work (sheet_none file c (sheet_asked c) q e)
-
-  pub list_work : WorkLeft (list_outcome file beds costs work).number work (list_outcome file beds costs work).work
-  unfolding list_outcome outcome_of
-  list_work = work_left (list_found file list_asked).number work
-
-  pub sheet_work : (c : ℕ) → WorkLeft (sheet_outcome file c beds costs work).number work (sheet_outcome file c beds costs work).work
-  unfolding sheet_outcome outcome_of
-  sheet_work c = work_left (sheet_found file c (sheet_asked c)).number work
 
 -- ---- what a refused call leaves: a shorter result area is untouched, any other begins with zeros
 
@@ -225,52 +209,6 @@ pub record CallRefused (beds costs result : List ℕ) (c : ListCall) : Type 0 wh
   pub costs_kept : c.costs ≡ costs
   pub no_rows : ResultZeroed 1 result c.result
 
-zero_bytes : (count : ℕ) → flat_map (bytes_of 8) (replicate count 0) ≡ replicate (count * 8) 0
-unfolding flat_map
-zero_bytes zero = refl
-zero_bytes (suc count) =
-    let more : 8 + count * 8 ≡ suc count * 8 = omega arith in
-    ap (λ (r : List ℕ). replicate 8 0 ++ r) (zero_bytes count) ∙ replicate-append-replicate 8 (count * 8) 0 ∙ ap (λ (n : ℕ). replicate n 0) more
-
-pub result_zeroed : (count : ℕ) (result : List ℕ) → ResultZeroed count result (result_after (replicate count 0) result)
-unfolding result_after
-result_zeroed count result = record {
-  shorter = λ h. rw (counted, lt-leb (count * 8) (length result) h);
-  otherwise = λ h. rw (counted, le-leb (count * 8) (length result) h) (
-      written_is (bytes_of 8) 8 0 (replicate count 0) result (λ x k. refl) (omega (arith, counted))
-      ∙ ap₂ (λ (a : List ℕ) (n : ℕ). a ++ drop n result) (zero_bytes count) all
-      );
-}
-  where
-    counted : length (replicate {A = ℕ} count 0) ≡ count
-    counted = length-replicate count 0
-
-    all : (0 + length (replicate {A = ℕ} count 0)) * 8 ≡ count * 8
-    all = omega (arith, counted)
-
-call_refused_lem : (f : Found) (beds costs result : List ℕ) → f.rows ≡ [] → CallRefused beds costs result (call_of f beds costs result)
-unfolding call_of
-call_refused_lem f beds costs result e = record {
-  beds_kept = ap (λ (rows : List Row). written 0 f.width (λ w. w.beds) rows beds) e;
-  costs_kept = ap (λ (rows : List Row). written 0 8 (λ w. bytes_of 8 w.cost) rows costs) e;
-  no_rows = rw e (result_zeroed 1 result);
-}
-
-module _ (file beds costs result : List ℕ) where
-  abbrev list_asked_from_c : Asked
-  list_asked_from_c = call_asks (asked_by_list file (room_for_rows (region_of file) 8 beds costs)) (room_for_numbers 1 result)
-
-  abbrev sheet_asked_from_c : ℕ → Asked
-  sheet_asked_from_c c = call_asks (asked_by_sheet file c (room_for_rows (region_of file) 8 beds costs)) (room_for_numbers 1 result)
-
-  pub list_call_refused : (q : ℕ) → (list_call file beds costs result).number ≡ suc q → CallRefused beds costs result (list_call file beds costs result)
-  unfolding list_call call_of
-  list_call_refused q e = call_refused_lem (list_found file list_asked_from_c) beds costs result (list_none file list_asked_from_c q e)
-
-  pub sheet_call_refused : (c q : ℕ) → (sheet_call file c beds costs result).number ≡ suc q → CallRefused beds costs result (sheet_call file c beds costs result)
-  unfolding sheet_call call_of
-  sheet_call_refused c q e = call_refused_lem (sheet_found file c (sheet_asked_from_c c)) beds costs result (sheet_none file c (sheet_asked_from_c c) q e)
-
 -- ---- a refused plan is not allowed, and its total is 0
 
 pub record PlanRefused (p : PriceOutcome) : Type 0 where
@@ -282,20 +220,13 @@ priced_refused zero none q e = record { not_allowed = refl; no_total = refl }
 priced_refused zero (some t) q e = absurd (omega arith)
 priced_refused (suc n) t q e = record { not_allowed = refl; no_total = refl }
 
-found_refused : (file : List ℕ) (plan : Plan) (asked : Asked) (q : ℕ) → (price_found file plan asked).number ≡ suc q → PlanRefused (price_found file plan asked)
+pub found_refused : (file : List ℕ) (plan : Plan) (asked : Asked) (q : ℕ) → (price_found file plan asked).number ≡ suc q → PlanRefused (price_found file plan asked)
 unfolding price_found
 found_refused file plan asked q e = priced_refused (first_no asked) (total (region_of file) plan) q e
 
 pub price_refused : (file : List ℕ) (plan : Plan) (q : ℕ) → (price_outcome file plan).number ≡ suc q → PlanRefused (price_outcome file plan)
 unfolding price_outcome
 price_refused file plan q e = found_refused file plan (entry_asks (asked_by_price file plan)) q e
-
-pub price_call_refused : (file : List ℕ) (plan : Plan) (result : List ℕ) (q : ℕ) → (price_call file plan result).number ≡ suc q
-    → ResultZeroed 2 result (price_call file plan result).result
-unfolding price_call price_call_of
-price_call_refused file plan result q e =
-    let r = found_refused file plan (call_asks (asked_by_price file plan) (room_for_numbers 2 result)) q e in
-    rw (r.not_allowed, r.no_total) (result_zeroed 2 result)
 
 -- ---- where no line is handed back, the part is the empty one at the file's end
 
@@ -304,7 +235,6 @@ pub line_refused : (file typed : List ℕ) (q : ℕ) → (line_outcome file type
 unfolding line_outcome line_found
 line_refused file typed q e = ap (λ (n : ℕ). part_unless_refused n file (line_over file typed)) e
 
-pub line_call_refused : (file typed result : List ℕ) (q : ℕ) → (line_call file typed result).number ≡ suc q
+abbrev pub LineCallRefused : Type 0
+LineCallRefused = (file typed result : List ℕ) (q : ℕ) → (line_call file typed result).number ≡ suc q
     → ResultZeroed 2 result (line_call file typed result).result
-unfolding line_call line_call_of
-line_call_refused file typed result q e = rw e (result_zeroed 2 result)

@@ -1,9 +1,9 @@
 -- Demand 1: a file that check refuses is refused with the same number by every entry, by every call from C and in print;
 -- by parents (#107), which asks less of them, unless the number is 6 or 10.
 use Rattle.std.proofs.Math.Path.{ap}
-use Rattle.std.proofs.Common.{◌∙◌}
+use Rattle.std.proofs.Common.{◌∙◌, ◌≡◌, ◌∷◌, ◌++◌}
 use Rattle.std.specs.Prelude.{◌≢◌}
-use Rattle.definitions.specs.Basics.{ℕ, suc, ◌≡◌, Bool, true, List, [], ◌∷◌, ◌++◌, text}
+use Rattle.definitions.specs.Basics.{ℕ, suc, Bool, true, List, [], text}
 use Rattle.definitions.specs.Spelling.{decimal, line as spelled_line}
 use Rattle.definitions.specs.Plans.{Plan}
 use Rattle.definitions.specs.Questions.{Asked, Asks, first_no, entry_asks, call_asks, region_of, room_for_rows, areas_long_enough, clinic_present}

@@ -1,6 +1,6 @@
 -- The tests of the definitions whether two things are the same: they find equality.
-use Rattle.std.proofs.Common.{sym, ap, ap₂, true≢false, eqb-true, eq-eqb}
-use Rattle.definitions.specs.Basics.{ℕ, ◌≡◌, refl, Bool, true, ◌&&◌, Option, none, some, List, [], ◌∷◌, eqb, same}
+use Rattle.std.proofs.Common.{sym, ap, ap₂, true≢false, eqb-true, eq-eqb, ◌≡◌, ◌&&◌, ◌∷◌}
+use Rattle.definitions.specs.Basics.{ℕ, refl, Bool, true, Option, none, some, List, [], eqb, same}
 use Rattle.definitions.specs.Syntax.{Table}
 use Rattle.definitions.specs.Plans.{Row}
 use Rattle.definitions.specs.Sheets.{same_beds}

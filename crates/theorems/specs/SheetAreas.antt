@@ -1,30 +1,18 @@
 -- What stands in the lent areas after a sheet is printed: each row of the sheet in its place.
-use Rattle.std.proofs.Common.{sym, ◌∙◌, append_assoc, mul-le-mul, mul-le-mul_right, arith, take_at}
+-- (Theorems that rest on these stand in `proofs/SheetAreas.antt`.)
+use Rattle.std.proofs.Common.{arith, ◌*◌, ◌<◌, ◌≡◌}
 use Rattle.std.proofs.Math.Path.{ap}
 use Rattle.std.proofs.Math.Nat.{le_trans}
-use borrow.Author.Tests.{leb-true}
 use Rattle.std.specs.Prelude.{◌≤◌, drop}
-use Rattle.std.proofs.Math.ListN.{length-map}
-use Rattle.std.proofs.Math.Seq.{drop-append-add}
-use Rattle.definitions.specs.Basics.{ℕ, zero, suc, ◌+◌, ◌*◌, ◌<◌, ◌≡◌, refl, true, List, [], ◌∷◌, ◌++◌, map, flat_map, length, get_or, take}
-use Rattle.definitions.specs.Basics.{leb}
+use Rattle.definitions.specs.Basics.{ℕ, List, length, get_or, take}
 use Rattle.definitions.specs.Syntax.{Region, patient_numbers, patients_of}
-use Rattle.definitions.specs.Plans.{Row, list_of}
-use Rattle.definitions.specs.Sheets.{same_beds, part, own_row, sheet_of}
-use Rattle.definitions.specs.Questions.{Asked, entry_asks, call_asks, region_of, room_for_rows, areas_long_enough, asked_by_sheet}
+use Rattle.definitions.specs.Plans.{Row}
+use Rattle.definitions.specs.Sheets.{sheet_of}
+use Rattle.definitions.specs.Questions.{Asked, entry_asks, region_of, areas_long_enough, asked_by_sheet}
 use Rattle.definitions.specs.Isolation.{YieldsList}
-use Rattle.definitions.specs.Outcomes.{Found, unless_refused, sheet_found, written, beds_after, costs_after, outcome_of, sheet_outcome}
-use Rattle.definitions.specs.Boundary.{bytes_of, room_for_numbers, result_after, call_of, sheet_call}
-use Rattle.lists.specs.Tests.{both}
-use Rattle.lists.specs.Members.{◌∈◌, here, there}
+use Rattle.definitions.specs.Outcomes.{Found, unless_refused, sheet_found, outcome_of, sheet_outcome}
 use Rattle.lists.specs.Keep.{keep_short}
 use Rattle.lists.specs.Below.{below_long}
-use Rattle.ranking.specs.FirstComing.{first_few}
-use Rattle.theorems.specs.Writing.{written_is}
-use Rattle.theorems.specs.Accepted.{patients_counted_lem}
-use Rattle.theorems.specs.List.{list_first}
-use Rattle.theorems.specs.Yields.{yielding, sheet_printed, sheet_call_printed}
-use Rattle.theorems.specs.SheetRows.{sheet_rows}
 
 -- ---- one row among those that were written
 
@@ -32,44 +20,12 @@ use Rattle.theorems.specs.SheetRows.{sheet_rows}
 abbrev pub row_at : ℕ → ℕ → List ℕ → List ℕ
 row_at width r area = take width (drop (r * width) area)
 
-flat_at : {A : Type 0} (values : A → List ℕ) (width : ℕ) (xs : List A) (rest : List ℕ) → ((x : A) → x ∈ xs → length (values x) ≡ width)
-    → (r : ℕ) (d : A) → r < length xs → row_at width r (flat_map values xs ++ rest) ≡ values (get_or xs r d)
-unfolding flat_map
-flat_at values width [] rest wide r d h = absurd (omega arith)
-flat_at values width (x ∷ xs) rest wide zero d h =
-    let none : zero * width ≡ 0 = omega arith in
-    rw (none, append_assoc (values x) (flat_map values xs) rest) (take_at (values x) (flat_map values xs ++ rest) width (wide x (here refl)))
-flat_at values width (x ∷ xs) rest wide (suc r) d h =
-    let more : suc r * width ≡ length (values x) + r * width = omega (arith, wide x (here refl)) in
-    rw (more, append_assoc (values x) (flat_map values xs) rest, drop-append-add (values x) (flat_map values xs ++ rest) (r * width))
-    (flat_at values width xs rest (λ y k. wide y (there k)) r d (omega arith))
-
-written_at : {A : Type 0} (values : A → List ℕ) (width : ℕ) (xs : List A) (area : List ℕ) → ((x : A) → x ∈ xs → length (values x) ≡ width)
-    → length xs * width ≤ length area → (r : ℕ) (d : A) → r < length xs → row_at width r (written 0 width values xs area) ≡ values (get_or xs r d)
-written_at values width xs area wide fits r d h =
-    let none : 0 * width ≡ 0 = omega arith in
-    rw (written_is values width 0 xs area wide (omega arith), none) (flat_at values width xs _ wide r d h)
-
--- One number in a result area.
-number_at : (n : ℕ) (result : List ℕ) → room_for_numbers 1 result ≡ true → take 8 (result_after (n ∷ []) result) ≡ bytes_of 8 n
-unfolding result_after
-number_at n result h = rw h (written_at (bytes_of 8) 8 (n ∷ []) result (λ x k. refl) (leb-true 8 (length result) h) 0 0 (omega arith))
-
 -- ---- a sheet has room: at most m rows of at most V beds
 
 module _ (region : Region) (c : ℕ) where
-  pub rows_few : length (sheet_of region c) ≤ region.plans_wanted
-  unfolding sheet_of
-  rows_few = le_trans (first_few same_beds [] (map (own_row region c) (list_of region)))
-      (omega (arith, length-map (list_of region) (own_row region c), (list_first region).short))
-
   pub patients_few : length (patients_of region c) ≤ length region.patients
   unfolding patients_of
   patients_few = le_trans (keep_short _ (patient_numbers region)) (omega (arith, below_long (length region.patients)))
-
-  pub row_wide : (v : Row) → v ∈ sheet_of region c → length v.beds ≡ length (patients_of region c)
-  unfolding own_row part
-  row_wide v k = let (w, i, e) = sheet_rows region c v k in ap (λ (x : Row). length x.beds) (sym e) ∙ length-map (patients_of region c) _
 
 -- ---- what a printed sheet leaves in the areas
 
@@ -81,61 +37,21 @@ pub record Printed (file : List ℕ) (c size : ℕ) (parts : ℕ → List ℕ) (
   pub cost_at : (r : ℕ) (d : Row) → r < length (sheet_of (region_of file) c) → row_at size r costs ≡ parts (get_or (sheet_of (region_of file) c) r d).cost
 
 module _ (file : List ℕ) (c : ℕ) where
-  abbrev region : Region
+  abbrev pub region : Region
   region = region_of file
 
-  abbrev found : Asked → Found
+  abbrev pub found : Asked → Found
   found asked = sheet_found file c asked
 
-  found_rows : (asked : Asked) → (found asked).number ≡ 0 → (found asked).rows ≡ sheet_of region c
+  pub found_rows : (asked : Asked) → (found asked).number ≡ 0 → (found asked).rows ≡ sheet_of region c
   unfolding sheet_found
   found_rows asked e = ap (λ (n : ℕ). unless_refused n (sheet_of region c)) e
 
-  found_printed : (asked : Asked) (size : ℕ) (parts : ℕ → List ℕ) (beds costs : List ℕ) → ((n : ℕ) → length (parts n) ≡ size)
-      → YieldsList file → room_for_rows region size beds costs ≡ true → (found asked).number ≡ 0
-      → Printed file c size parts (beds_after (found asked) beds) (costs_after size parts (found asked) costs)
-  unfolding room_for_rows sheet_found
-  found_printed asked size parts beds costs sized list room e = rw (found_rows asked e) (record {
-    list = list;
-    beds_at = written_at (λ w. w.beds) (length (patients_of region c)) (sheet_of region c) beds (row_wide region c)
-        (le_trans (mul-le-mul (rows_few region c) (omega (arith, patients_few region c, counted))) beds_room);
-    cost_at = written_at (λ w. parts w.cost) size (sheet_of region c) costs (λ w k. sized w.cost) (le_trans (mul-le-mul_right size (rows_few region c)) costs_room);
-  })
-    where
-      beds_room : region.plans_wanted * region.patient_count ≤ length beds
-      beds_room = leb-true _ _ (both (leb (region.plans_wanted * region.patient_count) (length beds)) room).0
-
-      costs_room : region.plans_wanted * size ≤ length costs
-      costs_room = leb-true _ _ (both (leb (region.plans_wanted * region.patient_count) (length beds)) room).1
-
-      counted : length region.patients ≡ region.patient_count
-      counted = patients_counted_lem region (yielding file list)
-
   -- The entry: each cost is one number.
   module _ (beds costs work : List ℕ) (e : (sheet_outcome file c beds costs work).number ≡ 0) where
-    abbrev entry_asked : Asked
+    abbrev pub entry_asked : Asked
     entry_asked = entry_asks (asked_by_sheet file c (areas_long_enough region beds costs work))
 
     pub outcome_rows : (sheet_outcome file c beds costs work).rows ≡ length (sheet_of region c)
     unfolding sheet_outcome outcome_of
     outcome_rows = ap length (found_rows entry_asked e)
-
-    pub outcome_printed : Printed file c 1 (λ n. n ∷ []) (sheet_outcome file c beds costs work).beds (sheet_outcome file c beds costs work).costs
-    unfolding sheet_outcome outcome_of areas_long_enough
-    outcome_printed = let (list, present, long) = (sheet_printed file c beds costs work).0 e in
-        found_printed entry_asked 1 (λ n. n ∷ []) beds costs (λ n. refl) list (both (room_for_rows region 1 beds costs) long).0 e
-
-  -- The call from C: each cost is eight bytes, and the row count stands in the result area.
-  module _ (beds costs result : List ℕ) (e : (sheet_call file c beds costs result).number ≡ 0) where
-    abbrev call_asked : Asked
-    call_asked = call_asks (asked_by_sheet file c (room_for_rows region 8 beds costs)) (room_for_numbers 1 result)
-
-    pub call_rows : take 8 (sheet_call file c beds costs result).result ≡ bytes_of 8 (length (sheet_of region c))
-    unfolding sheet_call call_of
-    call_rows = let (list, present, rows, fits) = (sheet_call_printed file c beds costs result).0 e in
-        number_at _ result fits ∙ ap (λ (rows : List Row). bytes_of 8 (length rows)) (found_rows call_asked e)
-
-    pub call_printed : Printed file c 8 (bytes_of 8) (sheet_call file c beds costs result).beds (sheet_call file c beds costs result).costs
-    unfolding sheet_call call_of
-    call_printed = let (list, present, rows, fits) = (sheet_call_printed file c beds costs result).0 e in
-        found_printed call_asked 8 (bytes_of 8) beds costs (λ n. refl) list rows e

@@ -1,10 +1,10 @@
 -- Sums of entries of which some may be forbidden: in parts, after renaming, and in any order.
-use Rattle.std.proofs.Common.{sym, ap, ap₂, ◌∙◌, arith, zero-add, add-zero, eqb-true, ne_eqb}
+use Rattle.std.proofs.Common.{sym, ap, ap₂, ◌∙◌, arith, zero-add, add-zero, eqb-true, ne_eqb, ◌+◌, ◌<◌, ◌≡◌, ◌&&◌, ◌∷◌, ◌++◌}
 use Rattle.std.proofs.Math.Option.{none-ne-some, some-injective}
 use Rattle.std.proofs.lemmas.Bool.{eqb-false, not-true}
 use Rattle.std.specs.Prelude.{◌≤◌}
-use Rattle.definitions.specs.Basics.{ℕ, zero, suc, ◌+◌, ◌<◌, ◌≡◌, refl, Bool, true, false, not, ◌&&◌, cond, Option, none, some, option_map, option_get_or, bind}
-use Rattle.definitions.specs.Basics.{List, [], ◌∷◌, ◌++◌, map, length, eqb, sum, numbers_from, keep, on_all}
+use Rattle.definitions.specs.Basics.{ℕ, zero, suc, refl, Bool, true, false, not, cond, Option, none, some, option_map, option_get_or, bind}
+use Rattle.definitions.specs.Basics.{List, [], map, length, eqb, sum, numbers_from, keep, on_all}
 use Rattle.lists.specs.Members.{◌∈◌, here, there}
 use Rattle.lists.specs.Keep.{keep_out, keep_keep, keep_same}
 use Rattle.lists.specs.Maps.{map_same}

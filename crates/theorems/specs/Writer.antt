@@ -1,32 +1,29 @@
 -- Request #101: a written file is read as the region that was written, and a region that was read is written as its file.
+-- (Theorems that rest on these stand in `proofs/Writer.antt`.)
 use Rattle.std.specs.Prelude.{◌≡◌, ◌≤◌}
 use Rattle.std.proofs.Math.Path.{refl, sym, ap}
-use Rattle.std.proofs.Common.{ap₂, ◌∙◌}
-use Rattle.std.proofs.Math.Option.{some-injective}
+use Rattle.std.proofs.Common.{◌∙◌, ◌+◌, ◌<◌, ◌&&◌, ◌∷◌, ◌++◌}
 use native.Mathlib.Omega.{arith}
 use Rattle.std.proofs.Math.ListN.{drop}
 use Rattle.std.proofs.Math.Seq.{sets-eq}
-use borrow.Author.Tests.{lt-ltb, ltb-true, le-leb, leb-true, eqb-true, eq-eqb}
-use Rattle.definitions.specs.Basics.{ℕ, suc, ◌+◌, ◌<◌, Bool, true, ◌&&◌, not, Option, none, some, none_or, List, [], ◌∷◌, ◌++◌, length, take}
-use Rattle.definitions.specs.Basics.{leb, every, is_empty, is_some, sets}
+use borrow.Author.Tests.{lt-ltb, ltb-true, leb-true, eq-eqb}
+use Rattle.definitions.specs.Basics.{ℕ, suc, Bool, true, not, Option, none, some, none_or, List, [], length, take}
+use Rattle.definitions.specs.Basics.{leb, every, is_empty, sets}
 use Rattle.definitions.specs.Limits.{Field, patient_count, table_count, plans_wanted, clinic, bed_count, entry, limits, within}
 use Rattle.definitions.specs.Syntax.{Patient, Table, Region}
 use Rattle.definitions.specs.Layout.{layout}
-use Rattle.definitions.specs.Spelling.{spellable, spell_body, spell, well_formed}
-use Rattle.definitions.specs.Questions.{Asked, first_no, checksum, short_enough, laid_out, counts_true, sum_true, region_of, asked_of_region, asked_by_check, check_of, entry_asks, call_asks}
+use Rattle.definitions.specs.Spelling.{spellable, spell_body, well_formed}
+use Rattle.definitions.specs.Questions.{Asked, first_no, checksum, counts_true, region_of, asked_of_region, check_of, entry_asks, call_asks}
 use Rattle.definitions.specs.Outcomes.{unless_refused}
 use Rattle.definitions.specs.Writer.{region_from, as_held, written_file, room_for_file, asked_by_write, Made, made_by, output_after, WriteOutcome, write_outcome_of, write_outcome}
-use Rattle.definitions.specs.Boundary.{room_for_numbers, result_after, lent_region, lent_whole, asked_by_lent_write, WriteCall, write_call_of, write_call}
+use Rattle.definitions.specs.Boundary.{room_for_numbers, lent_region, asked_by_lent_write, WriteCall, write_call_of, write_call}
 use Rattle.lists.specs.Tests.{both, join}
 use Rattle.lists.specs.Members.{◌∈◌}
-use Rattle.lists.specs.Every.{every_in, every_all, every_append, every_split}
+use Rattle.lists.specs.Every.{every_in, every_all, every_split}
 use Rattle.theorems.specs.Answers.{all_yes, Says, says, no_no}
-use Rattle.theorems.specs.Refusals.{ResultZeroed, result_zeroed}
 use Rattle.theorems.specs.Refused.{Refused}
-use Rattle.theorems.specs.Cuts.{cut_refused}
-use Rattle.theorems.specs.Accepted.{Accepted, counts_true_lem, asked_accepted, accepted_asked, accepted, at_most, patient_right, counts_within_lem, patients_few, parent_known, entries_some, table_right, region_said_lem}
-use Rattle.theorems.specs.Spelling.{layout_spelling, laid_out_spelt, body_spelt}
-use Rattle.theorems.specs.Lengths.{most_written, spelling_most}
+use Rattle.theorems.specs.Accepted.{Accepted, asked_accepted, at_most, patient_right, counts_within_lem, patients_few, parent_known, entries_some, table_right}
+use Rattle.theorems.specs.Lengths.{most_written}
 
 -- Questions 5 to 10 of the region as it is held are answered yes.
 abbrev pub Passes : Region → Type 0
@@ -39,20 +36,9 @@ pub held_counts : (r : Region) → counts_true (as_held r) ≡ true
 unfolding counts_true as_held region_from
 held_counts r = join (eq-eqb (length r.patients) _ refl) (eq-eqb (length r.tables) _ refl)
 
-held_sum : (r : Region) → (as_held r).stated_sum ≡ checksum (spell_body (as_held r))
+pub held_sum : (r : Region) → (as_held r).stated_sum ≡ checksum (spell_body (as_held r))
 unfolding as_held region_from spell_body
 held_sum r = refl
-
--- A region with true counts and its true sum is as it is held.
-pub as_held_lem : (r : Region) → counts_true r ≡ true → r.stated_sum ≡ checksum (spell_body r) → as_held r ≡ r
-unfolding as_held region_from spell_body
-as_held_lem r counted summed =
-    let (v, t) = counts_true_lem r counted in
-    ap₂ (λ p q. from p q (checksum (spell_body (from p q 0)))) v t
-    ∙ ap (from r.patient_count r.table_count) (sym summed)
-  where
-    from : ℕ → ℕ → ℕ → Region
-    from v t n = record { patient_count = v; table_count = t; plans_wanted = r.plans_wanted; patients = r.patients; tables = r.tables; stated_sum = n }
 
 pub passes_accepted : (r : Region) → Passes r → Accepted (as_held r)
 passes_accepted r well = asked_accepted (as_held r) (held_counts r) ((says (asked_of_region (as_held r)) tt).accepted.0 well)
@@ -111,43 +97,13 @@ module _ (r : Region) (a : Accepted r) where
 
 -- ---- a region that passes questions 5 to 10
 
-sum_few : (r : Region) → (as_held r).stated_sum ≤ 65_520
+pub sum_few : (r : Region) → (as_held r).stated_sum ≤ 65_520
 sum_few r = omega (arith, held_sum r)
 
 module _ (r : Region) (a : Accepted (as_held r)) where
-  -- Its file is at most so long, ..
-  pub written_short : length (written_file r) ≤ most_written
-  unfolding written_file
-  written_short = spelling_most (as_held r) a (sum_few r)
-
   pub written_formed : well_formed (as_held r) ≡ true
   unfolding limits
   written_formed = formed (as_held r) a (lt-ltb (as_held r).stated_sum _ (omega (arith, sum_few r)))
-
-  -- .. reading it restores the same counts, patients, tables and entries, ..
-  pub written_read : layout (written_file r) ≡ some (as_held r)
-  unfolding written_file
-  written_read = (layout_spelling (spell (as_held r)) (as_held r)).1 (written_formed, refl)
-
-  fits_file : short_enough (written_file r) ≡ true
-  unfolding short_enough within limits
-  fits_file = join (le-leb 0 (length (written_file r)) (omega arith)) (le-leb (length (written_file r)) 65_535 (omega (arith, written_short)))
-
-  laid : laid_out (written_file r) ≡ true
-  unfolding laid_out
-  laid = ap is_some written_read
-
-  pub written_region : region_of (written_file r) ≡ as_held r
-  written_region = some-injective _ _ (sym (region_said_lem (written_file r) laid) ∙ written_read)
-
-  summed : sum_true (written_file r) (as_held r) ≡ true
-  unfolding sum_true
-  summed = eq-eqb _ _ (held_sum r ∙ ap checksum (sym (body_spelt (written_file r) (as_held r) written_read)))
-
-  -- .. and it is accepted.
-  pub written_accepted : check_of (written_file r) ≡ 0
-  unfolding check_of asked_by_check
-  written_accepted = no_no (asked_by_check (written_file r)) (join fits_file (join laid (rw written_region (join (held_counts r) (join summed (accepted_asked (as_held r) a))))))
 
 -- Put together: what the file of a region that passes questions 5 to 10 is, and what reading it restores.
 pub record ReadBack (r : Region) : Type 0 where
@@ -160,39 +116,6 @@ pub record ReadBack (r : Region) : Type 0 where
   pub plans_wanted : (region_of (written_file r)).plans_wanted ≡ r.plans_wanted
   pub patients : (region_of (written_file r)).patients ≡ r.patients
   pub tables : (region_of (written_file r)).tables ≡ r.tables
-
-pub read_back_lem : (r : Region) → Passes r → ReadBack r
-unfolding as_held region_from
-read_back_lem r passes =
-    let a = passes_accepted r passes in
-    let same = written_region r a in
-    record {
-      short = written_short r a;
-      accepted = written_accepted r a;
-      cuts = λ n h. cut_refused (written_file r) n (fits_file r a) (laid r a) h;
-      read = written_read r a;
-      patient_count = ap (λ (x : Region). x.patient_count) same;
-      table_count = ap (λ (x : Region). x.table_count) same;
-      plans_wanted = ap (λ (x : Region). x.plans_wanted) same;
-      patients = ap (λ (x : Region). x.patients) same;
-      tables = ap (λ (x : Region). x.tables) same;
-    }
-
--- ---- a region that was read from an accepted file
-
-module _ (file : List ℕ) (fine : check_of file ≡ 0) where
-  -- It is as it is held, ..
-  pub read_held : as_held (region_of file) ≡ region_of file
-  unfolding sum_true
-  read_held =
-      let all = accepted file fine in
-      as_held_lem (region_of file) all.region.counted
-      (eqb-true _ _ all.summed ∙ ap checksum (body_spelt file (region_of file) (region_said_lem file all.laid)))
-
-  -- .. and writing it restores its bytes.
-  pub read_written : written_file (region_of file) ≡ file
-  unfolding written_file
-  read_written = ap spell read_held ∙ sym (laid_out_spelt file (accepted file fine).laid).1
 
 -- ---- what a writer's number says, and what it leaves
 
@@ -241,61 +164,18 @@ module _ (r : Region) (output : List ℕ) where
   unfolding write_outcome write_outcome_of asked_by_write
   write_says = says (entry_asks (asked_by_write r output)) tt
 
-  pub write_wrote : (write_outcome r output).number ≡ 0 → Wrote (written_file r) output (write_outcome r output).output (write_outcome r output).count
-  unfolding write_outcome write_outcome_of asked_by_write
-  write_wrote e = made_wrote (asked_of_region (as_held r)) (written_file r) output (write_says.accepted.0 e)
-
-  pub write_refused : (q : ℕ) → (write_outcome r output).number ≡ suc q → Unwritten output (write_outcome r output).output (write_outcome r output).count
-  unfolding write_outcome write_outcome_of
-  write_refused q e = made_refused (entry_asks (asked_by_write r output)) (written_file r) output q e
-
--- Writing what was read of an accepted file, into an area that is long enough, gives the file.
-pub read_then_write : (file output : List ℕ) → check_of file ≡ 0 → length file ≤ length output
-    → write_outcome (region_of file) output ≡ record { number = 0; count = length file; output = file ++ drop (length file) output }
-unfolding write_outcome write_outcome_of asked_by_write room_for_file
-read_then_write file output fine few =
-    let wrote = write_wrote (region_of file) output zero_number in
-    let same = read_written file fine in
-    λ i. record { number = zero_number i; count = (wrote.counted ∙ ap length same) i; output = (wrote.output ∙ ap (λ f. f ++ drop (length f) output) same) i }
-  where
-    room : all_yes ((15, room_for_file (written_file (region_of file)) output) ∷ []) ≡ true
-    room = rw (read_written file fine, le-leb (length file) (length output) few) refl
-
-    early : all_yes (asked_of_region (as_held (region_of file))) ≡ true
-    early = rw (read_held file fine) (accepted_asked (region_of file) (accepted file fine).region)
-
-    all : all_yes (entry_asks (asked_by_write (region_of file) output)) ≡ true
-    all = every_append (λ (a : ℕ × Bool). a.1) (asked_of_region (as_held (region_of file))) ((15, room_for_file (written_file (region_of file)) output) ∷ []) early room
-
-    zero_number : (write_outcome (region_of file) output).number ≡ 0
-    zero_number = (write_says (region_of file) output).accepted.1 all
-
 -- ---- the call from C
 
 module _ (patients tables entries : List ℕ) (m : ℕ) (output result : List ℕ) where
-  abbrev call : WriteCall
+  abbrev pub call : WriteCall
   call = write_call patients tables entries m output result
 
-  abbrev asked : Asked
+  abbrev pub asked : Asked
   asked = call_asks (asked_by_lent_write patients tables entries m output) (room_for_numbers 1 result)
 
-  abbrev file : List ℕ
+  abbrev pub file : List ℕ
   file = written_file (lent_region patients tables entries m)
 
   pub write_call_says : Says asked call.number
   unfolding write_call write_call_of asked_by_lent_write asked_by_write
   write_call_says = says asked tt
-
-  -- Number 0: the file is written, and its length is the result.
-  pub write_call_wrote : call.number ≡ 0 → (Wrote file output call.output (length file)) × (call.result ≡ result_after (length file ∷ []) result)
-  unfolding write_call write_call_of asked_by_lent_write asked_by_write
-  write_call_wrote e =
-      let before = (2, lent_whole patients tables entries) ∷ asked_of_region (as_held (lent_region patients tables entries m)) ++ (12, room_for_numbers 1 result) ∷ [] in
-      let wrote = made_wrote before file output (write_call_says.accepted.0 e) in
-      (record { counted = refl; fits = wrote.fits; output = wrote.output }, ap (λ n. result_after (n ∷ []) result) wrote.counted)
-
-  pub write_call_refused : (q : ℕ) → call.number ≡ suc q → (call.output ≡ output) × ResultZeroed 1 result call.result
-  unfolding write_call write_call_of
-  write_call_refused q e =
-      let left = made_refused asked file output q e in
-      (left.output, rw left.counted (result_zeroed 1 result))

@@ -1,9 +1,9 @@
 -- What stands in an area after rows of one width were written to it.
 use Rattle.std.specs.Prelude.{◌≡◌, refl, length, take, drop, ◌≤◌}
-use Rattle.std.proofs.Common.{sym, ap, ap₂, ◌∙◌, append_assoc, arith, length-append, take-append-drop, take_at, drop-drop, length-take-le}
+use Rattle.std.proofs.Common.{sym, ap, ap₂, ◌∙◌, append_assoc, arith, length-append, take-append-drop, take_at, drop-drop, length-take-le, ◌+◌, ◌*◌, ◌∷◌, ◌++◌}
 use Rattle.std.proofs.lemmas.List.Edits.{sets, sets-eq}
 use Rattle.std.proofs.Math.Seq.{length-sets, drop-append-add}
-use Rattle.definitions.specs.Basics.{ℕ, zero, suc, ◌+◌, ◌*◌, ◌-◌, List, [], ◌∷◌, ◌++◌, flat_map}
+use Rattle.definitions.specs.Basics.{ℕ, zero, suc, List, [], flat_map}
 use Rattle.definitions.specs.Outcomes.{written}
 use Rattle.lists.specs.Members.{◌∈◌, here, there}
 

@@ -1,10 +1,8 @@
 -- Which files yield a list, and when a sheet is printed: what list's and sheet's number 0 says of the questions.
-use Rattle.std.proofs.Common.{sym, ap, ◌∙◌, true≢false, arith}
+-- (Theorems that rest on these stand in `proofs/Yields.antt`.)
+use Rattle.std.proofs.Common.{sym, ap, ◌∙◌, ◌≡◌, ◌&&◌, ◌∷◌, ◌++◌}
 use Rattle.std.specs.Prelude.{◌↔◌}
-use Rattle.definitions.specs.Basics.{ℕ, ◌<◌, ◌≡◌, refl, true, ◌&&◌, List, [], ◌∷◌, ◌++◌, map, length}
-use Rattle.definitions.specs.Syntax.{Region}
-use Rattle.definitions.specs.Plans.{Plan, Row, list_of}
-use Rattle.definitions.specs.Sheets.{part, sheet_of}
+use Rattle.definitions.specs.Basics.{ℕ, refl, true, List, []}
 use Rattle.definitions.specs.Questions.{Asked, region_of, check_of, clinic_present, room_for_rows, areas_long_enough, plan_allowed}
 use Rattle.definitions.specs.Questions.{asked_by_check, asked_by_list, asked_by_sheet}
 use Rattle.definitions.specs.Outcomes.{sheet_outcome}
@@ -12,12 +10,9 @@ use Rattle.definitions.specs.Boundary.{room_for_numbers, sheet_call}
 use Rattle.definitions.specs.Isolation.{YieldsList}
 use Rattle.lists.specs.Tests.{both, join}
 use Rattle.lists.specs.Every.{every_concat}
-use Rattle.lists.specs.Members.{◌∈◌, here, none_in_nil, in_map}
 use Rattle.theorems.specs.Answers.{all_yes}
 use Rattle.theorems.specs.Refusals.{check_says, yield_says, sheet_says, sheet_call_says}
-use Rattle.theorems.specs.Accepted.{Accepted, accepted, plans_wanted_lem}
-use Rattle.theorems.specs.List.{list_empty}
-use Rattle.theorems.specs.SheetRows.{sheet_parts}
+use Rattle.theorems.specs.Accepted.{Accepted, accepted}
 
 -- ---- questions asked after those of check
 
@@ -92,23 +87,3 @@ module _ (file : List ℕ) where
 
 pub yielding : (file : List ℕ) → YieldsList file → Accepted (region_of file)
 yielding file e = (accepted file ((yields file).0 e).checked).region
-
--- Its list has a first row, so every sheet has one.
-pub sheet_some : (file : List ℕ) → YieldsList file → (c : ℕ) → 0 < length (sheet_of (region_of file) c)
-sheet_some file e c = go (list_of r) refl
-  where
-    r : Region
-    r = region_of file
-
-    wanted : 0 < r.plans_wanted
-    wanted = (plans_wanted_lem r (yielding file e)).0
-
-    nonempty : (s : List Row) {p : Plan} → p ∈ map (λ w. w.beds) s → 0 < length s
-    nonempty [] k = absurd (none_in_nil k)
-    nonempty (w ∷ s) k = omega arith
-
-    go : (l : List Row) → list_of r ≡ l → 0 < length (sheet_of r c)
-    go [] q = absurd (true≢false (sym ((yields file).0 e).planned ∙ (list_empty r wanted).0 q))
-    go (w ∷ l) q =
-        let k : w ∈ list_of r = rw q (here refl) in
-        nonempty (sheet_of r c) ((sheet_parts r c).every (part r c w.beds) (in_map (λ (w : Row). part r c w.beds) k))

@@ -1,9 +1,9 @@
 -- A file is laid out exactly where it is the spelling of a well-formed tree; so each accepted file has one spelling.
-use Rattle.std.proofs.Common.{sym, ap, ◌∙◌, append-nil}
+use Rattle.std.proofs.Common.{sym, ap, ◌∙◌, append-nil, ◌≡◌, ◌++◌}
 use Rattle.std.specs.Prelude.{◌↔◌}
 use Rattle.std.proofs.Math.Option.{some-injective}
 use Rattle.lists.specs.Maps.{drop_last_lem}
-use Rattle.definitions.specs.Basics.{ℕ, ◌≡◌, true, cond, none, some, List, [], ◌++◌, flatten, drop_last, every, is_empty}
+use Rattle.definitions.specs.Basics.{ℕ, true, cond, none, some, List, [], flatten, drop_last, every, is_empty}
 use Rattle.definitions.specs.Syntax.{Region}
 use Rattle.definitions.specs.Layout.{whole, lines, region_lines, layout}
 use Rattle.definitions.specs.Spelling.{spell_body, spell, well_formed}
@@ -12,7 +12,8 @@ use Rattle.theorems.specs.Accepted.{region_said_lem}
 use Rattle.theorems.specs.Readers.{Takes, then_each, whole_takes}
 use Rattle.theorems.specs.Lines.{in_file, flatten_lines, lines_flatten, lines_bytes}
 use Rattle.theorems.specs.Forms.{spell_end}
-use Rattle.theorems.specs.Files.{body_lines, file_lines, file_reads, flatten_body, flatten_file, file_lines_lem}
+use Rattle.theorems.specs.Files.{body_lines, file_lines, file_reads, flatten_body, flatten_file}
+use Rattle.theorems.proofs.Files.{file_lines_lem}
 
 -- A spelled tree is cut into its lines, whatever stands after it.
 lines_spell : (t : Region) (rest : List ℕ) → lines (spell t ++ rest) ≡ file_lines t ++ lines rest

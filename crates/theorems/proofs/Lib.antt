@@ -1,0 +1,21 @@
+-- What rests on the definitions and statements of specs/.
+pub mod Refusals
+pub mod Files
+pub mod Spelling
+pub mod Cuts
+pub mod OneByte
+pub mod List
+pub mod Accepted
+pub mod Isolation
+pub mod SheetRows
+pub mod Shares
+pub mod Yields
+pub mod SheetAreas
+pub mod Agreement
+pub mod IsolationExamples
+pub mod PlanAllowed
+pub mod Lengths
+pub mod Writer
+pub mod Reading
+pub mod Lookup
+pub mod EntryPlaces
