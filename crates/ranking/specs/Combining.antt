@@ -6,8 +6,9 @@ use Rattle.std.proofs.lemmas.List.{length-map}
 use Rattle.definitions.specs.Basics.{ℕ, refl, List, [], map, flat_map, take, sort}
 use Rattle.lists.specs.Members.{◌∈◌, ◌⊆◌, Distinct, Enumerates, distinct_append, distinct_map, here, there, here_or_there, none_in_nil, in_append_left, in_append_right, in_append_cases, in_map, in_map_cases, in_cast}
 use Rattle.ranking.specs.Orders.{Order}
-use Rattle.ranking.specs.First.{First, FullBefore, Covered, sorted_distinct, first_covered}
-use Rattle.ranking.specs.Sorting.{first_of}
+use Rattle.ranking.specs.First.{First, FullBefore, Covered, sorted_distinct}
+use Rattle.ranking.proofs.First.{first_covered}
+use Rattle.ranking.proofs.Sorting.{first_of}
 use Rattle.ranking.specs.Mapped.{sorted_map}
 
 module _ {A B C : Type 0} (combine : A → B → C) where

@@ -4,8 +4,9 @@ use Rattle.std.proofs.Common.{inl, inr, arith, ◌≡◌}
 use Rattle.definitions.specs.Basics.{ℕ, suc, Ordering, List, [], length, get_or, take, insert}
 use Rattle.lists.specs.Members.{◌∈◌, ◌⊆◌, none_in_nil}
 use Rattle.ranking.specs.Orders.{Order, View, before, equal, after}
-use Rattle.ranking.specs.First.{Sorted, Covered, First, first_iff, first_cut, first_covered}
-use Rattle.ranking.specs.Sorting.{first_insert}
+use Rattle.ranking.specs.First.{Sorted, Covered, First, first_iff, first_cut}
+use Rattle.ranking.proofs.First.{first_covered}
+use Rattle.ranking.proofs.Sorting.{first_insert}
 
 -- In the list, or satisfies Q.
 abbrev With : {A : Type 0} → List A → (A → Type 0) → A → Type 0

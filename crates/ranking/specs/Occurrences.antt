@@ -4,7 +4,8 @@ use Rattle.std.specs.Prelude.{◌⊎◌}
 use Rattle.definitions.specs.Basics.{ℕ, zero, suc, refl, Bool, true, false, Ordering, List, [], map, length, any, first_occurrences}
 use Rattle.lists.specs.Members.{◌∈◌, Distinct, here, there, here_or_there, none_in_nil, in_map_cases, in_cast}
 use Rattle.ranking.specs.Orders.{Order, View, before, equal, after}
-use Rattle.ranking.specs.First.{First, Least, Past, first_zero, first_least, first_tail, first_cons}
+use Rattle.ranking.specs.First.{First, Least, Past, first_zero, first_least, first_tail}
+use Rattle.ranking.proofs.First.{first_cons}
 
 -- The test says whether two keys are equal.
 pub record Tests {A K : Type 0} (key : A → K) (alike : A → A → Bool) : Type 0 where

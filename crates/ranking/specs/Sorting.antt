@@ -5,7 +5,8 @@ use Rattle.definitions.specs.Basics.{ℕ, zero, suc, min, Ordering, ordering_lt,
 use Rattle.definitions.specs.Basics.{refl, List, [], length, get_or, take, insert, sort}
 use Rattle.lists.specs.Members.{◌∈◌, ◌⊆◌, Distinct, Enumerates, here, there, here_or_there, none_in_nil}
 use Rattle.ranking.specs.Orders.{Order, View, before, equal, after}
-use Rattle.ranking.specs.First.{First, Past, first_iff, first_zero, first_none, first_nil, first_least, first_tail, first_cons, first_unique, first_take}
+use Rattle.ranking.specs.First.{First, Past, first_iff, first_zero, first_none, first_nil, first_least, first_tail}
+use Rattle.ranking.proofs.First.{first_cons, first_unique, first_take}
 
 -- One step of insertion: z goes in front of x, or into the rest.
 abbrev pub step : {A : Type 0} → Ordering → A → A → List A → List A → List A
