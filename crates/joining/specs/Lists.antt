@@ -13,9 +13,11 @@ use Rattle.lists.specs.Tests.{both, join, same_answer}
 use Rattle.lists.specs.Members.{◌∈◌, ◌⊆◌, Distinct}
 use Rattle.lists.specs.Every.{any_in, any_out}
 use Rattle.lists.specs.Maps.{map_take, map_cross}
-use Rattle.ranking.specs.First.{First, first_iff, first_unique, sorted_distinct}
+use Rattle.ranking.specs.First.{First, first_iff, sorted_distinct}
+use Rattle.ranking.proofs.First.{first_unique}
 use Rattle.ranking.specs.Mapped.{sort_map}
-use Rattle.ranking.specs.Combining.{Combined, Rising, Injective, cross, cross_enumerates, first_cross}
+use Rattle.ranking.specs.Combining.{Combined, Rising, Injective, cross, cross_enumerates}
+use Rattle.ranking.proofs.Combining.{first_cross}
 use Rattle.theorems.specs.List.{row_order, Fits, Allowed, by_beds}
 use Rattle.theorems.proofs.List.{plans_enumerate, list_first}
 use Rattle.theorems.specs.Interleaving.{Interleaved, done, marked, unmarked, unweave, rising_marked, rising_unmarked, fits_apart, fits_together}

@@ -18,8 +18,9 @@ use Rattle.lists.specs.Every.{every_in, any_out}
 use Rattle.lists.specs.Keep.{keep_out, keep_none, keep_append}
 use Rattle.lists.specs.Maps.{map_same}
 use Rattle.lists.specs.Below.{below_out, by_number}
-use Rattle.ranking.specs.First.{First, first_iff, first_take, first_prefix}
-use Rattle.ranking.specs.Parts.{parts_first}
+use Rattle.ranking.specs.First.{First, first_iff}
+use Rattle.ranking.proofs.First.{first_take, first_prefix}
+use Rattle.ranking.proofs.Parts.{parts_first}
 use Rattle.ranking.specs.FirstComing.{first_few, first_begins, first_images}
 use Rattle.theorems.specs.Readers.{empty_is}
 use Rattle.theorems.specs.Accepted.{Accepted, table_right, plans_wanted_lem}

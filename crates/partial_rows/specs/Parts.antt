@@ -9,7 +9,8 @@ use Rattle.definitions.specs.Plans.{Plan, bed_of, constraints, Row, compare_rows
 use Rattle.lists.specs.Members.{◌∈◌}
 use Rattle.lists.specs.Keep.{keep_same}
 use Rattle.ranking.specs.First.{First, first_iff}
-use Rattle.ranking.specs.Combining.{Combined, Injective, Rising, cross, first_combined, first_cross}
+use Rattle.ranking.specs.Combining.{Combined, Injective, Rising, cross}
+use Rattle.ranking.proofs.Combining.{first_combined, first_cross}
 use Rattle.theorems.specs.List.{row_order}
 use Rattle.partial_rows.specs.Adding.{add_beds, add_rows, add_at, add_rising, add_rising_right}
 use Rattle.partial_rows.specs.Sets.{Patients, Splits, swap_parts, not_both}

@@ -12,7 +12,8 @@ use Rattle.partial_rows.specs.Sets.{Patients, only, Splits}
 use Rattle.partial_rows.specs.Rows.{decided_tables, empty_row, RowOf, Branch, Position, with_bed, LowerBound}
 use Rattle.partial_rows.specs.Beds.{no_bed}
 use Rattle.partial_rows.specs.Branches.{branch_start, branch_end, branch_not_before, branch_bed_below, branch_bed, branch_forbidden}
-use Rattle.ranking.specs.Growing.{Grown, Ready, ready_iff, ready_then, grown_from_nil, grown_iff, grown_none, grown_one, grown_then, grown_cut}
+use Rattle.ranking.specs.Growing.{Grown, Ready, ready_iff, ready_then, grown_from_nil, grown_iff, grown_none}
+use Rattle.ranking.proofs.Growing.{grown_one, grown_then, grown_cut}
 
 -- ---- the whole walk
 

@@ -7,7 +7,8 @@ use Rattle.definitions.specs.Plans.{Plan, cost_over, constraints, total, Row, li
 use Rattle.lists.specs.Members.{◌∈◌}
 use Rattle.lists.specs.Every.{every_all, any_in, any_false}
 use Rattle.lists.specs.Keep.{keep_all, keep_none}
-use Rattle.ranking.specs.First.{First, first_iff, first_unique}
+use Rattle.ranking.specs.First.{First, first_iff}
+use Rattle.ranking.proofs.First.{first_unique}
 use Rattle.theorems.specs.List.{row_order, Allowed}
 use Rattle.theorems.proofs.List.{list_first}
 use Rattle.theorems.specs.Accepted.{Accepted, constraint_held, constraint_known}

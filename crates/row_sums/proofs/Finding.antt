@@ -8,7 +8,7 @@ use Rattle.definitions.specs.Basics.{ℕ, zero, suc, List, [], take, sort}
 use Rattle.definitions.specs.Plans.{compare_rows}
 use Rattle.lists.specs.Members.{◌∈◌, ◌⊆◌, Distinct, here, there, here_or_there, none_in_nil, in_append_left, in_append_right, in_append_cases}
 use Rattle.ranking.specs.First.{First, Sorted, sorted_distinct, first_iff}
-use Rattle.ranking.specs.Sorting.{first_of}
+use Rattle.ranking.proofs.Sorting.{first_of}
 use Rattle.ranking.specs.Rising.{sorted_rising}
 use Rattle.ranking.specs.Combining.{Combined, Injective, cross, cross_enumerates}
 use Rattle.theorems.specs.List.{row_order}

@@ -12,7 +12,8 @@ use Rattle.definitions.specs.Outcomes.{sheet_outcome}
 use Rattle.definitions.specs.Boundary.{sheet_call}
 use Rattle.definitions.specs.Isolation.{YieldsList, times_in, SameClinic, SameBeginning}
 use Rattle.lists.specs.Members.{◌⊆◌}
-use Rattle.ranking.specs.First.{first_iff, first_take, first_unique}
+use Rattle.ranking.specs.First.{first_iff}
+use Rattle.ranking.proofs.First.{first_take, first_unique}
 use Rattle.theorems.specs.List.{Allowed}
 use Rattle.theorems.specs.Sums.{plus, sum_over, sum_same}
 use Rattle.theorems.specs.Fixed.{fixed_cost, total_parts}

@@ -14,7 +14,8 @@ use Rattle.lists.specs.Members.{◌∈◌}
 use Rattle.lists.specs.Every.{every_in, contains_out}
 use Rattle.lists.specs.Keep.{keep_in, keep_out}
 use Rattle.lists.specs.Below.{below_in, by_number}
-use Rattle.ranking.specs.First.{First, first_iff, first_prefix}
+use Rattle.ranking.specs.First.{First, first_iff}
+use Rattle.ranking.proofs.First.{first_prefix}
 use Rattle.ranking.specs.Combining.{Combined, Rising}
 use Rattle.theorems.specs.List.{Fits, Allowed, row_order, by_beds}
 use Rattle.theorems.proofs.List.{list_first}
@@ -23,7 +24,7 @@ use Rattle.theorems.specs.Interleaving.{interleaved, interleave_is, interleaved_
 use Rattle.theorems.specs.Sums.{plus, plus_pairs, Halves, halves, sum_over, sum_split}
 use Rattle.theorems.specs.Fixed.{fixed_cost, total_parts, tables_alone}
 use Rattle.theorems.specs.Sameness.{beds_tests}
-use Rattle.ranking.specs.Parts.{parts_first}
+use Rattle.ranking.proofs.Parts.{parts_first}
 use Rattle.theorems.specs.Places.{alone, patients_alone, alone_fits, alone_allowed, by_places, cost_alone, total_alone}
 use Rattle.theorems.specs.Isolation
 use Rattle.theorems.specs.Isolation.{fits_length, MembersPatients, clinic_alone, among_as_one, own_apart, OwnAlone}

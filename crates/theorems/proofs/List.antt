@@ -14,8 +14,9 @@ use Rattle.lists.specs.Members.{◌∈◌, Enumerates, distinct_map, here, here_
 use Rattle.lists.specs.Every.{any_false}
 use Rattle.lists.specs.Maps.{filter_map_out, filter_map_in, filter_map_distinct}
 use Rattle.lists.specs.Below.{numbers_enumerate, every_shift}
-use Rattle.ranking.specs.First.{FullBefore, First, first_unique, sorted_distinct}
-use Rattle.ranking.specs.Sorting.{first_of, first_count_lem}
+use Rattle.ranking.specs.First.{FullBefore, First, sorted_distinct}
+use Rattle.ranking.proofs.First.{first_unique}
+use Rattle.ranking.proofs.Sorting.{first_of, first_count_lem}
 use Rattle.ranking.specs.Combining.{Combined, cross_enumerates}
 use Rattle.theorems.specs.List.{row_order, Fits, Allowed, by_beds, RightList, OnlyList}
 

@@ -9,7 +9,7 @@ use Rattle.definitions.specs.Sheets.{part, own_row, sheet_of}
 use Rattle.lists.specs.Members.{◌∈◌, Enumerates, here, none_in_nil, in_append_right, in_map, in_map_cases, in_cast}
 use Rattle.ranking.specs.Orders.{Order, list_order}
 use Rattle.ranking.specs.First.{First}
-use Rattle.ranking.specs.Sorting.{first_of, first_count_lem}
+use Rattle.ranking.proofs.Sorting.{first_of, first_count_lem}
 use Rattle.theorems.specs.SheetRows
 use Rattle.theorems.specs.SheetRows.{kept, sheet_first_came, SheetCount}
 

@@ -5,7 +5,8 @@ use Rattle.definitions.specs.Basics.{ℕ, suc, refl, Bool, List, [], map, length
 use Rattle.lists.specs.Members.{here}
 use Rattle.ranking.specs.Orders.{Order}
 use Rattle.ranking.specs.First.{First, Least, first_zero, first_nil, first_least}
-use Rattle.ranking.specs.Occurrences.{Tests, Rows, rows_first}
+use Rattle.ranking.specs.Occurrences.{Tests, Rows}
+use Rattle.ranking.proofs.Occurrences.{rows_first}
 use Rattle.ranking.specs.Combining.{Combined, Rising}
 
 module _ {A B C K : Type 0} {O : Order A} {U : Order B} {W : Order C} {combine : A → B → C} {P : A → Type 0} {Q : B → Type 0}
