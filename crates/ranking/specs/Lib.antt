@@ -6,5 +6,4 @@ pub mod Mapped
 pub mod Combining
 pub mod Occurrences
 pub mod FirstComing
-pub mod Parts
 pub mod Growing
