@@ -5,13 +5,6 @@ use Rattle.std.proofs.Math.Logic.{inl, inr}
 use Rattle.definitions.specs.Basics.{refl, List, [], map, flat_map}
 use Rattle.lists.specs.Members.{◌∈◌, ◌⊆◌, Distinct, Enumerates, distinct_append, distinct_map, here, there, here_or_there, none_in_nil, in_append_left, in_append_right, in_append_cases, in_map, in_map_cases, in_cast}
 use Rattle.ranking.specs.Orders.{Order}
-<<<<<<< HEAD
-use Rattle.ranking.specs.First.{First, FullBefore, Covered, sorted_distinct}
-use Rattle.ranking.proofs.First.{first_covered}
-use Rattle.ranking.proofs.Sorting.{first_of}
-use Rattle.ranking.specs.Mapped.{sorted_map}
-=======
->>>>>>> 2e56269e54b0a089695588857e18ed53cd680b0b
 
 module _ {A B C : Type 0} (combine : A → B → C) where
   -- c combines a part in P with a part in Q.

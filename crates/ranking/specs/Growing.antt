@@ -4,15 +4,8 @@ use Rattle.std.specs.Prelude.{◌⊎◌, ◌≤◌}
 use Rattle.std.proofs.Common.{inl, inr, arith}
 use Rattle.definitions.specs.Basics.{ℕ, List, [], length}
 use Rattle.lists.specs.Members.{◌∈◌, ◌⊆◌, none_in_nil}
-<<<<<<< HEAD
-use Rattle.ranking.specs.Orders.{Order, View, before, equal, after}
-use Rattle.ranking.specs.First.{Sorted, Covered, First, first_iff, first_cut}
-use Rattle.ranking.proofs.First.{first_covered}
-use Rattle.ranking.proofs.Sorting.{first_insert}
-=======
 use Rattle.ranking.specs.Orders.{Order}
 use Rattle.ranking.specs.First.{Sorted, First, first_iff}
->>>>>>> 2e56269e54b0a089695588857e18ed53cd680b0b
 
 -- In the list, or satisfies Q.
 abbrev pub With : {A : Type 0} → List A → (A → Type 0) → A → Type 0

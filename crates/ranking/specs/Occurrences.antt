@@ -4,13 +4,7 @@ use Rattle.std.proofs.Common.{sym, ap, ◌∙◌, inl, inr, true≢false, ◌≡
 use Rattle.std.specs.Prelude.{◌⊎◌}
 use Rattle.definitions.specs.Basics.{refl, Bool, true, false, List, [], map, any, first_occurrences}
 use Rattle.lists.specs.Members.{◌∈◌, Distinct, here, there, here_or_there, none_in_nil, in_map_cases, in_cast}
-<<<<<<< HEAD
-use Rattle.ranking.specs.Orders.{Order, View, before, equal, after}
-use Rattle.ranking.specs.First.{First, Least, Past, first_zero, first_least, first_tail}
-use Rattle.ranking.proofs.First.{first_cons}
-=======
 use Rattle.ranking.specs.Orders.{Order}
->>>>>>> 2e56269e54b0a089695588857e18ed53cd680b0b
 
 -- The test says whether two keys are equal.
 pub record Tests {A K : Type 0} (key : A → K) (alike : A → A → Bool) : Type 0 where

@@ -6,11 +6,6 @@ use Rattle.definitions.specs.Basics.{ℕ, zero, suc, Ordering, ordering_lt, orde
 use Rattle.definitions.specs.Basics.{refl, List, [], length, get_or, take, insert, sort}
 use Rattle.lists.specs.Members.{◌∈◌, Distinct, here, there, here_or_there, none_in_nil}
 use Rattle.ranking.specs.Orders.{Order, View, before, equal, after}
-<<<<<<< HEAD
-use Rattle.ranking.specs.First.{First, Past, first_iff, first_zero, first_none, first_nil, first_least, first_tail}
-use Rattle.ranking.proofs.First.{first_cons, first_unique, first_take}
-=======
->>>>>>> 2e56269e54b0a089695588857e18ed53cd680b0b
 
 -- One step of insertion: z goes in front of x, or into the rest.
 abbrev pub step : {A : Type 0} → Ordering → A → A → List A → List A → List A
