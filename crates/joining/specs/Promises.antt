@@ -40,37 +40,44 @@ pub record Which (f g : List ℕ) (which : WhichFile) (number : ℕ) (later : Li
   pub second_number : which ≡ second_file → number ≡ check_of g
   pub neither_number : which ≡ neither_file → number ∈ later
 
--- It is so whatever is asked after the questions of both files.
-asked_which : (f g : List ℕ) (later : Asked) → Numbered later → Which f g (refused_file f g) (first_no ((asked_by_check f ++ asked_by_check g) ++ later)) (0 ∷ numbers later)
+-- The same, of two numbers m and n that check gives of the first and the second.
+abbrev About : (m n : ℕ) (which : WhichFile) (number : ℕ) (later : List ℕ) → Type 0
+About m n which number later =
+    ((which ≡ first_file) ↔ (m ≡ 0 → ⊥)) × ((which ≡ second_file) ↔ ((m ≡ 0) × (n ≡ 0 → ⊥))) × ((which ≡ neither_file) ↔ ((m ≡ 0) × (n ≡ 0)))
+    × (which ≡ first_file → number ≡ m) × (which ≡ second_file → number ≡ n) × (which ≡ neither_file → number ∈ later)
+
+-- They say so whatever is asked after the questions of both files.
+asked_about : (f g : List ℕ) (later : Asked) → Numbered later
+    → About (check_of f) (check_of g) (refused_file f g) (first_no ((asked_by_check f ++ asked_by_check g) ++ later)) (0 ∷ numbers later)
 unfolding refused_file
-asked_which f g later numbered = rw (append_assoc (asked_by_check f) (asked_by_check g) later) (go (check_of f) (check_of g) refl refl)
+asked_about f g later numbered = rw (append_assoc (asked_by_check f) (asked_by_check g) later) (go (check_of f) (check_of g) refl refl)
   where
     go : (m n : ℕ) → check_of f ≡ m → check_of g ≡ n
-        → Which f g (cond (eqb m 0) (cond (eqb n 0) neither_file second_file) first_file) (first_no (asked_by_check f ++ (asked_by_check g ++ later))) (0 ∷ numbers later)
-    go (suc q) n e d = rw (eqb-suc-zero q) (record {
-      first = (λ w. omega arith, λ h. refl);
-      second = (λ w. omega (arith, ap file_number w), λ h. absurd (omega (arith, h.0)));
-      neither = (λ w. omega (arith, ap file_number w), λ h. absurd (omega (arith, h.0)));
-      first_number = λ w. refused_before f (asked_by_check g ++ later) q e ∙ sym e;
-      second_number = λ w. cc;
-      neither_number = λ w. absurd (omega (arith, ap file_number w));
-    })
-    go zero (suc q) e d = rw (eqb-suc-zero q) (record {
-      first = (λ w. omega (arith, ap file_number w), λ h. absurd (h e));
-      second = (λ w. (e, omega arith), λ h. refl);
-      neither = (λ w. omega (arith, ap file_number w), λ h. absurd (omega (arith, h.1)));
-      first_number = λ w. cc;
-      second_number = λ w. after_check f (asked_by_check g ++ later) e ∙ refused_before g later q d ∙ sym d;
-      neither_number = λ w. absurd (omega (arith, ap file_number w));
-    })
-    go zero zero e d = record {
-      first = (λ w. omega (arith, ap file_number w), λ h. absurd (h e));
-      second = (λ w. omega (arith, ap file_number w), λ h. absurd (h.1 d));
-      neither = (λ w. (e, d), λ h. refl);
-      first_number = λ w. cc;
-      second_number = λ w. cc;
-      neither_number = λ w. rw (after_check f (asked_by_check g ++ later) e, after_check g later d) (says later numbered).own;
-    }
+        → About m n (cond (eqb m 0) (cond (eqb n 0) neither_file second_file) first_file) (first_no (asked_by_check f ++ (asked_by_check g ++ later))) (0 ∷ numbers later)
+    go (suc q) n e d = rw (eqb-suc-zero q) (
+      (λ w. omega arith, λ h. refl),
+      (λ w. omega (arith, ap file_number w), λ h. absurd (omega (arith, h.0))),
+      (λ w. omega (arith, ap file_number w), λ h. absurd (omega (arith, h.0))),
+      λ w. refused_before f (asked_by_check g ++ later) q e,
+      λ w. absurd (omega (arith, ap file_number w)),
+      λ w. absurd (omega (arith, ap file_number w)),
+    )
+    go zero (suc q) e d = rw (eqb-suc-zero q) (
+      (λ w. omega (arith, ap file_number w), λ h. absurd (h refl)),
+      (λ w. (refl, omega arith), λ h. refl),
+      (λ w. omega (arith, ap file_number w), λ h. absurd (omega (arith, h.1))),
+      λ w. absurd (omega (arith, ap file_number w)),
+      λ w. after_check f (asked_by_check g ++ later) e ∙ refused_before g later q d,
+      λ w. absurd (omega (arith, ap file_number w)),
+    )
+    go zero zero e d = (
+      (λ w. omega (arith, ap file_number w), λ h. absurd (h refl)),
+      (λ w. omega (arith, ap file_number w), λ h. absurd (h.1 refl)),
+      (λ w. (refl, refl), λ h. refl),
+      λ w. absurd (omega (arith, ap file_number w)),
+      λ w. absurd (omega (arith, ap file_number w)),
+      λ w. rw (after_check f (asked_by_check g ++ later) e, after_check g later d) (says later numbered).own,
+    )
 
 -- ---- the joined file
 
@@ -126,31 +133,38 @@ module _ (f g : List ℕ) (in_f : check_of f ≡ 0) (in_g : check_of g ≡ 0)
       → SameBeginning (sheet_of (region_of (joined_file f g)) c) (sheet_of own c)
   file_sheet list_f list_g c own begins = begins_alike _ _ (rw file_says begins) (sheet_some (joined_file f g) (file_yields list_f list_g) c)
 
-  made_joined : Joined f g
-  made_joined = record {
-    says = file_says;
-    checked = file_checked;
-    short = subst (λ file. length file ≤ most_written) (sym written) (written_short (joined_region r s) held);
-    rows = ap list_of file_says ∙ joined_list_lem r s a b;
-    planned = file_planned;
-    first_sheet = λ list_f list_g c present. file_sheet list_f list_g c r (first_sheet_lem r s a b c (not_in_second r s apart c present));
-    second_sheet = λ list_f list_g c present. file_sheet list_f list_g c s (second_sheet_lem r s a b c (not_in_first r s apart c present));
-  }
+  file_short : length (joined_file f g) ≤ most_written
+  file_short = subst (λ file. length file ≤ most_written) (sym written) (written_short (joined_region r s) held)
+
+  file_rows : list_of (region_of (joined_file f g)) ≡ first_pairs (min r.plans_wanted s.plans_wanted) (list_of r) (list_of s)
+  file_rows = ap list_of file_says ∙ joined_list_lem r s a b
+
+  file_first_sheet : YieldsList f → YieldsList g → (c : ℕ) → clinic_present r c ≡ true → SameBeginning (sheet_of (region_of (joined_file f g)) c) (sheet_of r c)
+  file_first_sheet list_f list_g c present = file_sheet list_f list_g c r (first_sheet_lem r s a b c (not_in_second r s apart c present))
+
+  file_second_sheet : YieldsList f → YieldsList g → (c : ℕ) → clinic_present s c ≡ true → SameBeginning (sheet_of (region_of (joined_file f g)) c) (sheet_of s c)
+  file_second_sheet list_f list_g c present = file_sheet list_f list_g c s (second_sheet_lem r s a b c (not_in_first r s apart c present))
 
 -- So it is where every question is answered yes, perhaps with some more before 16.
-all_joined : (f g output : List ℕ) (more : Asked) → all_yes ((asked_by_check f ++ asked_by_check g) ++ (more ++ (asked_by_join f g output).later)) ≡ true → Joined f g
+all_asked : (f g output : List ℕ) (more : Asked) → all_yes ((asked_by_check f ++ asked_by_check g) ++ (more ++ (asked_by_join f g output).later)) ≡ true
+    → (check_of f ≡ 0) × (check_of g ≡ 0) × (clinics_apart (region_of f) (region_of g) ≡ true) × (join_within (region_of f) (region_of g) ≡ true)
 unfolding asked_by_join
-all_joined f g output more all =
+all_asked f g output more all =
     let later = more ++ (asked_by_join f g output).later in
     let (in_f, rest) = (asked_after f (asked_by_check g ++ later)).0 (subst (λ asked. all_yes asked ≡ true) (append_assoc (asked_by_check f) (asked_by_check g) later) all) in
     let (in_g, last) = (asked_after g later).0 rest in
     let (apart, others) = both (clinics_apart (region_of f) (region_of g)) (every_split _ more (asked_by_join f g output).later last).1 in
-    made_joined f g in_f in_g apart (both (join_within (region_of f) (region_of g)) others).0
+    (in_f, in_g, apart, (both (join_within (region_of f) (region_of g)) others).0)
 
 -- ---- the entry
 
 module _ (f g output : List ℕ) where
-  -- The number is that of the first question answered no.
+  -- The number is 0 where all are answered yes, ..
+  join_zero : ((join_outcome f g output).number ≡ 0) ↔ (all_yes (entry_asks (asked_by_join f g output)) ≡ true)
+  unfolding join_outcome asked_by_join asked_by_check
+  join_zero = (says (entry_asks (asked_by_join f g output)) tt).accepted
+
+  -- .. and else that of the first question answered no.
   pub join_says : Says (entry_asks (asked_by_join f g output)) (join_outcome f g output).number
   unfolding join_outcome asked_by_join asked_by_check
   join_says = says (entry_asks (asked_by_join f g output)) tt
@@ -158,18 +172,30 @@ module _ (f g output : List ℕ) where
   -- Which file it is about.
   pub join_which : Which f g (join_outcome f g output).which (join_outcome f g output).number (0 ∷ 16 ∷ 17 ∷ 15 ∷ [])
   unfolding join_outcome asked_by_join
-  join_which = asked_which f g (asked_by_join f g output).later tt
+  join_which =
+      let (first, second, neither, first_number, second_number, neither_number) = asked_about f g (asked_by_join f g output).later tt in
+      record { first = first; second = second; neither = neither; first_number = first_number; second_number = second_number; neither_number = neither_number }
 
   -- Number 0: the joined file is written, and it is what it should be.
   pub join_wrote : (join_outcome f g output).number ≡ 0 → Wrote (joined_file f g) output (join_outcome f g output).output (join_outcome f g output).count
   unfolding join_outcome asked_by_join asked_by_check
   join_wrote e =
       let before = (asked_by_check f ++ asked_by_check g) ++ (16, clinics_apart (region_of f) (region_of g)) ∷ (17, join_within (region_of f) (region_of g)) ∷ [] in
-      made_wrote before (joined_file f g) output (join_says.accepted.0 e)
+      made_wrote before (joined_file f g) output (join_zero.0 e)
 
   pub join_joined : (join_outcome f g output).number ≡ 0 → Joined f g
   unfolding asked_by_join
-  join_joined e = all_joined f g output [] (join_says.accepted.0 e)
+  join_joined e =
+      let (in_f, in_g, apart, fits) = all_asked f g output [] (join_zero.0 e) in
+      record {
+        says = file_says f g in_f in_g apart fits;
+        checked = file_checked f g in_f in_g apart fits;
+        short = file_short f g in_f in_g apart fits;
+        rows = file_rows f g in_f in_g apart fits;
+        planned = file_planned f g in_f in_g apart fits;
+        first_sheet = file_first_sheet f g in_f in_g apart fits;
+        second_sheet = file_second_sheet f g in_f in_g apart fits;
+      }
 
   -- A refusal writes nothing.
   pub join_refused_lem : (q : ℕ) → (join_outcome f g output).number ≡ suc q → Unwritten output (join_outcome f g output).output (join_outcome f g output).count
@@ -179,14 +205,18 @@ module _ (f g output : List ℕ) where
 -- ---- the call from C, which asks 12 of its result area before 16
 
 -- Number 0 is about neither file.
-none_refused : {f g later : List ℕ} {number : ℕ} (w : WhichFile) → Which f g w number later → number ≡ 0 → file_number w ≡ 0
+none_refused : {m n number : ℕ} {later : List ℕ} (w : WhichFile) → About m n w number later → number ≡ 0 → file_number w ≡ 0
 none_refused neither_file h e = refl
-none_refused first_file h e = absurd (h.first.0 refl (sym (h.first_number refl) ∙ e))
-none_refused second_file h e = absurd ((h.second.0 refl).1 (sym (h.second_number refl) ∙ e))
+none_refused first_file (first, second, neither, first_number, second_number, neither_number) e = absurd (first.0 refl (sym (first_number refl) ∙ e))
+none_refused second_file (first, second, neither, first_number, second_number, neither_number) e = absurd ((second.0 refl).1 (sym (second_number refl) ∙ e))
 
 module _ (f g output result : List ℕ) where
   abbrev call : WriteCall
   call = join_call f g output result
+
+  call_zero : (call.number ≡ 0) ↔ (all_yes (call_asks (asked_by_join f g output) (room_for_numbers 2 result)) ≡ true)
+  unfolding join_call write_call_of asked_by_join asked_by_check
+  call_zero = (says (call_asks (asked_by_join f g output) (room_for_numbers 2 result)) tt).accepted
 
   pub join_call_says : Says (call_asks (asked_by_join f g output) (room_for_numbers 2 result)) call.number
   unfolding join_call write_call_of asked_by_join asked_by_check
@@ -194,7 +224,10 @@ module _ (f g output result : List ℕ) where
 
   pub join_call_which : Which f g (refused_file f g) call.number (0 ∷ 12 ∷ 16 ∷ 17 ∷ 15 ∷ [])
   unfolding join_call write_call_of asked_by_join
-  join_call_which = asked_which f g ((12, room_for_numbers 2 result) ∷ (asked_by_join f g output).later) tt
+  join_call_which =
+      let (first, second, neither, first_number, second_number, neither_number) =
+      asked_about f g ((12, room_for_numbers 2 result) ∷ (asked_by_join f g output).later) tt in
+      record { first = first; second = second; neither = neither; first_number = first_number; second_number = second_number; neither_number = neither_number }
 
   -- Number 0: the joined file is written, and the result is its length, then 0.
   pub join_call_wrote : call.number ≡ 0
@@ -204,13 +237,23 @@ module _ (f g output result : List ℕ) where
       let r = region_of f in
       let s = region_of g in
       let before = (asked_by_check f ++ asked_by_check g) ++ (12, room_for_numbers 2 result) ∷ (16, clinics_apart r s) ∷ (17, join_within r s) ∷ [] in
-      let wrote = made_wrote before (joined_file f g) output (join_call_says.accepted.0 e) in
-      let which = none_refused (refused_file f g) join_call_which e in
+      let wrote = made_wrote before (joined_file f g) output (call_zero.0 e) in
+      let which = none_refused (refused_file f g) (asked_about f g ((12, room_for_numbers 2 result) ∷ (asked_by_join f g output).later) tt) e in
       (record { counted = refl; fits = wrote.fits; output = wrote.output }, ap₂ (λ n k. result_after (n ∷ k ∷ []) result) wrote.counted which)
 
   pub join_call_joined : call.number ≡ 0 → Joined f g
   unfolding asked_by_join
-  join_call_joined e = all_joined f g output ((12, room_for_numbers 2 result) ∷ []) (join_call_says.accepted.0 e)
+  join_call_joined e =
+      let (in_f, in_g, apart, fits) = all_asked f g output ((12, room_for_numbers 2 result) ∷ []) (call_zero.0 e) in
+      record {
+        says = file_says f g in_f in_g apart fits;
+        checked = file_checked f g in_f in_g apart fits;
+        short = file_short f g in_f in_g apart fits;
+        rows = file_rows f g in_f in_g apart fits;
+        planned = file_planned f g in_f in_g apart fits;
+        first_sheet = file_first_sheet f g in_f in_g apart fits;
+        second_sheet = file_second_sheet f g in_f in_g apart fits;
+      }
 
   -- A refusal writes no file, and the result is 0, then which file the number is about.
   pub join_call_refused : (q : ℕ) → call.number ≡ suc q → (call.output ≡ output) × (call.result ≡ result_after (0 ∷ file_number (refused_file f g) ∷ []) result)
