@@ -21,7 +21,8 @@ use Rattle.partial_rows.specs.Sets.{Patients, Part, first, second, neither, Spli
 use Rattle.partial_rows.specs.Rows.{no_beds, empty_row, RowOf}
 use Rattle.partial_rows.specs.Parts.{Apart}
 use Rattle.partial_rows.specs.Trees.{roots_below, roots_none, roots_all}
-use Rattle.partial_rows.specs.Whole.{tables_held_lem, whole_list, none_left}
+use Rattle.partial_rows.specs.Whole.{tables_held_lem, none_left}
+use Rattle.partial_rows.proofs.Whole.{whole_list}
 use Rattle.held_region.specs.declared.Region as Code
 use Rattle.held_region.specs.Meaning.{said}
 use Rattle.held_region.specs.Asked.{patients_said_lem}

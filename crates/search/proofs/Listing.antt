@@ -28,7 +28,8 @@ use Rattle.partial_rows.specs.Adding.{add_beds, add_rows}
 use Rattle.partial_rows.specs.Padding.{unpadded, Padded, padded_zero, zero_bed}
 use Rattle.partial_rows.specs.Beds.{no_bed, inside, outside}
 use Rattle.partial_rows.specs.Contexts.{row_context}
-use Rattle.partial_rows.specs.Parts.{parts_injective, parts_combined}
+use Rattle.partial_rows.specs.Parts.{parts_injective}
+use Rattle.partial_rows.proofs.Parts.{parts_combined}
 use Rattle.partial_rows.specs.Walk.{position_start, walk_finds}
 use Rattle.bucket_words.specs.Words.{least_at}
 use Rattle.bucket_words.specs.Kept.{Kept}

@@ -21,7 +21,8 @@ use Rattle.patient_set.specs.Sets.{first}
 use Rattle.partial_rows.specs.Sets.{only, Splits}
 use Rattle.partial_rows.specs.Rows.{Branch, decided_tables, with_bed}
 use Rattle.partial_rows.specs.Padding.{unpadded, Padded}
-use Rattle.partial_rows.specs.Walk.{BranchBelow, walk_leaf, walk_cut, walk_none, ready_bed, walk_bed, walk_skip, walk_all}
+use Rattle.partial_rows.specs.Walk.{BranchBelow, walk_leaf, walk_cut}
+use Rattle.partial_rows.proofs.Walk.{walk_none, ready_bed, walk_bed, walk_skip, walk_all}
 use Rattle.bucket_words.specs.Words.{first_bed_at, bed_end_at}
 use Rattle.bucket_words.specs.Kept.{Kept}
 use Rattle.kept_places.specs.Beds.{low_set}

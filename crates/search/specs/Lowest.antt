@@ -14,7 +14,7 @@ use Rattle.partial_rows.specs.Sets.{Patients, only, Part, first, second, neither
 use Rattle.partial_rows.specs.Rows.{holds, decided_tables, LowerBound}
 use Rattle.partial_rows.specs.Bounds.{least_sum, bound_zero}
 use Rattle.partial_rows.specs.Adding.{add_beds}
-use Rattle.partial_rows.specs.Splitting.{row_apart}
+use Rattle.partial_rows.proofs.Splitting.{row_apart}
 use Rattle.buckets.specs.Terms.{bucket_of, least_in}
 use Rattle.search.specs.Decided.{decided_at, decided_tables_lem}
 

@@ -21,7 +21,8 @@ use Rattle.theorems.specs.Lowest.{lowest_in_lem}
 use Rattle.theorems.specs.Clinics.{clinic_patient}
 use Rattle.patient_set.specs.Sets.{members}
 use Rattle.patient_set.specs.Laws.{size_most}
-use Rattle.partial_rows.specs.Beds.{inside, fits_beds}
+use Rattle.partial_rows.specs.Beds.{inside}
+use Rattle.partial_rows.proofs.Beds.{fits_beds}
 use Rattle.partial_rows.specs.Padding.{unpadded}
 use Rattle.buckets.specs.Terms.{Fitting, fitting_low}
 use Rattle.buckets.specs.WithTables.{with_tables}
