@@ -40,13 +40,13 @@ pub record Which (f g : List ℕ) (which : WhichFile) (number : ℕ) (later : Li
   pub second_number : which ≡ second_file → number ≡ check_of g
   pub neither_number : which ≡ neither_file → number ∈ later
 
--- The same, of two numbers m and n that check gives of the first and the second.
+-- What it says, of the numbers m and n that check gives of the first and the second.
 abbrev About : (m n : ℕ) (which : WhichFile) (number : ℕ) (later : List ℕ) → Type 0
 About m n which number later =
     ((which ≡ first_file) ↔ (m ≡ 0 → ⊥)) × ((which ≡ second_file) ↔ ((m ≡ 0) × (n ≡ 0 → ⊥))) × ((which ≡ neither_file) ↔ ((m ≡ 0) × (n ≡ 0)))
     × (which ≡ first_file → number ≡ m) × (which ≡ second_file → number ≡ n) × (which ≡ neither_file → number ∈ later)
 
--- They say so whatever is asked after the questions of both files.
+-- They do whatever is asked after the questions of both files.
 asked_about : (f g : List ℕ) (later : Asked) → Numbered later
     → About (check_of f) (check_of g) (refused_file f g) (first_no ((asked_by_check f ++ asked_by_check g) ++ later)) (0 ∷ numbers later)
 unfolding refused_file
@@ -78,6 +78,12 @@ asked_about f g later numbered = rw (append_assoc (asked_by_check f) (asked_by_c
       λ w. absurd (omega (arith, ap file_number w)),
       λ w. rw (after_check f (asked_by_check g ++ later) e, after_check g later d) (says later numbered).own,
     )
+
+-- So it is whatever is asked after them.
+asked_which : (f g : List ℕ) (later : Asked) → Numbered later → Which f g (refused_file f g) (first_no ((asked_by_check f ++ asked_by_check g) ++ later)) (0 ∷ numbers later)
+asked_which f g later numbered =
+    let (first, second, neither, first_number, second_number, neither_number) = asked_about f g later numbered in
+    record { first = first; second = second; neither = neither; first_number = first_number; second_number = second_number; neither_number = neither_number }
 
 -- ---- the joined file
 
@@ -145,7 +151,19 @@ module _ (f g : List ℕ) (in_f : check_of f ≡ 0) (in_g : check_of g ≡ 0)
   file_second_sheet : YieldsList f → YieldsList g → (c : ℕ) → clinic_present s c ≡ true → SameBeginning (sheet_of (region_of (joined_file f g)) c) (sheet_of s c)
   file_second_sheet list_f list_g c present = file_sheet list_f list_g c s (second_sheet_lem r s a b c (not_in_first r s apart c present))
 
--- So it is where every question is answered yes, perhaps with some more before 16.
+  -- All of it. The theorems below are proved of its parts, so that each stands by itself.
+  made_joined : Joined f g
+  made_joined = record {
+    says = file_says;
+    checked = file_checked;
+    short = file_short;
+    rows = file_rows;
+    planned = file_planned;
+    first_sheet = file_first_sheet;
+    second_sheet = file_second_sheet;
+  }
+
+-- Its questions are answered yes where all are, perhaps with some more before 16.
 all_asked : (f g output : List ℕ) (more : Asked) → all_yes ((asked_by_check f ++ asked_by_check g) ++ (more ++ (asked_by_join f g output).later)) ≡ true
     → (check_of f ≡ 0) × (check_of g ≡ 0) × (clinics_apart (region_of f) (region_of g) ≡ true) × (join_within (region_of f) (region_of g) ≡ true)
 unfolding asked_by_join
@@ -155,6 +173,20 @@ all_asked f g output more all =
     let (in_g, last) = (asked_after g later).0 rest in
     let (apart, others) = both (clinics_apart (region_of f) (region_of g)) (every_split _ more (asked_by_join f g output).later last).1 in
     (in_f, in_g, apart, (both (join_within (region_of f) (region_of g)) others).0)
+
+-- So it is where every question is answered yes, perhaps with some more before 16.
+all_joined : (f g output : List ℕ) (more : Asked) → all_yes ((asked_by_check f ++ asked_by_check g) ++ (more ++ (asked_by_join f g output).later)) ≡ true → Joined f g
+all_joined f g output more all =
+    let (in_f, in_g, apart, fits) = all_asked f g output more all in
+    record {
+      says = file_says f g in_f in_g apart fits;
+      checked = file_checked f g in_f in_g apart fits;
+      short = file_short f g in_f in_g apart fits;
+      rows = file_rows f g in_f in_g apart fits;
+      planned = file_planned f g in_f in_g apart fits;
+      first_sheet = file_first_sheet f g in_f in_g apart fits;
+      second_sheet = file_second_sheet f g in_f in_g apart fits;
+    }
 
 -- ---- the entry
 
@@ -205,10 +237,16 @@ module _ (f g output : List ℕ) where
 -- ---- the call from C, which asks 12 of its result area before 16
 
 -- Number 0 is about neither file.
-none_refused : {m n number : ℕ} {later : List ℕ} (w : WhichFile) → About m n w number later → number ≡ 0 → file_number w ≡ 0
+none_refused : {f g later : List ℕ} {number : ℕ} (w : WhichFile) → Which f g w number later → number ≡ 0 → file_number w ≡ 0
 none_refused neither_file h e = refl
-none_refused first_file (first, second, neither, first_number, second_number, neither_number) e = absurd (first.0 refl (sym (first_number refl) ∙ e))
-none_refused second_file (first, second, neither, first_number, second_number, neither_number) e = absurd ((second.0 refl).1 (sym (second_number refl) ∙ e))
+none_refused first_file h e = absurd (h.first.0 refl (sym (h.first_number refl) ∙ e))
+none_refused second_file h e = absurd ((h.second.0 refl).1 (sym (h.second_number refl) ∙ e))
+
+-- The same of the two numbers.
+none_about : {m n number : ℕ} {later : List ℕ} (w : WhichFile) → About m n w number later → number ≡ 0 → file_number w ≡ 0
+none_about neither_file h e = refl
+none_about first_file (first, second, neither, first_number, second_number, neither_number) e = absurd (first.0 refl (sym (first_number refl) ∙ e))
+none_about second_file (first, second, neither, first_number, second_number, neither_number) e = absurd ((second.0 refl).1 (sym (second_number refl) ∙ e))
 
 module _ (f g output result : List ℕ) where
   abbrev call : WriteCall
@@ -238,7 +276,7 @@ module _ (f g output result : List ℕ) where
       let s = region_of g in
       let before = (asked_by_check f ++ asked_by_check g) ++ (12, room_for_numbers 2 result) ∷ (16, clinics_apart r s) ∷ (17, join_within r s) ∷ [] in
       let wrote = made_wrote before (joined_file f g) output (call_zero.0 e) in
-      let which = none_refused (refused_file f g) (asked_about f g ((12, room_for_numbers 2 result) ∷ (asked_by_join f g output).later) tt) e in
+      let which = none_about (refused_file f g) (asked_about f g ((12, room_for_numbers 2 result) ∷ (asked_by_join f g output).later) tt) e in
       (record { counted = refl; fits = wrote.fits; output = wrote.output }, ap₂ (λ n k. result_after (n ∷ k ∷ []) result) wrote.counted which)
 
   pub join_call_joined : call.number ≡ 0 → Joined f g

@@ -99,6 +99,21 @@ module _ (file : List ℕ) (n : PassesNine (region_of file)) where
   unfolding parents_file
   file_again = ap (λ x. spell (with_parents x (parents_made x))) file_says ∙ ap spell (alike_made (chosen_alike r (parents_made r)))
 
+  -- All of it. The theorems below are proved of its parts, so that each stands by itself.
+  made_file : MadeFile file
+  made_file = record {
+    says = file_says;
+    checked = file_checked;
+    short = file_short;
+    least = λ choice passing. file_least choice passing.smaller passing.related;
+    only = λ choice passing fewest. file_only choice passing.smaller passing.related
+        (fewest (parents_made r) (record { smaller = made_parents_smaller r; related = made_related_lem }));
+    rows = file_rows;
+    sheets = file_sheets;
+    prices = file_prices;
+    again = file_again;
+  }
+
 -- ---- the entry
 
 module _ (file output : List ℕ) where
@@ -316,6 +331,17 @@ module _ (f g : List ℕ) (in_f : check_of f ≡ 0) (in_g : check_of g ≡ 0) (s
   print_alike : printed f ≡ printed g
   unfolding printed asked_by_list
   print_alike = ap (λ q. printed_answer q (region_of f)) (list_number_lem (λ i. (12, true) ∷ [])) ∙ print_found (yield_number g)
+
+  alike_answers : SameAnswers f g
+  alike_answers = record {
+    list = list_alike;
+    sheet = sheet_alike;
+    price = price_alike;
+    list_from_c = list_call_alike;
+    sheet_from_c = sheet_call_alike;
+    price_from_c = price_call_alike;
+    print = print_alike;
+  }
 
 -- So it is of a file that check accepts and the file with made parents.
 pub same_answers : (file : List ℕ) → check_of file ≡ 0 → SameAnswers (parents_file file) file
