@@ -2,7 +2,6 @@ use mathlib.Core.Path.{refl, ap, ◌∙◌}
 use Prim.Native.Nat.{◌+◌, ◌-◌}
 use Rattle.buckets.specs.Least.{lowest, codes_in, code_lower, code_kept, codes_done, none_found, number_found}
 use Rattle.buckets.proofs.least_number.Goals as goal
-use Rattle.buckets.proofs.least_number.Goals.{then-code-least, else-code-least}
 
 pub loop-i-init : goal.loop-i-init
 loop-i-init c = refl
@@ -13,8 +12,8 @@ loop-i-preserved c =
     let at = c.loop-i in
     let more = c.loop-i-test.true in
     elim c.if-code-least.branch [
-      | then-code-least w ↦ ap (λ n. lowest n (codes_in args.entries.now (at.i + 1) args.to)) w.least-is ∙ code_lower _ _ _ _ at.invariant more w.if-code-least.true
-      | else-code-least w ↦ ap (λ n. lowest n (codes_in args.entries.now (at.i + 1) args.to)) w.least-is ∙ code_kept _ _ _ _ at.invariant more w.if-code-least.false
+      | goal.then-code-least w ↦ ap (λ n. lowest n (codes_in args.entries.now (at.i + 1) args.to)) w.least-is ∙ code_lower _ _ _ _ at.invariant more w.if-code-least.true
+      | goal.else-code-least w ↦ ap (λ n. lowest n (codes_in args.entries.now (at.i + 1) args.to)) w.least-is ∙ code_kept _ _ _ _ at.invariant more w.if-code-least.false
     ]
 
 pub returns-then-least : goal.returns-then-least

@@ -10,7 +10,6 @@ use Rattle.patient_set.specs.declared.PatientSet.{PatientSet}
 use Rattle.patient_set.specs.Sets.{in_set}
 use Rattle.held_region.specs.Sets.{in_none, one_place}
 use Rattle.forest.proofs.tree.Goals as goal
-use Rattle.forest.proofs.tree.Goals.{then-as_number-k, else-as_number-k}
 
 pub loop-s-init : goal.loop-s-init
 loop-s-init c = (search rules, λ q. in_none q ∙ sym (ap (λ b. b && eqb (get_or c.args.roots.now q 0) c.args.k) (le-ltb q 0 (omega arith))))
@@ -23,8 +22,8 @@ loop-s-preserved c =
     let read = c.as_number.ensures in (
       search rules,
       λ q. elim c.if-as_number-k.branch [
-        | then-as_number-k w ↦ ap (λ (x : PatientSet). in_set x.0 q) w.set-is ∙ w.add-set.ensures q ∙ ap (λ b. b || eqb q loop.s) (loop.invariant.1 q) ∙ one_place there loop.s q true (eq-eqb _ _ (sym read ∙ w.if-as_number-k.true))
-        | else-as_number-k w ↦ ap (λ (x : PatientSet). in_set x.0 q) w.set-is ∙ loop.invariant.1 q ∙ sym (or-false _) ∙ one_place there loop.s q false (ne_eqb _ _ (λ e. w.if-as_number-k.false (read ∙ e)))
+        | goal.then-as_number-k w ↦ ap (λ (x : PatientSet). in_set x.0 q) w.set-is ∙ w.add-set.ensures q ∙ ap (λ b. b || eqb q loop.s) (loop.invariant.1 q) ∙ one_place there loop.s q true (eq-eqb _ _ (sym read ∙ w.if-as_number-k.true))
+        | goal.else-as_number-k w ↦ ap (λ (x : PatientSet). in_set x.0 q) w.set-is ∙ loop.invariant.1 q ∙ sym (or-false _) ∙ one_place there loop.s q false (ne_eqb _ _ (λ e. w.if-as_number-k.false (read ∙ e)))
       ],
     )
 

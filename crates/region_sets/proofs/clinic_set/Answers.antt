@@ -12,7 +12,6 @@ use Rattle.held_region.specs.Meaning.{patient_in}
 use Rattle.held_region.specs.Related.{clinic_members}
 use Rattle.held_region.specs.Sets.{in_none, one_place}
 use Rattle.region_sets.proofs.clinic_set.Goals as goal
-use Rattle.region_sets.proofs.clinic_set.Goals.{then-patient-clinic, else-patient-clinic}
 
 pub loop-s-init : goal.loop-s-init
 loop-s-init c = (search rules, λ q. in_none q ∙ sym (ap (λ b. b && eqb (patient_in c.args.region q).clinic c.args.clinic) (le-ltb q 0 (omega arith))))
@@ -27,8 +26,8 @@ loop-s-preserved c =
     let there : ℕ → Bool = λ q. eqb (patient_in region q).clinic clinic in (
       search rules,
       λ q. elim c.if-patient-clinic.branch [
-        | then-patient-clinic w ↦ ap (λ (x : PatientSet). in_set x.0 q) w.set-is ∙ w.add-set.ensures q ∙ ap (λ b. b || eqb q s) (inv q) ∙ one_place there s q true (eq-eqb _ _ w.if-patient-clinic.true)
-        | else-patient-clinic w ↦ ap (λ (x : PatientSet). in_set x.0 q) w.set-is ∙ inv q ∙ sym (or-false _) ∙ one_place there s q false (ne_eqb _ _ w.if-patient-clinic.false)
+        | goal.then-patient-clinic w ↦ ap (λ (x : PatientSet). in_set x.0 q) w.set-is ∙ w.add-set.ensures q ∙ ap (λ b. b || eqb q s) (inv q) ∙ one_place there s q true (eq-eqb _ _ w.if-patient-clinic.true)
+        | goal.else-patient-clinic w ↦ ap (λ (x : PatientSet). in_set x.0 q) w.set-is ∙ inv q ∙ sym (or-false _) ∙ one_place there s q false (ne_eqb _ _ w.if-patient-clinic.false)
       ],
     )
 

@@ -5,7 +5,6 @@ use Rattle.definitions.specs.Limits.{limits}
 use Rattle.scanner.proofs.Classes.{not_digit}
 use Rattle.scanner.proofs.Numbers.{reading_start, reading_ends, reading_missing, reading_within, reading_long, reading_zero, reading_fits, reading_more}
 use Rattle.scanner.proofs.number_at.Goals as goal
-use Rattle.scanner.proofs.number_at.Goals.{then-value-eq0+else-i-at, else-value-eq0}
 
 pub loop-d-init : goal.loop-d-init
 loop-d-init c = reading_start _ _
@@ -19,7 +18,7 @@ returns-then-i-at-eq-DIGITS c =
 pub returns-then-i-at : goal.returns-then-i-at
 returns-then-i-at c =
     let m = c in
-    reading_zero m.loop-d.invariant (sym m.class_at.ensures ∙ m.in-Digit.is) c.if-value-eq0.true c.if-i-at.true
+    reading_zero m.loop-d.invariant (sym m.class_at.ensures ∙ m.in-Digit.is) (omega arith) c.if-i-at.true
 
 pub overflow_mul-value : goal.overflow_mul-value
 unfolding limits
@@ -48,7 +47,7 @@ unfolding limits
 loop-d-preserved c =
     let m = c in
     reading_more m.loop-d.invariant (sym m.class_at.ensures ∙ m.in-Digit.is) c.if-i-at-eq-DIGITS.false
-    (elim c.if-value-eq0.branch [ then-value-eq0+else-i-at w ↦ λ z. omega arith | else-value-eq0 w ↦ λ z. absurd (w.if-value-eq0.false z) ])
+    (λ z. omega arith)
 
 pub returns-then-i-at-2 : goal.returns-then-i-at-2
 returns-then-i-at-2 c = reading_missing c.loop-d.invariant (not_digit c.class_at.ensures c.in_default.not-Digit) c.if-i-at-2.true

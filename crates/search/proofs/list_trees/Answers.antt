@@ -2,7 +2,6 @@ use Prim.Native.Nat.{◌-◌}
 use native.Mathlib.Omega.{arith}
 use Rattle.search.proofs.Forests.{forest_few, asks_start, listed_start, listed_done, asks_tree, listed_tree, listed_none}
 use Rattle.search.proofs.list_trees.Goals as goal
-use Rattle.search.proofs.list_trees.Goals.{then-size-gt0, else-size-gt0}
 
 pub start_list-requires : goal.start_list-requires
 start_list-requires c = asks_start c.requires
@@ -23,8 +22,8 @@ loop-k-preserved c =
     let same = c.start_list.ensures.long in
     let more = c.loop-k-test.true in
     elim c.if-size-gt0.branch [
-      | then-size-gt0 w ↦ rw (w.work-is, w.n-is) (listed_tree pre inv same more _ c.tree-set.ensures w.add_tree-n.ensures)
-      | else-size-gt0 w ↦ rw (w.work-is, w.n-is) (listed_none pre inv same more _ c.tree-set.ensures (omega (arith, c.size.ensures, w.if-size-gt0.false)))
+      | goal.then-size-gt0 w ↦ rw (w.work-is, w.n-is) (listed_tree pre inv same more _ c.tree-set.ensures w.add_tree-n.ensures)
+      | goal.else-size-gt0 w ↦ rw (w.work-is, w.n-is) (listed_none pre inv same more _ c.tree-set.ensures (omega (arith, c.size.ensures, w.if-size-gt0.false)))
     ]
 
 pub returns : goal.returns

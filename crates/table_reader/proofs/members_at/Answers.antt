@@ -9,7 +9,6 @@ use Rattle.scanner.specs.Bounds.{number_bounded}
 use Rattle.held_region.specs.FirstHeld.{set_full}
 use Rattle.table_reader.proofs.HeldTables.{found, not_found, list_start, list_missing, list_no_item, list_no_separator, list_on, list_more, list_closed, members_none, members_more}
 use Rattle.table_reader.proofs.members_at.Goals as goal
-use Rattle.table_reader.proofs.members_at.Goals.{then-count-lt4, else-count-lt4}
 
 pub returns-in_default : goal.returns-in_default
 returns-in_default c = not_found (list_missing number c.open_at.ensures c.in_default.is)
@@ -41,7 +40,7 @@ loop-member-preserved c =
     let read = member in
     let l = read.loop-member in
     let v = member.in-Value.member in
-    let is : step.if-count-lt4.first ≡ set l.first l.count v = elim step.if-count-lt4.branch [ then-count-lt4 w ↦ w.first-is | else-count-lt4 w ↦ w.first-is ∙ set_full l.first l.count v (omega (arith, w.if-count-lt4.false, l.invariant.kept.wide)) ] in
+    let is : step.if-count-lt4.first ≡ set l.first l.count v = elim step.if-count-lt4.branch [ goal.then-count-lt4 w ↦ w.first-is | goal.else-count-lt4 w ↦ w.first-is ∙ set_full l.first l.count v (omega (arith, w.if-count-lt4.false, l.invariant.kept.wide)) ] in
     list_more number_bounded read.loop-member.invariant read.number_at.ensures (ap number_read member.in-Value.is) step.item_step.ensures (members_more v is) (ap step_read c.in-Next.is)
 
 pub overflow_add-result : goal.overflow_add-result
@@ -58,7 +57,7 @@ returns-in-Closed c =
     let read = member in
     let l = read.loop-member in
     let v = member.in-Value.member in
-    let is : step.if-count-lt4.first ≡ set l.first l.count v = elim step.if-count-lt4.branch [ then-count-lt4 w ↦ w.first-is | else-count-lt4 w ↦ w.first-is ∙ set_full l.first l.count v (omega (arith, w.if-count-lt4.false, l.invariant.kept.wide)) ] in
+    let is : step.if-count-lt4.first ≡ set l.first l.count v = elim step.if-count-lt4.branch [ goal.then-count-lt4 w ↦ w.first-is | goal.else-count-lt4 w ↦ w.first-is ∙ set_full l.first l.count v (omega (arith, w.if-count-lt4.false, l.invariant.kept.wide)) ] in
     found (list_closed number_bounded read.loop-member.invariant read.number_at.ensures (ap number_read member.in-Value.is) step.item_step.ensures (members_more v is) (ap step_read c.in-Closed.is))
 
 pub returns-in-Nothing : goal.returns-in-Nothing

@@ -7,7 +7,6 @@ use Rattle.held_region.specs.declared.Patient.{Patient}
 use Rattle.held_region.specs.FirstHeld.{set_full}
 use Rattle.layout.proofs.HeldLines.{patients_none, patients_more, patient_said_lem, patients_other, patients_all}
 use Rattle.layout.proofs.patients.read_patients.Goals as goal
-use Rattle.layout.proofs.patients.read_patients.Goals.{then-count-lt32, else-count-lt32}
 
 pub loop-i-init : goal.loop-i-init
 loop-i-init c = patients_none _ _
@@ -20,7 +19,7 @@ loop-i-preserved c =
     let q : Patient = record { clinic = c.in-Is.clinic; beds = c.in-Is.beds; parent = c.in-Is.parent; fixed = c.in-Is.fixed } in
     let full : length l.loop-i.first ≡ 32 = l.loop-i.invariant.wide in
     patients_more q l.loop-i.invariant end.line_end-end.ensures (search rules) (patient_said_lem c.in-Is.is line.patient_line.ensures)
-    (elim c.if-count-lt32.branch [ then-count-lt32 w ↦ w.first-is | else-count-lt32 w ↦ w.first-is ∙ set_full l.loop-i.first l.loop-i.count q (omega (arith, w.if-count-lt32.false)) ])
+    (elim c.if-count-lt32.branch [ goal.then-count-lt32 w ↦ w.first-is | goal.else-count-lt32 w ↦ w.first-is ∙ set_full l.loop-i.first l.loop-i.count q (omega (arith, w.if-count-lt32.false)) ])
 
 pub returns-in-Other : goal.returns-in-Other
 returns-in-Other c = patients_other c.loop-i.invariant c.line_end-end.ensures (search rules) c.in-Other.is c.patient_line.ensures

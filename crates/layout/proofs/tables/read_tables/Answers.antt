@@ -5,7 +5,6 @@ use Prim.Native.Nat.{◌-◌}
 use Rattle.held_region.specs.FirstHeld.{set_full}
 use Rattle.layout.proofs.HeldTables.{tables_none, used_few, tables_more, tables_other, tables_all}
 use Rattle.layout.proofs.tables.read_tables.Goals as goal
-use Rattle.layout.proofs.tables.read_tables.Goals.{then-count-lt64, else-count-lt64}
 
 pub loop-i-init : goal.loop-i-init
 loop-i-init c = tables_none _ _ _
@@ -33,7 +32,7 @@ loop-i-preserved c =
     let l = end in
     let there = line.table_line-line.ensures.answer.there (not-false _ kept.if-not-line.false) in
     tables_more l.loop-i.invariant end.line_end-end.ensures end.loop-i-test.true there
-    (elim c.if-count-lt64.branch [ then-count-lt64 w ↦ w.first-is | else-count-lt64 w ↦ w.first-is ∙ set_full l.loop-i.first l.loop-i.count line.table_line-line.result.table (omega (arith, w.if-count-lt64.false, l.loop-i.invariant.wide)) ])
+    (elim c.if-count-lt64.branch [ goal.then-count-lt64 w ↦ w.first-is | goal.else-count-lt64 w ↦ w.first-is ∙ set_full l.loop-i.first l.loop-i.count line.table_line-line.result.table (omega (arith, w.if-count-lt64.false, l.loop-i.invariant.wide)) ])
 
 pub returns : goal.returns
 returns c = tables_all c.loop-i.invariant c.loop-i-test.false

@@ -11,7 +11,6 @@ use Rattle.search.proofs.Walking.{walk_end, sofar_start, asks_move, sofar_done, 
 use Rattle.pricing.specs.declared.Cost.{Cost}
 use Rattle.pricing.specs.declared.Cost.TheVariants.{Of, Forbidden}
 use Rattle.search.proofs.walk.+walk.Goals as goal
-use Rattle.search.proofs.walk.+walk.Goals.{in-Of+then-not-is_cut, in-Of+else-not-is_cut, in_default}
 
 -- A cost that is no sum is forbidden.
 no_sum : (cost : Cost) → ((n : ℕ) → cost ≡ Of n → ⊥) → cost ≡ Forbidden
@@ -96,13 +95,13 @@ loop-bed-preserved t c =
     let price = c.bed_cost-cost.ensures in
     let rest = c.rest_of-rest.ensures in
     elim c.match-cost.branch [
-      | in-Of+then-not-is_cut w ↦
+      | goal.in-Of+then-not-is_cut w ↦
           let priced = sym price ∙ ap cost_in w.in-Of.is in
           rw (w.list-is, w.places-is, w.found-is, w.counted-is) (sofar_walk pre inv more (below_head w.place-longer.result inv.others inv.lowest rest w.place-longer.ensures.0 w.place-longer.ensures.1 (costs.small _ inv.begun more _ priced)) (decides (asks_next pre inv more) pre.kept inv.firsts inv.ends inv.begun more costs priced) w.walk-found.ensures)
-      | in-Of+else-not-is_cut w ↦
+      | goal.in-Of+else-not-is_cut w ↦
           let priced = sym price ∙ ap cost_in w.in-Of.is in
           rw (w.list-is, w.places-is, w.found-is, w.counted-is) (sofar_cut pre inv more (below_bed inv.others inv.lowest rest (costs.small _ inv.begun more _ priced)) (decides (asks_next pre inv more) pre.kept inv.firsts inv.ends inv.begun more costs priced) w.is_cut.ensures (ap not w.if-not-is_cut.false))
-      | in_default w ↦
+      | goal.in_default w ↦
           rw (w.list-is, w.places-is, w.found-is, w.counted-is) (sofar_skip pre inv more (decides (asks_next pre inv more) pre.kept inv.firsts inv.ends inv.begun more costs (sym price ∙ ap cost_in (no_sum _ w.in_default.not-Of))))
     ]
 
