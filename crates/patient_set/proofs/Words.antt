@@ -19,7 +19,7 @@ use Rattle.lists.specs.Keep.{keep_append}
 use Rattle.lists.specs.Below.{below_next}
 use Rattle.lists.specs.Last.{last_is, last_none}
 use Rattle.patient_set.specs.Sets.{in_set, members, first}
-use Rattle.patient_set.specs.Laws.{bit, last_bit, half_at_lem, half_lt, outside, members_below, empty_word}
+use Rattle.patient_set.specs.Laws.{bit, last_bit, half_at_lem, half_lt, outside, members_below, empty_word, lowest_and_rest}
 
 -- An operation on words that works bit by bit, as `test` does on the bits' tests.
 module _ (op f : ℕ → ℕ → ℕ) (test : Bool → Bool → Bool)
@@ -153,6 +153,59 @@ pub lowest_is : (w : ℕ) → count_trailing_zeros 32 w ≡ first 32 (members w)
 unfolding members
 lowest_is w = ap (λ x. count_trailing_zeros 32 x) (sym (div-one w)) ∙ sym (add-zero (count_trailing_zeros 32 (w / 1))) ∙ zeros_from w 0 32
 
+-- A word that is not 0 is more.
+filled_word : (n : ℕ) → eqb n 0 ≡ false → 0 < n
+filled_word zero e = absurd (false≢true (sym e))
+filled_word (suc n) e = omega arith
+
+-- Of a word and the word one less, both have each patient of the word but its lowest.
+less_one : (n w q : ℕ) → 0 < w → w < 2 ^ n → (in_set w q && in_set (w - 1) q) ≡ (in_set w q && not (eqb q (count_trailing_zeros n w)))
+unfolding count_trailing_zeros
+less_one zero w q pos h = absurd (omega (arith, lt-one h))
+less_one (suc n) w q pos h = go (λ half q. less_one n (w / 2) q half (half_lt n w h)) (w % 2) refl q
+  where
+    go : (0 < w / 2 → (q : ℕ) → (in_set (w / 2) q && in_set (w / 2 - 1) q) ≡ (in_set (w / 2) q && not (eqb q (count_trailing_zeros n (w / 2)))))
+        → (d : ℕ) → w % 2 ≡ d → (q : ℕ) → (in_set w q && in_set (w - 1) q) ≡ (in_set w q && not (eqb q (under (w % 2) (count_trailing_zeros n (w / 2)))))
+    go halved zero e zero = ap (λ b. b && in_set (w - 1) 0) none ∙ sym (ap (λ b. b && not (eqb 0 (under (w % 2) (count_trailing_zeros n (w / 2))))) none)
+      where
+        none : in_set w 0 ≡ false
+        none = ap (λ x. eqb (x % 2) 1) (div-one w) ∙ ap (λ x. eqb x 1) e
+    go halved zero e (suc q) =
+        ap₂ (λ x y. x && y) (sym (half_at_lem w q)) (sym (half_at_lem (w - 1) q) ∙ ap (λ x. in_set x q) half)
+        ∙ halved (omega arith) q
+        ∙ ap₂ (λ x y. x && not y) (half_at_lem w q) (sym (ap (λ d. eqb (suc q) (under d (count_trailing_zeros n (w / 2)))) e ∙ eqb-suc-suc q (count_trailing_zeros n (w / 2))))
+      where
+        half : (w - 1) / 2 ≡ w / 2 - 1
+        half = omega arith
+    go halved (suc d) e zero =
+        ap (λ b. in_set w 0 && b) (ap (λ x. eqb (x % 2) 1) (div-one (w - 1)) ∙ ap (λ x. eqb x 1) even)
+        ∙ sym (ap (λ d. in_set w 0 && not (eqb 0 (under d (count_trailing_zeros n (w / 2))))) e)
+      where
+        even : (w - 1) % 2 ≡ 0
+        even = omega arith
+    go halved (suc d) e (suc q) =
+        ap (λ b. in_set w (suc q) && b) (sym (half_at_lem (w - 1) q) ∙ ap (λ x. in_set x q) half ∙ half_at_lem w q)
+        ∙ both (in_set w (suc q))
+        ∙ ap (λ b. in_set w (suc q) && not b) (sym (eqb-suc-zero q))
+        ∙ sym (ap (λ d. in_set w (suc q) && not (eqb (suc q) (under d (count_trailing_zeros n (w / 2))))) e)
+      where
+        half : (w - 1) / 2 ≡ w / 2
+        half = omega arith
+
+        both : (b : Bool) → (b && b) ≡ (b && true)
+        both true = refl
+        both false = refl
+
+-- So a word without its lowest one has the other patients.
+pub without_lowest : (w : ℕ) → w < 2 ^ 32 → is_empty (members w) ≡ false → (1 ≤ w) × (members w ≡ first 32 (members w) ∷ members (bit_and w (w - 1)))
+without_lowest w h filled =
+    let pos : 0 < w = filled_word w (sym (empty_word w h) ∙ filled) in (
+      pos,
+      lowest_and_rest w (first 32 (members w)) (2 ^ first 32 (members w)) (bit_and w (w - 1)) filled refl
+          (power_at (first 32 (members w)))
+          (λ q. and_at w (w - 1) q ∙ less_one 32 w q pos h ∙ ap (λ b. in_set w q && not b) (ap (eqb q) (lowest_is w) ∙ sym (power_at (first 32 (members w)) q))),
+    )
+
 -- Where 2 ^ j is the highest one of a word, j is the highest patient.
 top_last : (w j : ℕ) → j < 32 → 2 ^ j ≤ w → w < 2 ^ suc j → last (members w) ≡ some j
 top_last w j h low high =
@@ -168,14 +221,10 @@ top_last w j h low high =
 -- The place of the highest one, by the zeros above it.
 pub highest_is : (w : ℕ) → w < 2 ^ 32 → is_empty (members w) ≡ false → (count_leading_zeros 32 w ≤ 31) × (31 - count_leading_zeros 32 w ≡ get_or (last (members w)) 32)
 highest_is w h filled =
-    let pos : 0 < w = go w (sym (empty_word w h) ∙ filled) in
+    let pos : 0 < w = filled_word w (sym (empty_word w h) ∙ filled) in
     let (j, all, low, high) = leading_top 32 w pos h in
     let place : 31 - count_leading_zeros 32 w ≡ j = omega arith in
     (omega arith, place ∙ sym (ap (λ o. get_or o 32) (top_last w j (omega arith) low high)))
-  where
-    go : (n : ℕ) → eqb n 0 ≡ false → 0 < n
-    go zero e = absurd (false≢true (sym e))
-    go (suc n) e = omega arith
 
 -- No patient has no highest.
 pub highest_none : (w : ℕ) → is_empty (members w) ≡ true → 32 ≡ get_or (last (members w)) 32

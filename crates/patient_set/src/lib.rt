@@ -4,9 +4,10 @@
 ghost use Rattle.std.specs.Prelude.{◌≡◌, ℕ, ◌<◌, ◌≤◌, ◌&&◌, ◌||◌};
 ghost use Rattle.definitions.specs.Basics.{eqb, ltb, not, option_get_or, length, is_empty};
 ghost use Rattle.definitions.specs.Parents.{last};
-ghost use Rattle.patient_set.specs.Sets.{in_set, members, first};
+ghost use Rattle.std.specs.Iterator.{YieldsFirst, item_count};
+ghost use Rattle.patient_set.specs.Sets.{in_set, members, first, left_in};
 
-#[derive(Clone, Copy)]
+#[derive(Clone, Copy, PartialEq, Eq)]
 pub struct PatientSet(pub u32);
 
 impl PatientSet {
@@ -101,5 +102,36 @@ impl PatientSet {
         ensures { result ≡ length (members self.0) }
     {
         u32::count_ones(self.0)
+    }
+
+    // The patients of the set, from the lowest up.
+    pub fn iter(self) -> Patients
+        ensures { left_in result ≡ members self.0 }
+    {
+        Patients { left: self }
+    }
+}
+
+// The patients of a set who have not come yet.
+#[derive(Drop)]
+pub struct Patients {
+    left: PatientSet,
+}
+
+impl Iterator for Patients {
+    type Item = usize;
+
+    ghost next_gives = { YieldsFirst left_in };
+
+    ghost remaining = { item_count left_in };
+
+    // A word minus 1 differs from it in its lowest 1 and below, so the lowest patient goes.
+    fn next(&mut self) -> Option<usize> {
+        let left = self.left;
+        if left.is_empty() {
+            return None;
+        }
+        self.left = PatientSet(left.0 & (left.0 - 1));
+        Some(left.lowest() as usize)
     }
 }
