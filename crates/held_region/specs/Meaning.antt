@@ -1,9 +1,8 @@
 -- What a held region and its store say, as the definitions' region: what the definitions say of a region can be said of these two.
-use Rattle.std.specs.Prelude.{◌+◌}
+use Rattle.std.specs.Prelude.{◌+◌, None}
 use Rattle.definitions.specs.Basics.{ℕ, zero, suc, List, [], map, get_or, replicate, below}
 use Rattle.definitions.specs.Syntax as Said
 use Rattle.definitions.specs.Writer.{with_sum}
-use Rattle.scanner.specs.declared.Optional.TheVariants.{Hyphen}
 use Rattle.held_region.specs.declared.Patient.{Patient}
 use Rattle.held_region.specs.declared.Table.{Table}
 use Rattle.held_region.specs.declared.Region.{Region}
@@ -17,7 +16,7 @@ patient_of p = record { clinic = p.clinic; bed_count = p.beds; parent = optional
 
 -- What stands where no patient is held; the patient at a place.
 abbrev pub no_patient : Patient
-no_patient = record { clinic = 0; beds = 0; parent = Hyphen; fixed = Hyphen }
+no_patient = record { clinic = 0; beds = 0; parent = None; fixed = None }
 
 abbrev pub patient_in : Region → ℕ → Patient
 patient_in h s = get_or h.patients s no_patient

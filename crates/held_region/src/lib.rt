@@ -4,15 +4,15 @@
 ghost use Rattle.std.specs.Prelude.{◌≡◌};
 ghost use Rattle.held_region.specs.Meaning.{blank_region};
 
-use scanner::Optional;
+use scanner::MARK;
 
-// The parent is a hyphen at a root, the fixed bed where the patient is free. Both are held as the file has them, however large.
+// There is no parent at a root, and no fixed bed where the patient is free. Both are held as the file has them, however large.
 #[derive(Clone, Copy)]
 pub struct Patient {
     pub clinic: u32,
     pub beds: u32,
-    pub parent: Optional,
-    pub fixed: Optional,
+    pub parent: Option<u32>,
+    pub fixed: Option<u32>,
 }
 
 // The first four members, and how many members and entries the table has. Its entries begin where those of the table before it end.
@@ -35,14 +35,14 @@ pub struct Region {
 }
 
 // The mark of a forbidden entry.
-pub const FORBIDDEN: u32 = 0xffff_ffff;
+pub const FORBIDDEN: u32 = MARK;
 
 // What stands in a place where no patient, and where no table, is held.
 pub const NO_PATIENT: Patient = Patient {
     clinic: 0,
     beds: 0,
-    parent: Optional::Hyphen,
-    fixed: Optional::Hyphen,
+    parent: None,
+    fixed: None,
 };
 
 pub const NO_TABLE: Table = Table {
@@ -65,22 +65,16 @@ pub fn blank() -> Region
 }
 
 // The questions that every file is asked first, 1 to 10, each named for what is wrong where the answer is no.
-#[derive(Clone, Copy)]
+#[derive(Clone, Copy, PartialEq, Eq)]
 pub enum Refusal {
-    TooLong,
-    Layout,
-    Counts,
-    Sum,
-    Limits,
-    Patients,
-    Members,
-    EntryCounts,
-    Entries,
-    Ancestors,
-}
-
-#[derive(Clone, Copy)]
-pub enum Judged {
-    Fine,
-    Refused(Refusal),
+    TooLong = 1,
+    Layout = 2,
+    Counts = 3,
+    Sum = 4,
+    Limits = 5,
+    Patients = 6,
+    Members = 7,
+    EntryCounts = 8,
+    Entries = 9,
+    Ancestors = 10,
 }

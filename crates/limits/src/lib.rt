@@ -1,9 +1,9 @@
 // The limits stand once: a table of lowest and highest per field.
 #![tactic(auto)]
 
-ghost use Rattle.std.specs.Prelude.{◌≡◌, ◌<◌, min};
+ghost use Rattle.std.specs.Prelude.{◌≡◌, min};
 ghost use Rattle.definitions.specs.Limits.{limits, within as isWithin};
-ghost use Rattle.limits.specs.Fields.{field_of, place_of, limit_of};
+ghost use Rattle.limits.specs.Fields.{field_of, limit_of};
 
 // The lowest and the highest value of a field.
 #[derive(Clone, Copy)]
@@ -39,29 +39,11 @@ const LIMITS: [Limit; 10] = [
     Limit(0, 1_000_000),
 ];
 
-// A field's place in the table.
-fn place_of(field: Field) -> usize
-    ensures { (result ≡ place_of field) × (result < 10) }
-{
-    match field {
-        Field::FileLength => 0,
-        Field::DigitCount => 1,
-        Field::PatientCount => 2,
-        Field::TableCount => 3,
-        Field::PlansWanted => 4,
-        Field::Clinic => 5,
-        Field::BedCount => 6,
-        Field::MemberCount => 7,
-        Field::EntryCount => 8,
-        Field::Entry => 9,
-    }
-}
-
+// A field's place in the table is its number, from 0 on.
 fn limit_of(field: Field) -> Limit
     ensures { result ≡ limit_of field }
 {
-    let at = place_of(field);
-    LIMITS[at]
+    LIMITS[field as usize]
 }
 
 // Is a value from its field's lowest to its highest?
@@ -83,5 +65,5 @@ pub fn highest(field: Field) -> usize
 pub fn lesser(a: usize, b: usize) -> usize
     ensures { result ≡ min a b }
 {
-    if a < b { a } else { b }
+    a.min(b)
 }

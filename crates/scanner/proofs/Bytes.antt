@@ -3,7 +3,7 @@ use mathlib.Core.Path.{◌≡◌, refl, sym, ap, ◌∙◌}
 use mathlib.Core.List.{List, [], ◌∷◌}
 use mathlib.Core.Bool.{true, false, not}
 use mathlib.Core.Option.{Option, none, some}
-use Prim.Native.Nat.{ℕ, ◌+◌, ◌<◌}
+use Prim.Native.Nat.{ℕ, suc, ◌+◌, ◌<◌}
 use Prim.Native.Char.{code}
 use native.Mathlib.Omega.{arith}
 use denote.Enum.Declared.{tag_of}
@@ -12,38 +12,36 @@ use mir.Val.{has_key}
 use lib.Dec.{T, eqb}
 use lib.ListN.{length, drop}
 use lib.Seq.{drop-drop}
-use borrow.Author.Tests.{ne_eqb}
+use borrow.Author.Tests.{ne_eqb, eqb-true}
 use Rattle.definitions.specs.Basics.{keep}
 use Rattle.definitions.specs.Layout.{exactly}
 use Rattle.scanner.specs.contracts.Class.{the_type}
 use Rattle.scanner.specs.declared.Class.{Class}
-use Rattle.scanner.specs.declared.Class.TheVariants.{Open, Close, Space, LineEnd}
-use Rattle.scanner.specs.Classes.{class_of, first_class, is_of, class_says}
+use Rattle.scanner.specs.declared.Class.TheVariants.{Open, Close, Space, LineEnd, Other}
+use Rattle.scanner.specs.Classes.{class_of, first_class, is_of, class_says, ClassOfOne}
 use Rattle.scanner.specs.Words.{byte_there, byte_missing}
 use Rattle.scanner.specs.Answers.{ReadAt, Ahead}
 use Rattle.scanner.proofs.Classes.{apart, class_within}
 
--- A class that one byte alone has.
-pub record ClassOfOne (c : Class) (w : ℕ) : Type 0 where
-  pub says : (b : ℕ) → is_of c b ≡ eqb b w
-  pub class : class_of w ≡ c
-  pub there : T (not (has_key (7 ∷ []) (tag_of the_type c)))
-
 pub opening : ClassOfOne Open (code "(")
 unfolding class_of
-opening = record { says = λ b. refl; class = refl; there = tt }
+opening = record { says = λ b. refl; class = refl }
 
 pub closing : ClassOfOne Close (code ")")
 unfolding class_of
-closing = record { says = λ b. refl; class = refl; there = tt }
+closing = record { says = λ b. refl; class = refl }
 
 pub space : ClassOfOne Space (code " ")
 unfolding class_of
-space = record { says = λ b. refl; class = refl; there = tt }
+space = record { says = λ b. refl; class = refl }
 
 pub line_end : ClassOfOne LineEnd 10
 unfolding class_of
-line_end = record { says = λ b. refl; class = refl; there = tt }
+line_end = record { says = λ b. refl; class = refl }
+
+-- Such a class is not Other, which every byte passes.
+not_other : {c : Class} {w : ℕ} → ClassOfOne c w → c ≡ Other → ⊥
+not_other {w = w} one e = let n : suc w ≡ w = eqb-true (suc w) w (sym (one.says (suc w)) ∙ ap (λ k. is_of k (suc w)) e) in omega arith
 
 module _ {c : Class} {w : ℕ} (one : ClassOfOne c w) {k : Class} where
   -- Whether a byte is that one.
@@ -56,7 +54,7 @@ module _ {c : Class} {w : ℕ} (one : ClassOfOne c w) {k : Class} where
 
   module _ (s : List ℕ) (at : ℕ) (q : k ≡ first_class (drop at s)) where
     pub byte_within : k ≡ c → at < length s
-    byte_within e = class_within s at one.there (sym q ∙ e)
+    byte_within e = class_within s at (not_other one) (sym q ∙ e)
 
     -- It stands there, with these bytes behind it; alone; or it does not.
     pub byte_then : (ws : List ℕ) {o : Option (Unit {0} × ℕ)} → k ≡ c → ReadAt (exactly ws) s (at + 1) o → ReadAt (exactly (w ∷ ws)) s at o

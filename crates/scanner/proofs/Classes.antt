@@ -1,7 +1,7 @@
 -- The class of a byte, from the range it was found in.
 use mathlib.Core.Path.{◌≡◌, refl, ap, sym, ◌∙◌}
 use mathlib.Core.List.{List, [], ◌∷◌}
-use mathlib.Core.Bool.{true, false, not, ◌&&◌, and-false}
+use mathlib.Core.Bool.{Bool, true, false, not, ◌&&◌, and-false}
 use Prim.Native.Nat.{ℕ, ◌-◌, ◌≤◌, ◌<◌}
 use native.Mathlib.Decide.{dec_lt}
 use native.Mathlib.Omega.{arith}
@@ -34,9 +34,6 @@ module _ (b : ℕ) where
   unfolding class_of
   is_letter_lem l h =
       simp (over 48 57 (omega arith), ne_eqb b 40 (λ e. omega arith), ne_eqb b 41 (λ e. omega arith), ne_eqb b 32 (λ e. omega arith), ne_eqb b 45 (λ e. omega arith), le-leb 97 b l, le-leb b 122 (omega arith))
-
-  pub letter_class : is_letter b ≡ true → class_of b ≡ Letter b
-  letter_class h = let (l, u) = both (leb 97 b) h in is_letter_lem (leb-true 97 b l) (omega (arith, leb-true b 122 u))
 
   module _ (no_open_lem : b ≡ 40 → ⊥) (no_close_lem : b ≡ 41 → ⊥) (no_space_lem : b ≡ 32 → ⊥) (no_hyphen : b ≡ 45 → ⊥) (no_end_lem : b ≡ 10 → ⊥) where
     other : (leb 48 b && leb b 57) ≡ false → (leb 97 b && leb b 122) ≡ false → class_of b ≡ Other
@@ -72,5 +69,10 @@ digit_small [] e = absurd (other_not e)
 digit_small (b ∷ bs) e = (digit_says b e).small
 
 -- Where a class other than Other stands, the slice has a byte.
-pub class_within : (s : List ℕ) (at : ℕ) {c : Class} → T (not (has_key (7 ∷ []) (tag_of the_type c))) → first_class (drop at s) ≡ c → at < length s
-class_within s at {c} n e = elim (dec_lt at (length s)) [ yes h ↦ h | no h ↦ absurd (apart Other c (7 ∷ []) n refl (class_behind s at (omega arith) ∙ e)) ]
+pub class_within : (s : List ℕ) (at : ℕ) {c : Class} → (c ≡ Other → ⊥) → first_class (drop at s) ≡ c → at < length s
+class_within s at n e = elim (dec_lt at (length s)) [ yes h ↦ h | no h ↦ absurd (n (sym (class_behind s at (omega arith) ∙ e))) ]
+
+-- A test that is answered as another one is, in both cases.
+pub answered : {answer test : Bool} → (answer ≡ true → true ≡ test) → (answer ≡ false → false ≡ test) → answer ≡ test
+answered {answer = true} t f = t refl
+answered {answer = false} t f = f refl

@@ -9,7 +9,7 @@ use lib.Seq.{drop-drop}
 use Rattle.definitions.specs.Limits.{digit_count, limits}
 use Rattle.definitions.specs.Layout.{number}
 use Rattle.scanner.specs.declared.Class.TheVariants.{Digit}
-use Rattle.scanner.specs.declared.Number.TheVariants.{Value, Nothing}
+use Rattle.std.specs.Prelude.{Some, None}
 use Rattle.scanner.specs.Classes.{first_class, NoDigit}
 use Rattle.scanner.specs.Answers.{ReadAt, number_read}
 use Rattle.scanner.specs.Numbers.{number_from, number_start, number_ends, number_missing, number_long, number_zero, number_more}
@@ -37,22 +37,22 @@ reading_start s at = record {
 }
 
 module _ {s : List ℕ} {at v i : ℕ} (r : Reading s at v i) where
-  pub reading_ends : NoDigit (first_class (drop i s)) → (i ≡ at → ⊥) → ReadAt number s at (number_read (Value v i))
+  pub reading_ends : NoDigit (first_class (drop i s)) → (i ≡ at → ⊥) → ReadAt number s at (number_read (Some (v, i)))
   reading_ends n o =
       let l = r.low in
       record { says = sym (number_ends (i - at) v (drop i s) n (omega arith) r.few) ∙ r.same; ahead = (l, r.high) }
 
-  pub reading_missing : NoDigit (first_class (drop i s)) → i ≡ at → ReadAt number s at (number_read Nothing)
+  pub reading_missing : NoDigit (first_class (drop i s)) → i ≡ at → ReadAt number s at (number_read None)
   reading_missing n o = record { says = sym (number_missing (i - at) v (drop i s) n (omega arith)) ∙ r.same; ahead = tt }
 
   module _ {d : ℕ} (e : first_class (drop i s) ≡ Digit d) where
     pub reading_within : i < length s
-    reading_within = class_within s i tt e
+    reading_within = class_within s i (λ n. cc) e
 
-    pub reading_long : i - at ≡ (limits digit_count).highest → ReadAt number s at (number_read Nothing)
+    pub reading_long : i - at ≡ (limits digit_count).highest → ReadAt number s at (number_read None)
     reading_long l = record { says = sym (number_long (i - at) v (drop i s) e l) ∙ r.same; ahead = tt }
 
-    pub reading_zero : v ≡ 0 → (i ≡ at → ⊥) → ReadAt number s at (number_read Nothing)
+    pub reading_zero : v ≡ 0 → (i ≡ at → ⊥) → ReadAt number s at (number_read None)
     reading_zero z o =
         let l = r.low in
         record { says = sym (number_zero (i - at) v (drop i s) e (omega arith) z) ∙ r.same; ahead = tt }

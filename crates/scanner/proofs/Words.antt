@@ -1,79 +1,71 @@
--- Passing a word letter by letter: what is left to pass is what was asked.
-use mathlib.Core.Path.{◌≡◌, refl, sym, ap, ap₂, ◌∙◌}
-use mathlib.Core.List.{List, [], ◌∷◌}
-use mathlib.Core.Bool.{true}
-use Prim.Native.Nat.{ℕ, zero, suc, ◌+◌, ◌≤◌, ◌<◌, max}
-use native.Mathlib.Numerals.{add-one}
-use native.Mathlib.Decide.{dec_lt}
-use native.Mathlib.Omega.{arith}
-use denote.Enum.Declared.{tag_of}
-use types.Run.{OneOf}
-use lib.ListN.{length, get_or, drop, drop_of_length-le}
-use lib.Seq.{drop-cons}
-use Rattle.definitions.specs.Basics.{every}
+-- Exactly some bytes: they are read where they stand first, and behind others.
+use Rattle.std.proofs.Common.{sym, ap, ◌∙◌, arith, ◌≡◌, ◌∷◌, ◌++◌, length-drop, length-append, max}
+use Rattle.std.specs.Prelude.{◌≤◌, ◌+◌, ◌-◌, min, drop, take, nat_eq}
+use Rattle.std.specs.List.{starts_with}
+use Rattle.std.proofs.lemmas.Slice.Eq.{starts_is}
+use Rattle.std.proofs.lemmas.Bool.Decides.{Decides-eqb}
+use Rattle.std.proofs.lemmas.Bool.{false≢true}
+use Rattle.std.proofs.Math.Decide.{ℕ_discrete, dec_le}
+use lib.ListN.{drop_of_length-le}
+use lib.Seq.{drop-drop, take-length}
+use Rattle.definitions.specs.Basics.{ℕ, refl, Bool, true, false, Option, none, some, List, [], length}
 use Rattle.definitions.specs.Layout.{exactly}
-use Rattle.scanner.specs.contracts.Class.{the_type}
-use Rattle.scanner.specs.declared.Class.{Class}
-use Rattle.scanner.specs.declared.Class.TheVariants.{Letter}
-use Rattle.scanner.specs.declared.Passed.TheVariants.{At, Nothing}
-use Rattle.lists.specs.Every.{every_at}
-use Rattle.scanner.specs.Classes.{is_letter, first_class, letter_says}
-use Rattle.scanner.specs.Answers.{ReadAt, passed}
-use Rattle.scanner.specs.Words.{exactly_short, exactly_same, exactly_other}
-use Rattle.scanner.proofs.Classes.{apart, letter_class, class_there, class_within}
+use Rattle.scanner.specs.Answers.{ReadAt, Ahead, there, missing}
+use Rattle.scanner.specs.Words.{exactly_short, exactly_same, exactly_other, words_there, words_missing}
 
-pub record Passing (w s : List ℕ) (at i k : ℕ) : Type 0 where
-  pub low : at ≤ i
-  pub high : i ≤ max at (length s)
-  pub same : exactly (drop k w) (drop i s) ≡ exactly w (drop at s)
+sooner : (s : List ℕ) {at next : ℕ} → at ≤ next → next ≤ max at (length s) → (o : Option (Unit {0} × ℕ)) → Ahead s next o → Ahead s at o
+sooner s l h none a = tt
+sooner s l h (some r) a = (omega arith, omega arith)
 
-pub passing_start : (w s : List ℕ) (at : ℕ) → Passing w s at at 0
-passing_start w s at = record { low = omega arith; high = omega arith; same = refl }
+module _ (ws vs : List ℕ) {s : List ℕ} {at : ℕ} where
+  -- What stands behind some bytes is read after them.
+  pub then_read : {next : ℕ} {o : Option (Unit {0} × ℕ)} → ReadAt (exactly ws) s at (some (tt, next)) → ReadAt (exactly vs) s next o → ReadAt (exactly (ws ++ vs)) s at o
+  then_read {next} {o} a b = record {
+    says = b.says ∙ sym (words_there ws vs (drop at s) (there a refl));
+    ahead = sooner s a.ahead.0 a.ahead.1 o b.ahead;
+  }
 
-module _ {w s : List ℕ} {at i k : ℕ} (p : Passing w s at i k) where
-  module _ (hk : k < length w) where
-    module _ (hi : i < length s) where
-      here : exactly (get_or w k 0 ∷ drop (suc k) w) (get_or s i 0 ∷ drop (suc i) s) ≡ exactly w (drop at s)
-      here = sym (ap₂ exactly (drop-cons w k 0 hk) (drop-cons s i 0 hi)) ∙ p.same
+  pub then_missing : ReadAt (exactly ws) s at none → ReadAt (exactly (ws ++ vs)) s at none
+  then_missing a = record { says = sym (words_missing ws vs (drop at s) (missing a refl)); ahead = tt }
 
-      pub passing_on : get_or w k 0 ≡ get_or s i 0 → Passing w s at (i + 1) (k + 1)
-      passing_on e =
-          let l = p.low in
-          record {
-            low = omega arith;
-            high = omega arith;
-            same = rw (add-one i, add-one k) (sym (exactly_same (get_or w k 0) (get_or s i 0) (drop (suc k) w) (drop (suc i) s) e) ∙ here);
-          }
+-- Where the bytes stand first they are read, and what is read stands first.
+exactly_first : (ws xs : List ℕ) → exactly ws (ws ++ xs) ≡ some (tt, xs)
+exactly_first [] xs = refl
+exactly_first (w ∷ ws) xs = exactly_same w w ws (ws ++ xs) refl ∙ exactly_first ws xs
 
-      pub passing_other : (get_or w k 0 ≡ get_or s i 0 → ⊥) → ReadAt (exactly w) s at (passed Nothing)
-      passing_other e = record { says = sym (exactly_other (get_or w k 0) (get_or s i 0) (drop (suc k) w) (drop (suc i) s) e) ∙ here; ahead = tt }
+exactly_only : (ws xs : List ℕ) → ((rest : List ℕ) → xs ≡ ws ++ rest → ⊥) → exactly ws xs ≡ none
+exactly_only [] xs n = absurd (n xs refl)
+exactly_only (w ∷ ws) [] n = exactly_short w ws
+exactly_only (w ∷ ws) (x ∷ xs) n = elim (ℕ_discrete w x) [
+  | yes e ↦ exactly_same w x ws xs e ∙ exactly_only ws xs (λ rest q. n rest (cc (sym e, q)))
+  | no d ↦ exactly_other w x ws xs d
+]
 
-    pub passing_short : length s ≤ i → ReadAt (exactly w) s at (passed Nothing)
-    passing_short h = record {
-      says = sym (exactly_short (get_or w k 0) (drop (suc k) w)) ∙ sym (ap₂ exactly (drop-cons w k 0 hk) (drop_of_length-le s h)) ∙ p.same;
-      ahead = tt;
-    }
+-- Looking for the bytes in what stands from a place on, of which nothing is left behind the end.
+module _ (ws s : List ℕ) (at : ℕ) {from : ℕ} {found : Bool} (from_is : from ≡ min at (length s)) (h : found ≡ starts_with nat_eq (take (length s - from) (drop from s)) ws) where
+  part_is : take (length s - from) (drop from s) ≡ drop at s
+  part_is =
+      let w : take (length s - from) (drop from s) ≡ drop from s = rw (← length-drop from s) (take-length (drop from s)) in
+      w ∙ elim (dec_le at (length s)) [
+        | yes l ↦ ap (λ n. drop n s) (omega arith)
+        | no g ↦ drop_of_length-le s (omega arith) ∙ sym (drop_of_length-le s (omega arith))
+      ]
 
-  pub passing_done : length w ≤ k → ReadAt (exactly w) s at (passed (At i))
-  passing_done h = record { says = sym (ap (λ v. exactly v (drop i s)) (drop_of_length-le w h)) ∙ p.same; ahead = (p.low, p.high) }
+  first_is : found ≡ starts_with nat_eq (drop at s) ws
+  first_is = h ∙ ap (λ part. starts_with nat_eq part ws) part_is
 
-  -- A letter at the place, by its class.
-  module _ {l : ℕ} (e : first_class (drop i s) ≡ Letter l) where
-    pub letter_within : i < length s
-    letter_within = class_within s i tt e
+  pub bytes_read : found ≡ true → ReadAt (exactly ws) s at (some (tt, at + length ws))
+  bytes_read e =
+      let k = (starts_is Decides-eqb (drop at s) ws found first_is).0 e in
+      let q = k ∙ ap (λ r. ws ++ r) (drop-drop (length ws) at s) in
+      let l : length (drop at s) ≡ length ws + length (drop (length ws) (drop at s)) = ap length k ∙ length-append ws (drop (length ws) (drop at s)) in
+      record {
+        says = sym (ap (exactly ws) q ∙ exactly_first ws (drop (at + length ws) s));
+        ahead = (omega arith, omega (arith, length-drop at s));
+      }
 
-    is : l ≡ get_or s i 0
-    is = letter_says (get_or s i 0) (class_there s i letter_within ∙ e)
-
-    pub letter_same : (k < length w) → get_or w k 0 ≡ l → Passing w s at (i + 1) (k + 1)
-    letter_same hk same = passing_on hk letter_within (same ∙ is)
-
-    pub letter_other : (k < length w) → (get_or w k 0 ≡ l → ⊥) → ReadAt (exactly w) s at (passed Nothing)
-    letter_other hk n = passing_other hk letter_within (λ e. n (e ∙ sym is))
-
-  -- No letter, where the word has one.
-  pub letter_missing : every is_letter w ≡ true → k < length w → {c : Class} → c ≡ first_class (drop i s) → ((l : ℕ) → c ≡ Letter l → ⊥) → ReadAt (exactly w) s at (passed Nothing)
-  letter_missing letters hk {c} q t = elim (dec_lt i (length s)) [
-    | yes h ↦ passing_other hk h (λ e. t (get_or s i 0) (q ∙ sym (class_there s i h) ∙ letter_class (get_or s i 0) (rw e at (every_at is_letter w k 0 hk letters))))
-    | no h ↦ passing_short hk (omega arith)
-  ]
+  pub bytes_not_read : found ≡ false → ReadAt (exactly ws) s at none
+  bytes_not_read e = record {
+    says = sym (exactly_only ws (drop at s) (λ rest q. false≢true (sym e ∙ (starts_is Decides-eqb (drop at s) ws found first_is).1 rest q)));
+    ahead = tt;
+  }

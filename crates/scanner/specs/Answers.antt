@@ -3,16 +3,9 @@ use Rattle.std.proofs.Common.{sym, ap, ◌∙◌, ◌≡◌}
 use Rattle.std.specs.Prelude.{◌≤◌, max, drop}
 use Rattle.definitions.specs.Basics.{ℕ, Bool, true, false, cond, Option, none, some, option_map, List, length, eqb}
 use Rattle.definitions.specs.Layout.{Reader}
-use Rattle.scanner.specs.declared.Passed.{Passed}
-use Rattle.scanner.specs.declared.Passed.TheVariants.{At, Nothing as NotPassed}
-use Rattle.scanner.specs.declared.Number.{Number}
-use Rattle.scanner.specs.declared.Number.TheVariants.{Value, Nothing as NoNumber}
-use Rattle.scanner.specs.declared.Entry.{Entry}
-use Rattle.scanner.specs.declared.Entry.TheVariants.{Is as IsEntry, Nothing as NoEntry}
-use Rattle.scanner.specs.declared.Optional.{Optional}
-use Rattle.scanner.specs.declared.Optional.TheVariants.{Hyphen as IsHyphen, Number as IsNumber}
+use Rattle.std.specs.Prelude as Code
 use Rattle.scanner.specs.declared.ItemStep.{ItemStep}
-use Rattle.scanner.specs.declared.ItemStep.TheVariants.{Next, Closed, Nothing as NoStep}
+use Rattle.scanner.specs.declared.ItemStep.TheVariants.{Next, Closed}
 
 -- What was read and the place after it, as a reader of s says it.
 abbrev pub resting : {A : Type 0} → List ℕ → Option (A × ℕ) → Option (A × List ℕ)
@@ -40,18 +33,18 @@ module _ {A : Type 0} {reader : Reader ℕ A} {s : List ℕ} {at : ℕ} {found :
   pub missing : found ≡ none → reader (drop at s) ≡ none
   missing e = sym h.says ∙ ap (resting s) e
 
--- The answers' values, each with the place after it.
-abbrev pub passed : Passed → Option (Unit {0} × ℕ)
-passed (At next) = some (tt, next)
-passed NotPassed = none
+-- What an answer of the code says in the definitions' words: the place after what was passed, or a value with it.
+abbrev pub passed : Code.Option ℕ → Option (Unit {0} × ℕ)
+passed Code.None = none
+passed (Code.Some next) = some (tt, next)
 
-abbrev pub number_read : Number → Option (ℕ × ℕ)
-number_read (Value v next) = some (v, next)
-number_read NoNumber = none
+abbrev pub number_read : Code.Option (ℕ × ℕ) → Option (ℕ × ℕ)
+number_read Code.None = none
+number_read (Code.Some r) = some r
 
-abbrev pub optional : Optional → Option ℕ
-optional IsHyphen = none
-optional (IsNumber v) = some v
+abbrev pub optional : Code.Option ℕ → Option ℕ
+optional Code.None = none
+optional (Code.Some v) = some v
 
 -- Such a field as one number, of which the largest stands for a hyphen; what such a number says.
 abbrev pub mark : ℕ
@@ -64,12 +57,12 @@ code_of (some n) = n
 abbrev pub said_by : ℕ → Option ℕ
 said_by code = cond (eqb code mark) none (some code)
 
-abbrev pub entry_read : Entry → Option (Option ℕ × ℕ)
-entry_read (IsEntry o next) = some (optional o, next)
-entry_read NoEntry = none
+abbrev pub entry_read : Code.Option (Code.Option ℕ × ℕ) → Option (Option ℕ × ℕ)
+entry_read Code.None = none
+entry_read (Code.Some r) = some (optional r.0, r.1)
 
 -- Whether another item follows.
-abbrev pub step_read : ItemStep → Option (Bool × ℕ)
-step_read (Next next) = some (true, next)
-step_read (Closed next) = some (false, next)
-step_read NoStep = none
+abbrev pub step_read : Code.Option ItemStep → Option (Bool × ℕ)
+step_read Code.None = none
+step_read (Code.Some (Next next)) = some (true, next)
+step_read (Code.Some (Closed next)) = some (false, next)

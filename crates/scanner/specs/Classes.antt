@@ -91,3 +91,8 @@ letter_says b {l} e = eqb-true l b (both (is_letter b) (class_says b e)).1
 
 pub other_not : {d : ℕ} → Other ≡ Digit d → ⊥
 other_not e = let z : ◌≡◌ {A = ℕ} 0 1 = cc in omega arith
+
+-- A class that one byte alone has.
+pub record ClassOfOne (c : Class) (w : ℕ) : Type 0 where
+  pub says : (b : ℕ) → is_of c b ≡ eqb b w
+  pub class : class_of w ≡ c

@@ -1,10 +1,10 @@
 // The pieces of a region file's lines, read from any place of a slice.
 #![tactic(auto)]
 
-ghost use Rattle.std.specs.Prelude.{◌≡◌, drop};
-ghost use Rattle.definitions.specs.Basics.{true, eqb, every};
+ghost use Rattle.std.specs.Prelude.{◌≡◌, ◌∷◌, drop};
+ghost use Rattle.definitions.specs.Basics.{ℕ, [], eqb};
 ghost use Rattle.definitions.specs.Layout.{exactly, word, number, hyphen_or_number};
-ghost use Rattle.scanner.specs.Classes.{is_letter, class_of, first_class};
+ghost use Rattle.scanner.specs.Classes.{class_of, first_class, ClassOfOne};
 ghost use Rattle.scanner.specs.Words.{form_start};
 ghost use Rattle.scanner.specs.Answers.{ReadAt, passed, number_read, optional, code_of, said_by, entry_read, step_read};
 ghost use Rattle.scanner.specs.Separators.{separator};
@@ -12,7 +12,7 @@ ghost use Rattle.scanner.specs.Separators.{separator};
 use limits::DIGITS;
 
 // The reader's class of a byte; a digit comes with its value, a letter with its byte.
-#[derive(Clone, Copy)]
+#[derive(Clone, Copy, PartialEq, Eq)]
 pub enum Class {
     Digit(u32),
     Open,
@@ -53,212 +53,123 @@ pub fn class_at(s: &[u8], at: usize) -> Class
 pub fn is_line_end(b: u8) -> bool
     ensures { result ≡ eqb b 10 }
 {
-    match class_of(b) {
-        Class::LineEnd => true,
-        _ => false,
-    }
+    class_of(b) == Class::LineEnd
 }
 
-// The place after what was passed.
-#[derive(Clone, Copy)]
-pub enum Passed {
-    At(usize),
-    Nothing,
+// The place after one byte of a class, which another byte than Other has.
+fn one_at(s: &[u8], at: usize, class: Class) -> Option<usize>
+    requires { class ≡ Class.Other → ⊥ }
+    ensures { (w : ℕ) → ClassOfOne class w → ReadAt (exactly (w ∷ [])) s.now at (passed result) }
+{
+    if class_at(s, at) == class {
+        Some(at + 1)
+    } else {
+        None
+    }
 }
 
 // The bracket that opens a list.
-pub fn open_at(s: &[u8], at: usize) -> Passed
+pub fn open_at(s: &[u8], at: usize) -> Option<usize>
     ensures { ReadAt (word "(") s.now at (passed result) }
 {
-    match class_at(s, at) {
-        Class::Open => Passed::At(at + 1),
-        _ => Passed::Nothing,
-    }
+    one_at(s, at, Class::Open)
 }
 
 // The space between two parts.
-pub fn space_at(s: &[u8], at: usize) -> Passed
+pub fn space_at(s: &[u8], at: usize) -> Option<usize>
     ensures { ReadAt (word " ") s.now at (passed result) }
 {
-    match class_at(s, at) {
-        Class::Space => Passed::At(at + 1),
-        _ => Passed::Nothing,
-    }
-}
-
-fn line_end_at(s: &[u8], at: usize) -> Passed
-    ensures { ReadAt (word "\n") s.now at (passed result) }
-{
-    match class_at(s, at) {
-        Class::LineEnd => Passed::At(at + 1),
-        _ => Passed::Nothing,
-    }
+    one_at(s, at, Class::Space)
 }
 
 // The bracket that closes a form, and its line end.
-pub fn form_end_at(s: &[u8], at: usize) -> Passed
+pub fn form_end_at(s: &[u8], at: usize) -> Option<usize>
     ensures { ReadAt (word ")\n") s.now at (passed result) }
 {
-    match class_at(s, at) {
-        Class::Close => line_end_at(s, at + 1),
-        _ => Passed::Nothing,
-    }
+    let end = one_at(s, at, Class::Close)?;
+    one_at(s, end, Class::LineEnd)
 }
 
 // Exactly these bytes, whatever their classes.
-pub fn bytes_at(s: &[u8], at: usize, bytes: &[u8]) -> Passed
+#[tactic(auto, using(crate::proofs::Words::bytes_read, crate::proofs::Words::bytes_not_read))]
+pub fn bytes_at(s: &[u8], at: usize, bytes: &[u8]) -> Option<usize>
     ensures { ReadAt (exactly bytes.now) s.now at (passed result) }
 {
-    let mut i = at;
-    let mut k = 0;
-    while k < bytes.len() {
-        if i >= s.len() {
-            return Passed::Nothing;
-        }
-        if bytes[k] != s[i] {
-            return Passed::Nothing;
-        }
-        i += 1;
-        k += 1;
+    let rest = &s[at.min(s.len())..];
+    if rest.starts_with(bytes) {
+        Some(at + bytes.len())
+    } else {
+        None
     }
-    Passed::At(i)
-}
-
-// Exactly these letters.
-fn letters_at(s: &[u8], at: usize, letters: &[u8]) -> Passed
-    requires { every is_letter letters.now ≡ true }
-    ensures { ReadAt (exactly letters.now) s.now at (passed result) }
-{
-    let mut i = at;
-    let mut k = 0;
-    while k < letters.len() {
-        match class_at(s, i) {
-            Class::Letter(letter) => {
-                if letters[k] != letter {
-                    return Passed::Nothing;
-                }
-                i += 1;
-                k += 1;
-            }
-            _ => {
-                return Passed::Nothing;
-            }
-        }
-    }
-    Passed::At(i)
 }
 
 // The bracket that opens a form, and the form's word.
-pub fn form_start_at(s: &[u8], at: usize, word: &[u8]) -> Passed
-    requires { every is_letter word.now ≡ true }
+pub fn form_start_at(s: &[u8], at: usize, word: &[u8]) -> Option<usize>
     ensures { ReadAt (exactly (form_start word.now)) s.now at (passed result) }
 {
-    match class_at(s, at) {
-        Class::Open => letters_at(s, at + 1, word),
-        _ => Passed::Nothing,
-    }
+    let start = open_at(s, at)?;
+    bytes_at(s, start, word)
 }
 
-// A number and the place after it.
-#[derive(Clone, Copy)]
-pub enum Number {
-    Value(u32, usize),
-    Nothing,
-}
-
-// A number with no leading zero. A digit too many ends the reading.
-pub fn number_at(s: &[u8], at: usize) -> Number
+// A number with no leading zero, and the place after it. A digit too many ends the reading.
+pub fn number_at(s: &[u8], at: usize) -> Option<(u32, usize)>
     ensures { ReadAt number s.now at (number_read result) }
 {
     let mut value: u32 = 0;
     let mut i = at;
-    loop {
-        match class_at(s, i) {
-            Class::Digit(d) => {
-                if i - at == DIGITS {
-                    return Number::Nothing;
-                }
-                if value == 0 {
-                    if i != at {
-                        return Number::Nothing;
-                    }
-                }
-                value = value * 10 + d;
-                i += 1;
-            }
-            _ => {
-                if i == at {
-                    return Number::Nothing;
-                }
-                return Number::Value(value, i);
-            }
+    while let Class::Digit(d) = class_at(s, i) {
+        if i - at == DIGITS {
+            return None;
         }
+        if value == 0 && i != at {
+            return None;
+        }
+        value = value * 10 + d;
+        i += 1;
     }
+    if i == at { None } else { Some((value, i)) }
 }
 
-// A hyphen, which says that there is none, or a number.
-#[derive(Clone, Copy)]
-pub enum Optional {
-    Hyphen,
-    Number(u32),
-}
+// What stands for a hyphen where a field that may be one is held as a number: no number of a file is so large.
+pub const MARK: u32 = u32::MAX;
 
-// What stands for a hyphen where such a field is held as one number: no number of a file is so large.
-const MARK: u32 = 4_294_967_295;
-
-// A field as one number, and what such a number says.
-pub fn code_of(field: Optional) -> u32
+// A field that may be a hyphen as one number, and what such a number says.
+pub fn code_of(field: Option<u32>) -> u32
     ensures { result ≡ code_of (optional field) }
 {
-    match field {
-        Optional::Hyphen => MARK,
-        Optional::Number(n) => n,
-    }
+    field.unwrap_or(MARK)
 }
 
-pub fn said_by(code: u32) -> Optional
+pub fn said_by(code: u32) -> Option<u32>
     ensures { optional result ≡ said_by code }
 {
-    if code == MARK {
-        Optional::Hyphen
-    } else {
-        Optional::Number(code)
-    }
+    if code == MARK { None } else { Some(code) }
 }
 
-// A hyphen or a number, and the place after it.
-#[derive(Clone, Copy)]
-pub enum Entry {
-    Is(Optional, usize),
-    Nothing,
-}
-
-pub fn hyphen_or_number_at(s: &[u8], at: usize) -> Entry
+// A hyphen, which says that there is none, or a number; and the place after it.
+pub fn hyphen_or_number_at(s: &[u8], at: usize) -> Option<(Option<u32>, usize)>
     ensures { ReadAt hyphen_or_number s.now at (entry_read result) }
 {
-    match class_at(s, at) {
-        Class::Hyphen => Entry::Is(Optional::Hyphen, at + 1),
-        _ => match number_at(s, at) {
-            Number::Value(value, next) => Entry::Is(Optional::Number(value), next),
-            Number::Nothing => Entry::Nothing,
-        },
+    if class_at(s, at) == Class::Hyphen {
+        return Some((None, at + 1));
     }
+    let (value, next) = number_at(s, at)?;
+    Some((Some(value), next))
 }
 
-// What stands after an item: a space before the next one, or the bracket that closes the list.
+// What stands after an item, and the place after that: a space before the next one, or the bracket that closes the list.
 #[derive(Clone, Copy)]
 pub enum ItemStep {
     Next(usize),
     Closed(usize),
-    Nothing,
 }
 
-pub fn item_step(s: &[u8], at: usize) -> ItemStep
+pub fn item_step(s: &[u8], at: usize) -> Option<ItemStep>
     ensures { ReadAt separator s.now at (step_read result) }
 {
     match class_at(s, at) {
-        Class::Space => ItemStep::Next(at + 1),
-        Class::Close => ItemStep::Closed(at + 1),
-        _ => ItemStep::Nothing,
+        Class::Space => Some(ItemStep::Next(at + 1)),
+        Class::Close => Some(ItemStep::Closed(at + 1)),
+        _ => None,
     }
 }

@@ -1,16 +1,10 @@
-use mathlib.Core.List.{[], ◌∷◌}
-use native.Mathlib.Omega.{arith}
-use Rattle.scanner.proofs.Bytes.{closing, byte_within, byte_then, byte_not_read}
+use Rattle.std.proofs.Common.{[], ◌∷◌, ◌∙◌, sym}
+use Rattle.scanner.proofs.Bytes.{closing, line_end}
+use Rattle.scanner.proofs.Words.{then_read, then_missing}
 use Rattle.scanner.proofs.form_end_at.Goals as goal
 
-pub overflow_add-at : goal.overflow_add-at
-overflow_add-at c =
-    let k = c in
-    let start = k.args in
-    omega (arith, byte_within closing start.s.now start.at k.class_at.ensures c.in-Close.is)
+pub returns-in_err-end : goal.returns-in_err-end
+returns-in_err-end c = rw c.from_residual.ensures (then_missing (41 ∷ []) (10 ∷ []) (c.in_err-end.ensures 41 closing))
 
-pub returns-in-Close : goal.returns-in-Close
-returns-in-Close c = byte_then closing _ _ c.class_at.ensures (10 ∷ []) c.in-Close.is c.line_end_at.ensures
-
-pub returns-in_default : goal.returns-in_default
-returns-in_default c = byte_not_read closing _ _ c.class_at.ensures (10 ∷ []) c.in_default.not-Close
+pub returns : goal.returns
+returns c = then_read (41 ∷ []) (10 ∷ []) (c.in_ok-end.ensures 41 closing) (c.one_at-2.ensures 10 line_end)

@@ -1,20 +1,6 @@
 use mathlib.Core.Path.{sym, ◌∙◌}
-use native.Mathlib.Omega.{arith}
-use Rattle.scanner.proofs.Classes.{class_within}
 use Rattle.scanner.proofs.Steps.{step_next, step_closed, step_missing}
 use Rattle.scanner.proofs.item_step.Goals as goal
-
-pub overflow_add-result : goal.overflow_add-result
-overflow_add-result c =
-    let k = c in
-    let start = k.args in
-    omega (arith, class_within start.s.now start.at tt (sym k.class_at.ensures ∙ c.in-Space.is))
-
-pub overflow_add-result-in-Close : goal.overflow_add-result-in-Close
-overflow_add-result-in-Close c =
-    let k = c in
-    let start = k.args in
-    omega (arith, class_within start.s.now start.at tt (sym k.class_at.ensures ∙ c.in-Close.is))
 
 pub returns-in-Space : goal.returns-in-Space
 returns-in-Space c = step_next _ _ (sym c.class_at.ensures ∙ c.in-Space.is)

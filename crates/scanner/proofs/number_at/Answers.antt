@@ -32,16 +32,6 @@ overflow_add-value c =
     let m = c in
     omega (arith, reading_fits m.loop-d.invariant (sym m.class_at.ensures ∙ m.in-Digit.is) c.if-i-at-eq-DIGITS.false)
 
-pub overflow_add-i : goal.overflow_add-i
-overflow_add-i c =
-    let m = c in
-    omega (arith, reading_within m.loop-d.invariant (sym m.class_at.ensures ∙ m.in-Digit.is))
-
-pub loop-d-smaller : goal.loop-d-smaller
-loop-d-smaller c =
-    let m = c in
-    omega (arith, reading_within m.loop-d.invariant (sym m.class_at.ensures ∙ m.in-Digit.is))
-
 pub loop-d-preserved : goal.loop-d-preserved
 unfolding limits
 loop-d-preserved c =
@@ -52,5 +42,5 @@ loop-d-preserved c =
 pub returns-then-i-at-2 : goal.returns-then-i-at-2
 returns-then-i-at-2 c = reading_missing c.loop-d.invariant (not_digit c.class_at.ensures c.in_default.not-Digit) c.if-i-at-2.true
 
-pub returns-in_default : goal.returns-in_default
-returns-in_default c = reading_ends c.loop-d.invariant (not_digit c.class_at.ensures c.in_default.not-Digit) c.if-i-at-2.false
+pub returns-else-i-at-2 : goal.returns-else-i-at-2
+returns-else-i-at-2 c = reading_ends c.loop-d.invariant (not_digit c.class_at.ensures c.in_default.not-Digit) c.if-i-at-2.false
