@@ -1,11 +1,9 @@
 -- Two rows added word by word.
-use mathlib.Core.Path.{◌≡◌, refl, sym, ap, ◌∙◌}
+use mathlib.Core.Path.{◌≡◌, sym, ap, ◌∙◌}
 use native.Mathlib.Omega.{arith}
-use borrow.Author.Count.{below_more}
-use lib.ListN.{set, length-set}
-use lib.Seq.{ext_get_or, get_or-set_same, get_or-set_other}
+use lib.Seq.{ext_get_or}
 use Rattle.std.specs.Prelude.{◌+◌, ◌<◌}
-use Rattle.definitions.specs.Basics.{ℕ, List, length, get_or, replicate}
+use Rattle.definitions.specs.Basics.{ℕ, List, length, get_or}
 use Rattle.partial_rows.specs.Adding.{add_beds, add_rows, add_at, add_length}
 use Rattle.packed_rows.specs.declared.Row.{Row}
 use Rattle.packed_rows.specs.Packed.{packed_beds, row_of, Fit}
@@ -21,17 +19,6 @@ pub record Added (xs ys : List ℕ) (j : ℕ) (words : List ℕ) : Type 0 where
   pub long : length words ≡ 4
 
 module _ (xs ys : List ℕ) where
-  pub none_added : Added xs ys 0 (replicate 4 0)
-  none_added = record { first = λ k h. absurd (omega arith); long = refl }
-
-  pub one_added : (j : ℕ) (words : List ℕ) → j < 4 → Added xs ys j words → Added xs ys (j + 1) (set words j (get_or xs j 0 + get_or ys j 0))
-  one_added j words h r = record {
-    first = below_more (λ k. get_or (set words j (get_or xs j 0 + get_or ys j 0)) k 0 ≡ get_or xs k 0 + get_or ys k 0) j
-        (λ k l. get_or-set_other words j k _ 0 (λ q. omega arith) ∙ r.first k l)
-        (get_or-set_same words j _ 0 (omega (arith, r.long)));
-    long = length-set words j _ ∙ r.long;
-  }
-
   words_added : (words : List ℕ) → length xs ≡ 4 → length ys ≡ 4 → Added xs ys 4 words → words ≡ add_beds xs ys
   words_added words p q r = ext_get_or 0 words (add_beds xs ys) (r.long ∙ sym (add_length xs ys (p ∙ sym q) ∙ q)) (λ k l. r.first k (omega (arith, r.long)) ∙ sym (add_at xs ys k))
 

@@ -24,7 +24,7 @@ pub packed_more : (w : ℕ) (words : List ℕ) → packed_beds (w ∷ words) ≡
 unfolding packed_beds flat_map
 packed_more w words = refl
 
-packed_none : packed_beds [] ≡ []
+pub packed_none : packed_beds [] ≡ []
 unfolding packed_beds flat_map
 packed_none = refl
 

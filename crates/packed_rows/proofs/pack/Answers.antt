@@ -1,8 +1,4 @@
-use borrow.Author.Rules.{rules}
-use native.Mathlib.Omega.{arith}
-use mathlib.Core.Path.{ap}
-use mathlib.Core.List.{List}
-use Prim.Native.Nat.{ℕ}
+use Rattle.std.proofs.Common.{arith, rules, ap, ℕ, List}
 use Rattle.packed_rows.proofs.Packing.{all_packed}
 use Rattle.packed_rows.proofs.pack.Goals as goal
 

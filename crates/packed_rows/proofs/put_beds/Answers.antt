@@ -1,6 +1,12 @@
-use native.Mathlib.Omega.{arith}
-use Rattle.packed_rows.proofs.Taking.{all_written}
+use Rattle.std.proofs.Common.{arith, refl, ◌∙◌}
+use Rattle.packed_rows.proofs.Taking.{one_written, all_written}
 use Rattle.packed_rows.proofs.put_beds.Goals as goal
 
+pub loop-k-preserved : goal.loop-k-preserved
+loop-k-preserved c =
+    let l = c.loop-k in
+    let a = c.args in
+    rw (← l.invariant) at (one_written a.beds.now a.first a.word l.k _ (omega arith) (omega arith) refl)
+
 pub returns : goal.returns
-returns c = all_written _ _ _ _ _ _ _ _ _ _ _ (omega arith) c.bed_of.ensures c.bed_of-2.ensures c.bed_of-3.ensures c.bed_of-4.ensures c.bed_of-5.ensures c.bed_of-6.ensures c.bed_of-7.ensures c.bed_of-8.ensures
+returns c = let a = c.args in c.loop-k.invariant ∙ all_written a.beds.now a.first a.word c.loop-k.k (omega arith)
