@@ -134,6 +134,10 @@ pub lowest_patient : (w : ℕ) → is_empty (members w) ≡ false → first 32 (
 lowest_patient w h =
     ltb-true (first 32 (members w)) 32 (every_contains (λ q. ltb q 32) (members w) (first 32 (members w)) (all_patients w) (contains_first 32 (members w) h))
 
+-- Who comes next of a set is a patient.
+pub coming_patient : (w p : ℕ) (others : List ℕ) → members w ≡ p ∷ others → p < 32
+coming_patient w p others e = ltb-true p 32 (every_contains (λ q. ltb q 32) (members w) p (all_patients w) (ap (λ m. contains m p) e ∙ contains_in (p ∷ others) (here refl)))
+
 -- A set w that is not empty, and r, which is w minus the set o of its lowest: the hypotheses are what the functions ensure.
 module _ (w low o r : ℕ) (some : is_empty (members w) ≡ false) (lowest : low ≡ first 32 (members w))
     (one : (q : ℕ) → in_set o q ≡ eqb q low) (minus : (q : ℕ) → in_set r q ≡ (in_set w q && not (in_set o q))) where

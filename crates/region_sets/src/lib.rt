@@ -13,7 +13,6 @@ ghost use Rattle.held_region.specs.Related.{MembersKnown, above_of, AncestorsHel
 use held_region::{Region, Table};
 use limits::{Field, within};
 use patient_set::PatientSet;
-use scanner::Optional;
 
 // The patients of a clinic, whatever the store says.
 fn clinic_set(region: Region, clinic: u32) -> PatientSet
@@ -21,14 +20,10 @@ fn clinic_set(region: Region, clinic: u32) -> PatientSet
     ensures { (store : List ℕ) → members result.0 ≡ patients_of (said region store) clinic }
 {
     let mut set = PatientSet::EMPTY;
-    let patients = region.patients;
-    let mut s = 0;
-    while s < region.v {
-        let patient = patients[s];
-        if patient.clinic == clinic {
+    for s in 0..region.v {
+        if region.patients[s].clinic == clinic {
             set = set.add(s);
         }
-        s += 1;
     }
     set
 }
@@ -50,27 +45,20 @@ pub fn member_set(table: Table) -> PatientSet
     ensures { members result.0 ≡ members_of table }
 {
     let mut set = PatientSet::EMPTY;
-    let mut place = 0;
-    while place < table.members {
-        let s = table.first[place] as usize;
-        set = set.add(s);
-        place += 1;
+    for place in 0..table.members {
+        set = set.add(table.first[place] as usize);
     }
     set
 }
 
 // The ancestors of who has this parent: the parent, and its ancestors.
-fn above(sets: [PatientSet; 32], parent: Optional) -> PatientSet
+fn above(sets: &[PatientSet; 32], parent: Option<u32>) -> PatientSet
     requires { (p : ℕ) → optional parent ≡ some p → p < 32 }
-    ensures { (q : ℕ) → in_set result.0 q ≡ above_of sets (optional parent) q }
+    ensures { (q : ℕ) → in_set result.0 q ≡ above_of sets.now (optional parent) q }
 {
     match parent {
-        Optional::Hyphen => PatientSet::EMPTY,
-        Optional::Number(p) => {
-            let s = p as usize;
-            let set = sets[s];
-            set.add(s)
-        }
+        None => PatientSet::EMPTY,
+        Some(p) => sets[p as usize].add(p as usize),
     }
 }
 
@@ -79,16 +67,9 @@ pub fn ancestor_sets(region: Region) -> [PatientSet; 32]
     requires { ParentsFirst region }
     ensures { AncestorsHeld region region.v result }
 {
-    let nobody = PatientSet::EMPTY;
-    let mut sets = [nobody; 32];
-    let patients = region.patients;
-    let mut child = 0;
-    while child < region.v {
-        let patient = patients[child];
-        let parent = patient.parent;
-        let set = above(sets, parent);
-        sets[child] = set;
-        child += 1;
+    let mut sets = [PatientSet::EMPTY; 32];
+    for child in 0..region.v {
+        sets[child] = above(&sets, region.patients[child].parent);
     }
     sets
 }
@@ -103,17 +84,13 @@ fn lower_above(set: PatientSet, ancestors: PatientSet, b: usize) -> bool
 }
 
 // Is of any two of a set the lower one an ancestor of the other?
-fn all_chained(set: PatientSet, ancestors: [PatientSet; 32]) -> bool
-    ensures { result ≡ chained (set_in ancestors) (members set.0) }
+fn all_chained(set: PatientSet, ancestors: &[PatientSet; 32]) -> bool
+    ensures { result ≡ chained (set_in ancestors.now) (members set.0) }
 {
-    let mut rest = set;
-    while 0 < rest.size() {
-        let b = rest.lowest() as usize;
-        let above = ancestors[b];
-        if !lower_above(set, above, b) {
+    for b in set.iter() {
+        if !lower_above(set, ancestors[b], b) {
             return false;
         }
-        rest = rest.minus(PatientSet::one(b));
     }
     true
 }
@@ -124,14 +101,10 @@ pub fn members_related(region: Region) -> bool
     ensures { (store : List ℕ) → result ≡ members_related (said region store) }
 {
     let ancestors = ancestor_sets(region);
-    let mut i = 0;
-    while i < region.t {
-        let table = region.tables[i];
-        let set = member_set(table);
-        if !all_chained(set, ancestors) {
+    for i in 0..region.t {
+        if !all_chained(member_set(region.tables[i]), &ancestors) {
             return false;
         }
-        i += 1;
     }
     true
 }

@@ -4,14 +4,14 @@ use Rattle.held_region.specs.Related.{above_of}
 use Rattle.held_region.specs.Sets.{in_none}
 use Rattle.region_sets.proofs.above.Goals as goal
 
-pub bounds-sets-s : goal.bounds-sets-s
-bounds-sets-s c = c.requires _ (ap optional c.in-Number.is)
+pub bounds-sets-p : goal.bounds-sets-p
+bounds-sets-p c = c.requires _ (ap optional c.in-Some.is)
 
 pub add-requires : goal.add-requires
-add-requires c = c.requires _ (ap optional c.in-Number.is)
+add-requires c = c.requires _ (ap optional c.in-Some.is)
 
-pub returns-in-Hyphen : goal.returns-in-Hyphen
-returns-in-Hyphen c = λ q. in_none q ∙ sym (ap (λ p. above_of c.args.sets (optional p) q) c.in-Hyphen.is)
+pub returns-in-None : goal.returns-in-None
+returns-in-None c = λ q. in_none q ∙ sym (ap (λ p. above_of c.args.sets.now (optional p) q) c.in-None.is)
 
-pub returns-in-Number : goal.returns-in-Number
-returns-in-Number c = λ q. c.add.ensures q ∙ sym (ap (λ p. above_of c.args.sets (optional p) q) c.in-Number.is)
+pub returns-in-Some : goal.returns-in-Some
+returns-in-Some c = λ q. c.add.ensures q ∙ sym (ap (λ p. above_of c.args.sets.now (optional p) q) c.in-Some.is)

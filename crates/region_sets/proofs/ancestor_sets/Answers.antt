@@ -1,5 +1,4 @@
 use mathlib.Core.Path.{refl}
-use Prim.Native.Nat.{◌-◌}
 use native.Mathlib.Omega.{arith}
 use lib.ListN.{length-set}
 use Rattle.held_region.specs.Related.{parent_smaller, ancestors_more}
@@ -8,17 +7,14 @@ use Rattle.region_sets.proofs.ancestor_sets.Goals as goal
 pub loop-child-init : goal.loop-child-init
 loop-child-init c = (refl, λ store s l q. absurd (omega arith))
 
-pub above-set-requires : goal.above-set-requires
-above-set-requires c =
-    let start = c in
-    λ p e. omega (arith, parent_smaller start.args.region start.requires _ c.loop-child-test.true p e)
+pub above-requires : goal.above-requires
+above-requires c =
+    λ p e. omega (arith, parent_smaller c.args.region c.requires _ c.loop-child-test.true p e)
 
 pub loop-child-preserved : goal.loop-child-preserved
 loop-child-preserved c =
-    let loop = c in
-    let start = loop in
-    let inv = loop.loop-child.invariant in
-    (simp length-set inv.0, ancestors_more start.args.region start.requires _ c.loop-child-test.true _ _ (omega arith) inv.1 c.above-set.ensures)
+    let inv = c.loop-child.invariant in
+    (simp length-set inv.0, ancestors_more c.args.region c.requires _ c.loop-child-test.true _ _ (omega arith) inv.1 c.above.ensures)
 
 pub returns : goal.returns
 returns c = λ store j l. c.loop-child.invariant.1 store j (omega arith)

@@ -1,11 +1,7 @@
 use mathlib.Core.Path.{◌≡◌}
-use Prim.Native.Nat.{◌-◌}
 use lib.ListN.{length}
 use Rattle.held_region.specs.Related.{AncestorsHeld}
 use Rattle.region_sets.proofs.ancestor_sets.Given as goal
 
 abbrev pub invariant-loop-child : goal.invariant-loop-child
 invariant-loop-child l = (length l.sets ≡ 32) × AncestorsHeld l.region l.child l.sets
-
-abbrev pub decreases-loop-child : goal.decreases-loop-child
-decreases-loop-child l = l.region.v - l.child

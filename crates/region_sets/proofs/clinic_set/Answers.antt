@@ -2,7 +2,7 @@ use borrow.Author.Rules.{rules}
 use borrow.Author.Tests.{le-ltb, eq-eqb, ne_eqb}
 use mathlib.Core.Bool.{Bool, true, false, or-false}
 use mathlib.Core.Path.{◌≡◌, sym, ap, ◌∙◌}
-use Prim.Native.Nat.{ℕ, ◌-◌}
+use Prim.Native.Nat.{ℕ}
 use native.Mathlib.Omega.{arith}
 use Rattle.std.specs.Prelude.{◌&&◌, ◌||◌}
 use Rattle.definitions.specs.Basics.{eqb, ltb}
@@ -18,24 +18,22 @@ loop-s-init c = (search rules, λ q. in_none q ∙ sym (ap (λ b. b && eqb (pati
 
 pub loop-s-preserved : goal.loop-s-preserved
 loop-s-preserved c =
-    let loop = c in
-    let region = loop.args.region in
-    let clinic = loop.args.clinic in
-    let s = loop.loop-s.s in
-    let inv = loop.loop-s.invariant.1 in
+    let region = c.args.region in
+    let clinic = c.args.clinic in
+    let s = c.loop-s.s in
+    let inv = c.loop-s.invariant.1 in
     let there : ℕ → Bool = λ q. eqb (patient_in region q).clinic clinic in (
       search rules,
-      λ q. elim c.if-patient-clinic.branch [
-        | goal.then-patient-clinic w ↦ ap (λ (x : PatientSet). in_set x.0 q) w.set-is ∙ w.add-set.ensures q ∙ ap (λ b. b || eqb q s) (inv q) ∙ one_place there s q true (eq-eqb _ _ w.if-patient-clinic.true)
-        | goal.else-patient-clinic w ↦ ap (λ (x : PatientSet). in_set x.0 q) w.set-is ∙ inv q ∙ sym (or-false _) ∙ one_place there s q false (ne_eqb _ _ w.if-patient-clinic.false)
+      λ q. elim c.if-region-s.branch [
+        | goal.then-region-s w ↦ ap (λ (x : PatientSet). in_set x.0 q) w.set-is ∙ w.add-set.ensures q ∙ ap (λ b. b || eqb q s) (inv q) ∙ one_place there s q true (eq-eqb _ _ w.if-region-s.true)
+        | goal.else-region-s w ↦ ap (λ (x : PatientSet). in_set x.0 q) w.set-is ∙ inv q ∙ sym (or-false _) ∙ one_place there s q false (ne_eqb _ _ w.if-region-s.false)
       ],
     )
 
 pub returns : goal.returns
 returns c =
-    let loop = c in
-    let region = loop.args.region in
-    let clinic = loop.args.clinic in
-    let last : loop.loop-s.s ≡ region.v = omega arith in
-    λ store. clinic_members region store clinic _ loop.requires.patients
-    (λ q. loop.loop-s.invariant.1 q ∙ ap (λ s. ltb q s && eqb (patient_in region q).clinic clinic) last)
+    let region = c.args.region in
+    let clinic = c.args.clinic in
+    let last : c.loop-s.s ≡ region.v = omega arith in
+    λ store. clinic_members region store clinic _ c.requires.patients
+    (λ q. c.loop-s.invariant.1 q ∙ ap (λ s. ltb q s && eqb (patient_in region q).clinic clinic) last)

@@ -1,5 +1,5 @@
 use mathlib.Core.Path.{◌≡◌}
-use Prim.Native.Nat.{ℕ, ◌-◌, ◌≤◌}
+use Prim.Native.Nat.{ℕ, ◌≤◌}
 use Rattle.std.specs.Prelude.{◌&&◌}
 use Rattle.definitions.specs.Basics.{eqb, ltb}
 use Rattle.patient_set.specs.Sets.{in_set}
@@ -8,6 +8,3 @@ use Rattle.region_sets.proofs.clinic_set.Given as goal
 
 abbrev pub invariant-loop-s : goal.invariant-loop-s
 invariant-loop-s l = (l.s ≤ l.region.v) × ((q : ℕ) → in_set l.set.0 q ≡ (ltb q l.s && eqb (patient_in l.region q).clinic l.clinic))
-
-abbrev pub decreases-loop-s : goal.decreases-loop-s
-decreases-loop-s l = l.region.v - l.s

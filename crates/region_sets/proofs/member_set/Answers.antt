@@ -1,7 +1,6 @@
 use mathlib.Core.Bool.{or_assoc, or-false}
 use mathlib.Core.Path.{sym, ap, ◌∙◌}
-use Prim.Native.Nat.{◌+◌, ◌-◌}
-use native.Mathlib.Omega.{arith}
+use Prim.Native.Nat.{◌+◌}
 use Rattle.std.specs.Prelude.{◌||◌}
 use Rattle.definitions.specs.Basics.{contains}
 use Rattle.patient_set.specs.Sets.{in_set}
@@ -13,9 +12,6 @@ use Rattle.region_sets.proofs.member_set.Goals as goal
 
 pub loop-place-init : goal.loop-place-init
 loop-place-init c = λ q. ap (λ b. b || contains (members_from c.args.table 0) q) (in_none q) ∙ ap (λ l. contains l q) (members_all c.args.table)
-
-pub overflow_cast-s : goal.overflow_cast-s
-overflow_cast-s c = omega (arith, member_known c.args.table c.requires _ c.loop-place-test.true)
 
 pub add-set-requires : goal.add-set-requires
 add-set-requires c = member_known c.args.table c.requires _ c.loop-place-test.true

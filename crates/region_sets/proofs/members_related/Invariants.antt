@@ -1,5 +1,4 @@
 use mathlib.Core.Path.{◌≡◌}
-use Prim.Native.Nat.{◌-◌}
 use Rattle.definitions.specs.Basics.{ℕ, List}
 use Rattle.definitions.specs.Questions.{members_related}
 use Rattle.held_region.specs.Meaning.{table_in, members_of, said}
@@ -9,6 +8,3 @@ use Rattle.region_sets.proofs.members_related.Given as goal
 
 abbrev pub invariant-loop-i : goal.invariant-loop-i
 invariant-loop-i l = (store : List ℕ) → asked_from (λ j. related (said l.region store) (members_of (table_in l.region j))) l.region.t l.i ≡ members_related (said l.region store)
-
-abbrev pub decreases-loop-i : goal.decreases-loop-i
-decreases-loop-i l = l.region.t - l.i
