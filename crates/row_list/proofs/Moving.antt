@@ -1,12 +1,12 @@
--- Words moved six places further, the last first, and what a list is once a row is written into the gap.
+-- Words moved six places further, and what a list is once a row is written into the gap.
 use mathlib.Core.Path.{◌≡◌, refl, sym, ap, ◌∙◌, subst}
 use mathlib.Core.Logic.{◌⊎◌, inl, inr}
 use native.Mathlib.Decide.{dec_lt, ℕ_discrete}
 use native.Mathlib.Numerals.{add-one}
 use native.Mathlib.Omega.{arith}
 use Prim.Native.Nat.{◌≤◌}
-use lib.ListN.{drop, set, length-set, length-append, length-take, length-drop, get_or-append}
-use lib.Seq.{ext_get_or, get_or-set_same, get_or-set_other, get_or-drop, get_or-take, get_or_at, get_or-append-add, length-take-le, take_at, take_all}
+use lib.ListN.{drop, length-append, length-take, length-drop, get_or-append}
+use lib.Seq.{ext_get_or, get_or-drop, get_or-take, get_or_at, get_or-append-add, length-take-le, take_at, take_all}
 use Rattle.std.specs.Prelude.{◌+◌, ◌-◌, ◌*◌, ◌<◌, ◌∷◌, ◌++◌}
 use Rattle.definitions.specs.Basics.{ℕ, suc, List, length, get_or, take, insert, min}
 use Rattle.definitions.specs.Plans as Said
@@ -18,6 +18,7 @@ use Rattle.row_list.specs.Laws.{row_words, rows_long, rows_at}
 use Rattle.lists.specs.Members.{◌∈◌, in_take, in_drop, here_or_there, in_append_cases}
 use Rattle.ranking.specs.Rising.{Rising}
 use Rattle.theorems.specs.List.{row_order}
+use Rattle.std.specs.List.{CopiedTo, SameBelow}
 use Rattle.row_list.specs.Steps.{Place, Moved}
 
 -- A list with one more element at a place.
@@ -50,15 +51,13 @@ put_members p z l k = elim (in_append_cases (take p l) k) [
   | inr t ↦ elim (here_or_there t) [ inl e ↦ inl e | inr u ↦ inr (in_drop p l u) ]
 ]
 
-pub one_moved : (from to : ℕ) (area after : List ℕ) → 6 ≤ from → from < to → to ≤ length area → Moved (from + 1) to area after
-    → Moved from to area (set after from (get_or after (from - 6) 0))
-one_moved from to area after h k l r = record {
-  low = λ i t. get_or-set_other after from i _ 0 (λ q. omega arith) ∙ r.low i (omega arith);
-  moved = λ i t u. elim (ℕ_discrete i from) [
-    | yes e ↦ rw e (get_or-set_same after from (get_or after (from - 6) 0) 0 (omega (arith, r.long)) ∙ r.low (from - 6) (omega arith))
-    | no e ↦ get_or-set_other after from i _ 0 e ∙ r.moved i (omega arith) u
-  ];
-  long = length-set after from _ ∙ r.long;
+-- The rows from one on up to another are copied one row further.
+pub gap_made : (p end : ℕ) (area after : List ℕ) → p ≤ end → length after ≡ length area → CopiedTo area after (p * 6) (p * 6 + 6) (end * 6 - p * 6) → SameBelow area after (p * 6 + 6)
+    → Moved (p * 6 + 6) (end * 6 + 6) area after
+gap_made p end area after h long copied same = record {
+  low = λ k t. same k 0 t;
+  moved = λ k t u. let e : p * 6 + (k - (p * 6 + 6)) ≡ k - 6 = omega arith in copied k 0 t (omega arith) ∙ ap (λ (i : ℕ). get_or area i 0) e;
+  long = long;
 }
 
 -- The rows of the area once there is a gap and the row is written into it.
