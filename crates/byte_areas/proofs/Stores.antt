@@ -1,39 +1,33 @@
 -- What is left to store, byte by byte and number by number.
-use mathlib.Core.Path.{ap}
+use mathlib.Core.Path.{ap, ap₂, sym, ◌∙◌}
 use Prim.Native.Nat.{◌≤◌}
 use native.Mathlib.Numerals.{add-one}
 use native.Mathlib.Omega.{arith}
 use mir.Val.{bool_byte}
-use lib.ListN.{set, drop, drop_of_length-le}
-use lib.Seq.{drop-cons}
-use Rattle.std.specs.Prelude.{◌+◌, ◌-◌, ◌*◌, ◌/◌, ◌%◌, ◌<◌, ◌≡◌, ◌∷◌}
-use Rattle.definitions.specs.Basics.{ℕ, suc, refl, List, [], Bool, true, false, cond, length, get_or, sets}
+use lib.ListN.{drop, drop_of_length-le}
+use lib.Seq.{drop-cons, drop-drop}
+use borrow.Rule.Slice.PartMut.{put_mid}
+use Rattle.std.specs.Int.{w64, to_le_bytes}
+use Rattle.std.proofs.lemmas.List.Edits.{sets-eq}
+use native.Mathlib.Nat as nat
+use Rattle.std.proofs.Common.{append_assoc}
+use Rattle.std.specs.Prelude.{◌+◌, ◌*◌, ◌<◌, ◌≡◌, ◌++◌}
+use Rattle.definitions.specs.Basics.{ℕ, suc, refl, List, Bool, true, false, cond, length, get_or, take, sets}
 use Rattle.definitions.specs.Outcomes.{written}
 use Rattle.definitions.specs.Boundary.{bytes_of}
 
--- A loop over eight bytes from place `at` on: the area once those from byte i on are stored, which are the lowest of the rest.
-unfoldable pub bytes_left : ℕ → ℕ → List ℕ → ℕ → List ℕ
-bytes_left at i area rest = sets area (at + i) (bytes_of (8 - i) rest)
+-- The eight bytes of a number, as the machine's conversion gives them and as document 01 says them.
+pub bytes_same : (n : ℕ) → to_le_bytes w64 n ≡ bytes_of 8 n
+bytes_same n = simp nat.div-div-eq-div-mul
 
-module _ (at : ℕ) (area : List ℕ) (n : ℕ) where
-  pub bytes_all : bytes_left at 0 area n ≡ sets area at (bytes_of 8 n)
-  unfolding bytes_left
-  bytes_all =
-      let start : at + 0 ≡ at = omega arith in
-      ap (λ k. sets area k (bytes_of 8 n)) start
-
-  pub bytes_next : (i : ℕ) → i < 8 → bytes_left at (i + 1) (set area (at + i) (n % 256)) (n / 256) ≡ bytes_left at i area n
-  unfolding bytes_left
-  bytes_next i h =
-      let left : 8 - i ≡ suc (8 - (i + 1)) = omega arith in
-      let next : at + (i + 1) ≡ suc (at + i) = omega arith in
-      rw (left, next)
-
-  pub bytes_done : (i : ℕ) → 8 ≤ i → area ≡ bytes_left at i area n
-  unfolding bytes_left
-  bytes_done i h =
-      let none_left : 8 - i ≡ 0 = omega arith in
-      rw none_left
+-- An area whose part from place `at` on holds them.
+pub bytes_put : (at n : ℕ) (area : List ℕ) {size : ℕ} {part : List ℕ} → at + 8 ≤ length area → size ≡ 8 → part ≡ to_le_bytes w64 n
+    → put_mid at size area part ≡ sets area at (bytes_of 8 n)
+bytes_put at n area room eight is =
+    ap₂ (λ k p. put_mid at k area p) eight (is ∙ bytes_same n)
+    ∙ ap (λ rest. take at area ++ (bytes_of 8 n ++ rest)) (drop-drop 8 at area)
+    ∙ sym (append_assoc (take at area) (bytes_of 8 n) (drop (at + 8) area))
+    ∙ sym (sets-eq (bytes_of 8 n) area at room)
 
 -- A loop over numbers that stand from number `at` on: the area once those from number i on are stored.
 unfoldable pub numbers_left : ℕ → List ℕ → ℕ → List ℕ → List ℕ
@@ -56,11 +50,6 @@ module _ (at : ℕ) (numbers area : List ℕ) where
   pub numbers_done : (i : ℕ) → length numbers ≤ i → area ≡ numbers_left at numbers i area
   unfolding numbers_left
   numbers_done i all = rw (drop_of_length-le numbers all)
-
--- Two numbers, one behind the other.
-pub pair_written : (a b : ℕ) (result : List ℕ) {first both : List ℕ} → first ≡ sets result 0 (bytes_of 8 a) → both ≡ sets first 8 (bytes_of 8 b)
-    → both ≡ written 0 8 (bytes_of 8) (a ∷ b ∷ []) result
-pair_written a b result one two = rw (two, one)
 
 -- A flag as a number, as the machine has it and as document 01 says it.
 pub flag_number : (b : Bool) → bool_byte b ≡ cond b 1 0

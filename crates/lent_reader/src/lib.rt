@@ -8,7 +8,7 @@ ghost use Rattle.held_region.specs.Meaning.{said};
 ghost use Rattle.lent_reader.specs.Called.{room_for, no_counts, read_accepted};
 
 use answers::refusal_number;
-use byte_areas::{FOUR, store_four};
+use byte_areas::{FOUR, store_result};
 use entry_questions::entry_total;
 use held_region::{FORBIDDEN, Judged, Region};
 use reader::load;
@@ -42,7 +42,7 @@ fn has_room(
 fn refused(res: &mut [u8], number: u64) -> u64
     ensures { (result ≡ number) × (res.new ≡ result_after no_counts res.old) }
 {
-    store_four(res, &[0; 4]);
+    store_result(res, &[0; 4]);
     number
 }
 
@@ -78,7 +78,7 @@ fn lay_region(
         region.m as u64,
         total as u64,
     ];
-    store_four(res, &counts);
+    store_result(res, &counts);
     0
 }
 

@@ -6,7 +6,7 @@ ghost use Rattle.definitions.specs.Boundary.{write_call};
 ghost use Rattle.lent_writer.specs.Answered.{lent_outcome};
 
 use answers::{checked_number, or_twelve};
-use byte_areas::store_count;
+use byte_areas::store_result;
 use file_answers::{WriteValues, not_written, write_values};
 use held_region::FORBIDDEN;
 use lent_region::{areas_whole, region_lent};
@@ -48,6 +48,6 @@ pub fn write_lent(
 {
     let room = 8 <= res.len();
     let written = answer_lent(patients, tables, entries, m, output, room);
-    store_count(res, written.count as u64);
+    store_result(res, &[written.count as u64]);
     written.number
 }

@@ -7,7 +7,7 @@ ghost use Rattle.definitions.specs.Boundary.{price_call, line_call, join_call};
 ghost use Rattle.answers.specs.Rooms.{or_twelve};
 
 use answers::{checked_number, or_twelve, price_values};
-use byte_areas::{PAIR, store_pair, store_price};
+use byte_areas::{PAIR, store_price, store_result};
 use file_answers::join_values;
 use joiner::join;
 use line_finder::find_line;
@@ -41,9 +41,9 @@ pub fn line_call(file: &[u8], typed: &[u8], res: &mut [u8]) -> u64
     }
     let found = find_line(file, typed);
     if found.number == 0 {
-        store_pair(res, found.start as u64, found.size as u64);
+        store_result(res, &[found.start as u64, found.size as u64]);
     } else {
-        store_pair(res, 0, 0);
+        store_result(res, &[0, 0]);
     }
     found.number
 }
@@ -68,6 +68,6 @@ pub fn join_call(first: &[u8], second: &[u8], output: &mut [u8], res: &mut [u8])
         return join_without_room(first, second);
     }
     let joined = join_values(join(first, second, output));
-    store_pair(res, joined.bytes as u64, joined.which);
+    store_result(res, &[joined.bytes as u64, joined.which]);
     joined.number
 }

@@ -9,7 +9,7 @@ ghost use Rattle.file_answers.specs.Answers.{written_outcome};
 ghost use Rattle.answers.specs.Rooms.{or_twelve};
 
 use answers::{checked_number, or_twelve};
-use byte_areas::store_count;
+use byte_areas::store_result;
 use file_answers::{Written, write_values};
 use held_region::{FORBIDDEN, Judged};
 use reader::load;
@@ -50,6 +50,6 @@ pub fn parents_call(file: &[u8], output: &mut [u8], res: &mut [u8]) -> u64
         return number_without_room(file);
     }
     let written = write_values(parents(file, output));
-    store_count(res, written.count as u64);
+    store_result(res, &[written.count as u64]);
     written.number
 }

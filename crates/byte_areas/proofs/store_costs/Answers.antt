@@ -1,6 +1,6 @@
 use borrow.Author.Rules.{rules}
 use mathlib.Core.Path.{refl, sym, ◌∙◌}
-use Prim.Native.Nat.{◌-◌, ◌<◌, ◌≤◌}
+use Prim.Native.Nat.{◌<◌, ◌≤◌}
 use native.Mathlib.Omega.{arith}
 use lib.ListN.{length, take, length-take}
 use lib.Seq.{get_or-take, length-take-le}
@@ -20,7 +20,7 @@ loop-i-preserved c =
     let few : lent.n ≤ length lent.held.now = omega arith in (
       search rules,
       numbers_next 0 (take lent.n lent.held.now) _ i (omega (arith, length-take-le lent.n lent.held.now few))
-          (stored.cost_at.ensures ∙ sym (get_or-take lent.n lent.held.now i 0 inside)) (omega arith) stored.store_number.ensures
+          (stored.from.ensures ∙ sym (get_or-take lent.n lent.held.now i 0 inside)) (omega arith) stored.store_number.ensures
           ∙ turn.loop-i.invariant.1,
     )
 

@@ -1,6 +1,5 @@
 use borrow.Author.Rules.{rules}
 use mathlib.Core.Path.{refl, ◌∙◌}
-use Prim.Native.Nat.{◌-◌}
 use native.Mathlib.Omega.{arith}
 use Rattle.byte_areas.proofs.Stores.{numbers_all, numbers_next, numbers_done}
 use Rattle.byte_areas.proofs.store_numbers.Goals as goal

@@ -9,4 +9,4 @@ pub returns : goal.returns
 returns c =
     let stored = c in
     let lent = stored.args in
-    stored.store_pair.ensures ∙ ap (λ n. result_after (n ∷ lent.total ∷ []) lent.res.now) (flag_number lent.allowed)
+    stored.store_result.ensures ∙ ap (λ n. result_after (n ∷ lent.total ∷ []) lent.res.now) (stored.from.ensures ∙ flag_number lent.allowed)

@@ -64,4 +64,4 @@ returns c =
     let s = total in
     let a = s.args in
     let room = room_yes a.region a.store.now s.requires a.patients.now a.tables.now a.entries.now a.res.now total.entry_total-total.ensures asked.has_room.ensures (ap not enough.if-not-has_room.false) in
-    all_laid a.region a.store.now s.requires a.patients.now a.tables.now a.entries.now a.res.now room first.store_patients.ensures second.store_tables.ensures third.store_entries.ensures total.entry_total-total.ensures counted.store_four.ensures
+    all_laid a.region a.store.now s.requires a.patients.now a.tables.now a.entries.now a.res.now room first.store_patients.ensures second.store_tables.ensures third.store_entries.ensures total.entry_total-total.ensures counted.store_result.ensures

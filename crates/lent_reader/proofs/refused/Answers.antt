@@ -2,4 +2,4 @@ use mathlib.Core.Path.{refl}
 use Rattle.lent_reader.proofs.refused.Goals as goal
 
 pub returns : goal.returns
-returns c = (refl, c.store_four.ensures)
+returns c = (refl, c.store_result.ensures)

@@ -6,4 +6,4 @@ returns c =
     let stored = c in
     let answered = stored in
     let a = answered.args in
-    call_answered a.patients.now a.tables.now a.entries.now a.m a.output.now a.res.now answered.answer_lent-written.ensures stored.store_count.ensures
+    call_answered a.patients.now a.tables.now a.entries.now a.m a.output.now a.res.now answered.answer_lent-written.ensures stored.store_result.ensures

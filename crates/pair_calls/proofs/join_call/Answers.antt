@@ -16,4 +16,4 @@ returns c =
     let a = long.args in
     let values = valued.join_values-joined.ensures in
     join_long a.first.now a.second.now a.output.now a.res.now (omega (arith, long.if-res-lt-PAIR.false))
-    joined.join.ensures values.0 values.2 values.1 stored.store_pair.ensures
+    joined.join.ensures values.0 values.2 values.1 stored.store_result.ensures

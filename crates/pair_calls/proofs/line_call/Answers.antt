@@ -15,7 +15,7 @@ returns-then-found-eq0 c =
     let found = fine in
     let a = found.args in
     line_long a.file.now a.typed.now a.res.now (omega (arith, found.if-res-lt-PAIR.false)) found.find_line-found.ensures
-    (stored.store_pair.ensures ∙ found_numbers found.find_line-found.result a.res.now fine.if-found-eq0.true)
+    (stored.store_result.ensures ∙ found_numbers found.find_line-found.result a.res.now fine.if-found-eq0.true)
 
 pub returns-else-found-eq0 : goal.returns-else-found-eq0
 returns-else-found-eq0 c =
@@ -24,4 +24,4 @@ returns-else-found-eq0 c =
     let found = refused in
     let a = found.args in
     line_long a.file.now a.typed.now a.res.now (omega (arith, found.if-res-lt-PAIR.false)) found.find_line-found.ensures
-    (stored.store_pair-else-found-eq0.ensures ∙ refused_numbers found.find_line-found.result a.res.now refused.if-found-eq0.false)
+    (stored.store_result-else-found-eq0.ensures ∙ refused_numbers found.find_line-found.result a.res.now refused.if-found-eq0.false)
