@@ -1,6 +1,6 @@
 -- A refusal's number is not 0.
 use Rattle.std.specs.Prelude.{◌-◌, ◌≡◌}
-use Rattle.definitions.specs.Basics.{ℕ, suc, refl}
+use Rattle.definitions.specs.Basics.{suc, refl}
 use Rattle.held_region.specs.declared.Refusal.{Refusal}
 use Rattle.held_region.specs.declared.Refusal.TheVariants.{TooLong, Layout, Counts, Sum, Limits, Patients, Members, EntryCounts, Entries, Ancestors}
 use Rattle.answers.specs.Answers.{refusal_number}

@@ -2,35 +2,37 @@
 #![tactic(auto)]
 
 ghost use Rattle.std.specs.Prelude.{◌≡◌};
-ghost use Rattle.answers.specs.Answers.{checked_number, refusal_number, listed_number, listed_rows, sheeted_number, sheeted_rows, not_allowed, priced_outcome, values_of};
+ghost use Rattle.definitions.specs.Basics.{ℕ};
+ghost use Rattle.answers.specs.Answers.{refusal_number, checked_number, list_error_number, sheet_error_number, price_error_number, number_by, count_in, not_allowed, priced_outcome, values_of};
 ghost use Rattle.answers.specs.Rooms.{or_twelve};
+ghost use Rattle.answers.specs.declared.ListError.TheVariants as Lists;
+ghost use Rattle.answers.specs.declared.SheetError.TheVariants as Sheets;
+ghost use Rattle.answers.specs.declared.PriceError.TheVariants as Prices;
 
-use held_region::{Judged, Refusal};
+use held_region::Refusal;
 
-// The number of the question that was answered no.
-pub fn refusal_number(refusal: Refusal) -> u64
-    ensures { result ≡ refusal_number refusal }
-{
-    match refusal {
-        Refusal::TooLong => 1,
-        Refusal::Layout => 2,
-        Refusal::Counts => 3,
-        Refusal::Sum => 4,
-        Refusal::Limits => 5,
-        Refusal::Patients => 6,
-        Refusal::Members => 7,
-        Refusal::EntryCounts => 8,
-        Refusal::Entries => 9,
-        Refusal::Ancestors => 10,
+// Why a question was answered no: each reason has the question's number.
+pub trait Numbered {
+    ghost number_in: { Self → ℕ };
+
+    fn number(self) -> u64
+        ensures { result ≡ number_in self };
+}
+
+impl Numbered for Refusal {
+    ghost number_in = { refusal_number };
+
+    fn number(self) -> u64 {
+        self as u64
     }
 }
 
-pub fn checked_number(answer: Judged) -> u64
+pub fn checked_number(answer: Result<(), Refusal>) -> u64
     ensures { result ≡ checked_number answer }
 {
     match answer {
-        Judged::Fine => 0,
-        Judged::Refused(refusal) => refusal_number(refusal),
+        Ok(()) => 0,
+        Err(refusal) => refusal.number(),
     }
 }
 
@@ -41,74 +43,116 @@ pub fn or_twelve(number: u64) -> u64
     if number == 0 { 12 } else { number }
 }
 
-// List's answer, with the row count. Short: question 12 is answered no. Nothing: question 13 is.
-#[derive(Clone, Copy)]
-pub enum Listed {
+// Why list gives no rows. Short: question 12 is answered no. Nothing: question 13 is.
+#[derive(Clone, Copy, PartialEq, Eq)]
+pub enum ListError {
     Refused(Refusal),
     Short,
     Nothing,
-    Rows(usize),
 }
 
-// Sheet's answer, with the row count. Absent: question 11 is answered no.
-#[derive(Clone, Copy)]
-pub enum Sheeted {
+impl From<Refusal> for ListError {
+    ghost from_gives = { λ refusal error. error ≡ Lists.Refused refusal };
+
+    fn from(refused: Refusal) -> ListError {
+        ListError::Refused(refused)
+    }
+}
+
+impl Numbered for ListError {
+    ghost number_in = { list_error_number };
+
+    fn number(self) -> u64 {
+        match self {
+            ListError::Refused(refusal) => refusal.number(),
+            ListError::Short => 12,
+            ListError::Nothing => 13,
+        }
+    }
+}
+
+// Why sheet gives no rows. Absent: question 11 is answered no.
+#[derive(Clone, Copy, PartialEq, Eq)]
+pub enum SheetError {
     Refused(Refusal),
     Absent,
     Short,
     Nothing,
-    Rows(usize),
 }
 
-// The same as list and sheet give it back: the number, and how many rows were written.
+impl From<Refusal> for SheetError {
+    ghost from_gives = { λ refusal error. error ≡ Sheets.Refused refusal };
+
+    fn from(refused: Refusal) -> SheetError {
+        SheetError::Refused(refused)
+    }
+}
+
+impl Numbered for SheetError {
+    ghost number_in = { sheet_error_number };
+
+    fn number(self) -> u64 {
+        match self {
+            SheetError::Refused(refusal) => refusal.number(),
+            SheetError::Absent => 11,
+            SheetError::Short => 12,
+            SheetError::Nothing => 13,
+        }
+    }
+}
+
+// What a call gives back of an answer that counts: the number, and how many rows or bytes were written. C sees both side by side.
 #[derive(Clone, Copy)]
-pub struct RowValues {
+pub struct Counted {
     pub number: u64,
-    pub rows: usize,
+    pub count: usize,
 }
 
-fn row_values(number: u64, rows: usize) -> RowValues
-    ensures { (result.number ≡ number) × (result.rows ≡ rows) }
-{
-    RowValues {
-        number: number,
-        rows: rows,
+impl Counted {
+    // Nothing was written.
+    pub fn refused(number: u64) -> Counted
+        ensures { (result.number ≡ number) × (result.count ≡ 0) }
+    {
+        Counted { number, count: 0 }
+    }
+
+    pub fn of<E: Numbered>(answer: Result<usize, E>) -> Counted
+        ensures { (result.number ≡ number_by E.number_in answer) × (result.count ≡ count_in answer) }
+    {
+        match answer {
+            Ok(count) => Counted { number: 0, count },
+            Err(error) => Counted::refused(error.number()),
+        }
     }
 }
 
-pub fn list_values(answer: Listed) -> RowValues
-    ensures { (result.number ≡ listed_number answer) × (result.rows ≡ listed_rows answer) }
-{
-    match answer {
-        Listed::Refused(refusal) => row_values(refusal_number(refusal), 0),
-        Listed::Short => row_values(12, 0),
-        Listed::Nothing => row_values(13, 0),
-        Listed::Rows(n) => row_values(0, n),
-    }
-}
-
-pub fn sheet_values(answer: Sheeted) -> RowValues
-    ensures { (result.number ≡ sheeted_number answer) × (result.rows ≡ sheeted_rows answer) }
-{
-    match answer {
-        Sheeted::Refused(refusal) => row_values(refusal_number(refusal), 0),
-        Sheeted::Absent => row_values(11, 0),
-        Sheeted::Short => row_values(12, 0),
-        Sheeted::Nothing => row_values(13, 0),
-        Sheeted::Rows(n) => row_values(0, n),
-    }
-}
-
-// Price's answer. Misfit: question 14 is answered no.
-#[derive(Clone, Copy)]
-pub enum Priced {
+// Why price answers nothing of a plan. Misfit: question 14 is answered no.
+#[derive(Clone, Copy, PartialEq, Eq)]
+pub enum PriceError {
     Refused(Refusal),
     Misfit,
-    Forbidden,
-    Allowed(u64),
 }
 
-// The same as price gives it back: the number, whether the plan is allowed, and its total.
+impl From<Refusal> for PriceError {
+    ghost from_gives = { λ refusal error. error ≡ Prices.Refused refusal };
+
+    fn from(refused: Refusal) -> PriceError {
+        PriceError::Refused(refused)
+    }
+}
+
+impl Numbered for PriceError {
+    ghost number_in = { price_error_number };
+
+    fn number(self) -> u64 {
+        match self {
+            PriceError::Refused(refusal) => refusal.number(),
+            PriceError::Misfit => 14,
+        }
+    }
+}
+
+// What a call gives back of price's answer: the number, whether the plan is allowed, and its total. C sees them side by side.
 #[derive(Clone, Copy)]
 pub struct PriceValues {
     pub number: u64,
@@ -121,23 +165,23 @@ fn not_allowed(number: u64) -> PriceValues
     ensures { values_of result ≡ not_allowed number }
 {
     PriceValues {
-        number: number,
+        number,
         allowed: false,
         total: 0,
     }
 }
 
-pub fn price_values(answer: Priced) -> PriceValues
+// The answer is the plan's total, or none where the plan is forbidden.
+pub fn price_values(answer: Result<Option<u64>, PriceError>) -> PriceValues
     ensures { values_of result ≡ priced_outcome answer }
 {
     match answer {
-        Priced::Refused(refusal) => not_allowed(refusal_number(refusal)),
-        Priced::Misfit => not_allowed(14),
-        Priced::Forbidden => not_allowed(0),
-        Priced::Allowed(total) => PriceValues {
+        Err(error) => not_allowed(error.number()),
+        Ok(None) => not_allowed(0),
+        Ok(Some(total)) => PriceValues {
             number: 0,
             allowed: true,
-            total: total,
+            total,
         },
     }
 }

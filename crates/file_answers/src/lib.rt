@@ -3,61 +3,77 @@
 
 ghost use Rattle.std.specs.Prelude.{◌≡◌};
 ghost use Rattle.definitions.specs.Boundary.{file_number};
-ghost use Rattle.file_answers.specs.Answers.{written_number, written_count, joined_number, joined_which, joined_count};
+ghost use Rattle.file_answers.specs.Answers.{write_error_number, join_error_number, join_error_file, joined_number, joined_which, joined_count};
+ghost use Rattle.file_answers.specs.declared.WriteError.TheVariants as Writes;
 
-use answers::refusal_number;
+use answers::Numbered;
 use held_region::Refusal;
 
-// Write's answer, with the byte count. Short: question 15 is answered no.
-#[derive(Clone, Copy)]
-pub enum Written {
+// Why write gives no bytes. Short: question 15 is answered no.
+#[derive(Clone, Copy, PartialEq, Eq)]
+pub enum WriteError {
     Refused(Refusal),
     Short,
-    Bytes(usize),
 }
 
-// The same as write gives it back: the number, and how many bytes were written.
-#[derive(Clone, Copy)]
-pub struct WriteValues {
-    pub number: u64,
-    pub count: usize,
-}
+impl From<Refusal> for WriteError {
+    ghost from_gives = { λ refusal error. error ≡ Writes.Refused refusal };
 
-// A refused region has no bytes.
-pub fn not_written(number: u64) -> WriteValues
-    ensures { (result.number ≡ number) × (result.count ≡ 0) }
-{
-    WriteValues {
-        number: number,
-        count: 0,
+    fn from(refused: Refusal) -> WriteError {
+        WriteError::Refused(refused)
     }
 }
 
-pub fn write_values(answer: Written) -> WriteValues
-    ensures { (result.number ≡ written_number answer) × (result.count ≡ written_count answer) }
-{
-    match answer {
-        Written::Refused(refusal) => not_written(refusal_number(refusal)),
-        Written::Short => not_written(15),
-        Written::Bytes(n) => WriteValues {
-            number: 0,
-            count: n,
-        },
+impl Numbered for WriteError {
+    ghost number_in = { write_error_number };
+
+    fn number(self) -> u64 {
+        match self {
+            WriteError::Refused(refusal) => refusal.number(),
+            WriteError::Short => 15,
+        }
     }
 }
 
-// Join's answer, with the byte count. Shared: question 16 is answered no. TooMany: question 17 is. Short: question 15 is.
-#[derive(Clone, Copy)]
-pub enum Joined {
-    RefusedFirst(Refusal),
-    RefusedSecond(Refusal),
+// Why join gives no bytes. Shared: question 16 is answered no. TooMany: question 17 is. Short: question 15 is.
+#[derive(Clone, Copy, PartialEq, Eq)]
+pub enum JoinError {
+    FirstRefused(Refusal),
+    SecondRefused(Refusal),
     Shared,
     TooMany,
     Short,
-    Bytes(usize),
 }
 
-// The same as join gives it back: the number, which file it is about (0 neither, 1 the first, 2 the second), and how many bytes were written.
+impl Numbered for JoinError {
+    ghost number_in = { join_error_number };
+
+    fn number(self) -> u64 {
+        match self {
+            JoinError::FirstRefused(refusal) => refusal.number(),
+            JoinError::SecondRefused(refusal) => refusal.number(),
+            JoinError::Shared => 16,
+            JoinError::TooMany => 17,
+            JoinError::Short => 15,
+        }
+    }
+}
+
+impl JoinError {
+    // Which file the number is about: 0 neither, 1 the first, 2 the second.
+    pub fn file(self) -> u64
+        ensures { result ≡ file_number (join_error_file self) }
+    {
+        match self {
+            JoinError::FirstRefused(_) => 1,
+            JoinError::SecondRefused(_) => 2,
+            JoinError::Shared | JoinError::TooMany => 0,
+            JoinError::Short => 0,
+        }
+    }
+}
+
+// What a call gives back of join's answer: the number, which file it is about, and how many bytes were written. C sees them side by side.
 #[derive(Clone, Copy)]
 pub struct JoinValues {
     pub number: u64,
@@ -65,30 +81,19 @@ pub struct JoinValues {
     pub bytes: usize,
 }
 
-// Refused files have no bytes.
-fn not_joined(number: u64, which: u64) -> JoinValues
-    ensures { (result.number ≡ number) × (result.which ≡ which) × (result.bytes ≡ 0) }
-{
-    JoinValues {
-        number: number,
-        which: which,
-        bytes: 0,
-    }
-}
-
-pub fn join_values(answer: Joined) -> JoinValues
+pub fn join_values(answer: Result<usize, JoinError>) -> JoinValues
     ensures { (result.number ≡ joined_number answer) × (result.which ≡ file_number (joined_which answer)) × (result.bytes ≡ joined_count answer) }
 {
     match answer {
-        Joined::RefusedFirst(refusal) => not_joined(refusal_number(refusal), 1),
-        Joined::RefusedSecond(refusal) => not_joined(refusal_number(refusal), 2),
-        Joined::Shared => not_joined(16, 0),
-        Joined::TooMany => not_joined(17, 0),
-        Joined::Short => not_joined(15, 0),
-        Joined::Bytes(n) => JoinValues {
+        Ok(bytes) => JoinValues {
             number: 0,
             which: 0,
-            bytes: n,
+            bytes,
+        },
+        Err(error) => JoinValues {
+            number: error.number(),
+            which: error.file(),
+            bytes: 0,
         },
     }
 }

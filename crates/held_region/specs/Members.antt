@@ -10,7 +10,6 @@ use Rattle.lists.specs.Rising.{from_zero}
 use Rattle.lists.specs.Loops.{places_from, places_all, places_next, places_done}
 use Rattle.definitions.specs.Basics.{ℕ, suc, Bool, true, false, List, [], map, length, get_or, leb, ltb, below, every, every_two}
 use Rattle.definitions.specs.Limits.{within, member_count}
-use Rattle.definitions.specs.Syntax as Said
 use Rattle.definitions.specs.Questions.{members_right}
 use Rattle.held_region.specs.declared.Table.{Table}
 use Rattle.held_region.specs.declared.Region.{Region}

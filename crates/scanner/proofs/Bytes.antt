@@ -1,27 +1,22 @@
 -- Reading one byte by a class that it alone has, and what stands behind it.
 use mathlib.Core.Path.{◌≡◌, refl, sym, ap, ◌∙◌}
 use mathlib.Core.List.{List, [], ◌∷◌}
-use mathlib.Core.Bool.{true, false, not}
+use mathlib.Core.Bool.{true, false}
 use mathlib.Core.Option.{Option, none, some}
 use Prim.Native.Nat.{ℕ, suc, ◌+◌, ◌<◌}
 use Prim.Native.Char.{code}
 use native.Mathlib.Omega.{arith}
-use denote.Enum.Declared.{tag_of}
-use types.Run.{OneOf}
-use mir.Val.{has_key}
-use lib.Dec.{T, eqb}
+use lib.Dec.{eqb}
 use lib.ListN.{length, drop}
 use lib.Seq.{drop-drop}
 use borrow.Author.Tests.{ne_eqb, eqb-true}
-use Rattle.definitions.specs.Basics.{keep}
 use Rattle.definitions.specs.Layout.{exactly}
-use Rattle.scanner.specs.contracts.Class.{the_type}
 use Rattle.scanner.specs.declared.Class.{Class}
 use Rattle.scanner.specs.declared.Class.TheVariants.{Open, Close, Space, LineEnd, Other}
 use Rattle.scanner.specs.Classes.{class_of, first_class, is_of, class_says, ClassOfOne}
 use Rattle.scanner.specs.Words.{byte_there, byte_missing}
 use Rattle.scanner.specs.Answers.{ReadAt, Ahead}
-use Rattle.scanner.proofs.Classes.{apart, class_within}
+use Rattle.scanner.proofs.Classes.{class_within}
 
 pub opening : ClassOfOne Open (code "(")
 unfolding class_of

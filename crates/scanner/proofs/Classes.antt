@@ -11,12 +11,11 @@ use mir.Val.{has_key}
 use lib.Dec.{T, leb}
 use lib.ListN.{length, get_or, drop, drop_of_length-le}
 use lib.Seq.{drop-cons}
-use borrow.Author.Tests.{leb-true, le-leb, lt-leb, ne_eqb}
+use borrow.Author.Tests.{le-leb, lt-leb, ne_eqb}
 use Rattle.scanner.specs.declared.Class.{Class}
 use Rattle.scanner.specs.contracts.Class.{the_type}
 use Rattle.scanner.specs.declared.Class.TheVariants.{Digit, Letter, Other}
-use Rattle.lists.specs.Tests.{both}
-use Rattle.scanner.specs.Classes.{is_letter, class_of, first_class, NoDigit, digit_says, other_not}
+use Rattle.scanner.specs.Classes.{class_of, first_class, NoDigit, digit_says, other_not}
 
 -- A byte outside a range fails its test.
 module _ (b : ℕ) where

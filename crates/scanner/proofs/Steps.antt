@@ -1,15 +1,12 @@
 -- Reading one byte by its class: a hyphen, or what stands after an item.
 use mathlib.Core.Path.{◌≡◌, sym, ap, ◌∙◌}
-use mathlib.Core.List.{List, [], ◌∷◌}
+use mathlib.Core.List.{List}
 use mathlib.Core.Option.{some, map}
 use Prim.Native.Nat.{ℕ, ◌+◌, ◌<◌}
 use native.Mathlib.Omega.{arith}
 use lib.ListN.{length, drop}
 use lib.Seq.{drop-drop}
-use denote.Enum.Declared.{tag_of}
-use types.Run.{OneOf}
 use Rattle.definitions.specs.Layout.{Reader, number, hyphen_or_number}
-use Rattle.scanner.specs.contracts.Class.{the_type}
 use Rattle.scanner.specs.declared.Class.{Class}
 use Rattle.scanner.specs.declared.Class.TheVariants.{Close, Space, Hyphen}
 use Rattle.std.specs.Prelude as Code
@@ -17,7 +14,7 @@ use Rattle.scanner.specs.declared.ItemStep.TheVariants.{Next, Closed}
 use Rattle.scanner.specs.Classes.{first_class}
 use Rattle.scanner.specs.Answers.{ReadAt, number_read, entry_read, step_read}
 use Rattle.scanner.specs.Separators.{separator, separator_space, separator_close, separator_missing, hyphen_there, hyphen_missing}
-use Rattle.scanner.proofs.Classes.{apart, class_within}
+use Rattle.scanner.proofs.Classes.{class_within}
 
 module _ (s : List ℕ) (at : ℕ) where
   -- A reader that took one byte.

@@ -1,4 +1,4 @@
-use Rattle.std.proofs.Common.{[], ◌∷◌, ◌∙◌, sym}
+use Rattle.std.proofs.Common.{[], ◌∷◌}
 use Rattle.scanner.proofs.Bytes.{closing, line_end}
 use Rattle.scanner.proofs.Words.{then_read, then_missing}
 use Rattle.scanner.proofs.form_end_at.Goals as goal

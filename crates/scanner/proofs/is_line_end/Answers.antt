@@ -1,4 +1,4 @@
-use Rattle.std.proofs.Common.{◌≡◌, ◌∙◌, rules, true, false}
+use Rattle.std.proofs.Common.{◌≡◌, rules}
 use Rattle.scanner.specs.declared.Class.TheVariants.{LineEnd}
 use Rattle.scanner.proofs.Classes.{answered}
 use Rattle.scanner.proofs.Bytes.{line_end, byte_is, byte_is_not}

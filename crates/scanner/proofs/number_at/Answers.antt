@@ -1,9 +1,8 @@
 use mathlib.Core.Path.{sym, ◌∙◌}
-use Prim.Native.Nat.{◌-◌}
 use native.Mathlib.Omega.{arith}
 use Rattle.definitions.specs.Limits.{limits}
 use Rattle.scanner.proofs.Classes.{not_digit}
-use Rattle.scanner.proofs.Numbers.{reading_start, reading_ends, reading_missing, reading_within, reading_long, reading_zero, reading_fits, reading_more}
+use Rattle.scanner.proofs.Numbers.{reading_start, reading_ends, reading_missing, reading_long, reading_zero, reading_fits, reading_more}
 use Rattle.scanner.proofs.number_at.Goals as goal
 
 pub loop-d-init : goal.loop-d-init

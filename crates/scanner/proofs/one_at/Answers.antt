@@ -1,4 +1,4 @@
-use Rattle.std.proofs.Common.{◌≡◌, rules, sym, ◌∙◌, []}
+use Rattle.std.proofs.Common.{◌≡◌, rules, []}
 use Rattle.scanner.proofs.Bytes.{byte_read, byte_not_read}
 use Rattle.scanner.proofs.one_at.Goals as goal
 
