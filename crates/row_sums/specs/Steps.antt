@@ -1,5 +1,5 @@
 -- What the steps of the sums give: a row added to each of a list, and the sums copied back.
-use Rattle.std.specs.Prelude.{◌≤◌, ◌+◌, ◌-◌, ◌<◌, ◌≡◌, ◌&&◌, ◌∷◌, ◌++◌}
+use Rattle.std.specs.Prelude.{◌≤◌, ◌-◌, ◌<◌, ◌≡◌, ◌&&◌, ◌∷◌, ◌++◌}
 use Rattle.definitions.specs.Basics.{ℕ, zero, suc, Bool, eqb, ltb, List, [], map, length, take, sort}
 use Rattle.definitions.specs.Plans.{Row, compare_rows}
 use Rattle.lists.specs.Members.{◌∈◌}

@@ -1,13 +1,13 @@
 // The cheapest sums of a row of one list and a row of another.
-// The work area has three parts of 384 words: the list so far, the next list, and their sums.
+// The work area that the caller lends has three parts of 384 words: the list so far, the next list, and their sums.
 #![tactic(auto)]
 
 ghost use Rattle.std.specs.Prelude.{◌≡◌, ◌<◌, ◌≤◌, length};
 ghost use Rattle.row_sums.specs.Sums.{Asks, Gives};
-ghost use Rattle.row_sums.specs.Steps.{exceeds_last, AsksRow, GivesRow, Copied};
+ghost use Rattle.row_sums.specs.Steps.{exceeds_last, AsksRow, GivesRow};
 
 use packed_rows::{Row, add_rows};
-use row_list::{cost_at, insert, row_at, set_row};
+use row_list::{cost_at, insert, row_at};
 
 // Where the second and the third part start, and where the third ends.
 pub const SECOND: usize = 384;
@@ -21,10 +21,7 @@ fn exceeds_last(list: &[u32], n: usize, m: usize, cost: u64) -> bool
     requires { (0 < m) × (n ≤ m) × (m ≤ 64) × (384 ≤ length list.now) }
     ensures { result ≡ exceeds_last n m cost list.now }
 {
-    if n < m {
-        return false;
-    }
-    cost_at(list, m - 1) < cost
+    n == m && cost_at(list, m - 1) < cost
 }
 
 // Adds a row to each of the b rows of the next list, and inserts the sums among the n held.
@@ -34,31 +31,15 @@ fn insert_sums(work: &mut [u32], m: usize, n: usize, b: usize, x: Row) -> usize
     ensures { GivesRow m n b x work.old work.new result }
 {
     let mut count = n;
-    let mut j: usize = 0;
-    while j < b {
+    for j in 0..b {
         let cost = x.cost + cost_at(&work[SECOND..THIRD], j);
         if exceeds_last(&work[THIRD..END], count, m, cost) {
             return count;
         }
-        let y = row_at(&work[SECOND..THIRD], j);
-        let sum = add_rows(x, y);
+        let sum = add_rows(x, row_at(&work[SECOND..THIRD], j));
         count = insert(&mut work[THIRD..END], count, m, sum);
-        j += 1;
     }
     count
-}
-
-// Copies the first n sums over the list so far.
-fn copy_back(work: &mut [u32], n: usize)
-    requires { (n ≤ 64) × (1_152 ≤ length work.old) }
-    ensures { Copied n work.old work.new }
-{
-    let mut i: usize = 0;
-    while i < n {
-        let row = row_at(&work[THIRD..END], i);
-        set_row(&mut work[0..SECOND], i, row);
-        i += 1;
-    }
 }
 
 // The m cheapest sums of a row of the list so far and a row of the next list. They become the list so far.
@@ -66,13 +47,11 @@ pub fn combine(work: &mut [u32], m: usize, a: usize, b: usize) -> usize
     requires { Asks m a b work.old }
     ensures { Gives m a b work.old work.new result }
 {
-    let mut n: usize = 0;
-    let mut i: usize = 0;
-    while i < a {
-        let x = row_at(&work[0..SECOND], i);
+    let mut n = 0;
+    for i in 0..a {
+        let x = row_at(&work[..SECOND], i);
         n = insert_sums(work, m, n, b, x);
-        i += 1;
     }
-    copy_back(work, n);
+    work.copy_within(THIRD..THIRD + n * 6, 0);
     n
 }
