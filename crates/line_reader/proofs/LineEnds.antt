@@ -1,5 +1,5 @@
 -- Looking for a line end: what is left to pass is what was asked.
-use mathlib.Core.Path.{◌≡◌, refl, sym, ap, ap₂, ◌∙◌}
+use mathlib.Core.Path.{◌≡◌, sym, ap, ap₂, ◌∙◌}
 use mathlib.Core.List.{List, ◌∷◌}
 use Prim.Native.Nat.{ℕ, suc, ◌+◌, ◌-◌, ◌≤◌, ◌<◌}
 use native.Mathlib.Numerals.{add-one}
@@ -12,9 +12,6 @@ use borrow.Author.Tests.{eqb-true, eqb-false, not-true}
 use Rattle.definitions.specs.Layout.{lines}
 use Rattle.line_reader.specs.Answers.{LineEnd}
 use Rattle.line_reader.specs.Lines.{line_length, Seeking, no_end, no_end_in_four, line_ends, line_goes_on, lines_split}
-
-pub seeking_start : (s : List ℕ) (at : ℕ) → Seeking s at at
-seeking_start s at = record { low = omega arith; high = omega arith; same = refl }
 
 -- Where the first line's length is known, so is where it ends.
 split_at : (s : List ℕ) (at r : ℕ) → r ≡ at + line_length (drop at s) → at < length s → lines (drop at s) ≡ take (r - at) (drop at s) ∷ lines (drop r s)

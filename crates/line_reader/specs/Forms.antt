@@ -2,40 +2,39 @@
 use Rattle.std.proofs.Common.{sym, arith, ltb-true, ne_eqb, ◌^◌, ◌<◌, ◌≡◌, ◌∷◌, ◌++◌}
 use Rattle.std.proofs.Math.Path.{ap}
 use Rattle.theorems.specs.Numbers.{hyphen_reads}
-use Rattle.scanner.specs.Classes.{is_letter}
+use Rattle.std.specs.Prelude as Code
+use Rattle.line_reader.specs.declared.Kind.{Kind}
+use Rattle.line_reader.specs.declared.Kind.TheVariants.{Number, Optional}
 use Rattle.scanner.specs.Answers.{mark, code_of, said_by}
 use Rattle.scanner.specs.Words.{form_start}
 use Rattle.scanner.specs.Tokens.{Form, token, gives, read}
-use Rattle.definitions.specs.Basics.{ℕ, refl, Bool, true, false, cond, Option, none, some, option_map, bind, List, [], get_or, length, text, every, none_or}
+use Rattle.definitions.specs.Basics.{ℕ, refl, Bool, true, false, cond, Option, none, some, option_map, bind, List, [], get_or, text, none_or}
 use Rattle.definitions.specs.Limits.{digit_count, limits}
 use Rattle.definitions.specs.Spelling.{spellable}
 use Rattle.definitions.specs.Syntax.{Patient}
-use Rattle.definitions.specs.Layout.{Reader, ◌>>=◌, ◌>>◌, give, whole, exactly, word, number, hyphen_or_number, region_line, patient_line, end_line}
+use Rattle.definitions.specs.Layout.{Reader, ◌>>=◌, give, whole, exactly, word, number, hyphen_or_number, region_line, patient_line, end_line}
 
--- A field by its kind: may it be a hyphen?
-unfoldable pub field : Bool → Reader ℕ ℕ
-field true = do o ← hyphen_or_number; give (code_of o)
-field false = number
+-- A field by its kind.
+unfoldable pub field : Kind → Reader ℕ ℕ
+field Number = number
+field Optional = do o ← hyphen_or_number; give (code_of o)
 
 -- The fields that are left, after those of these values.
-abbrev pub fields_left : List Bool → List ℕ → Form (List ℕ)
+abbrev pub fields_left : List Kind → List ℕ → Form (List ℕ)
 fields_left [] values = token (word ")\n") λ _. gives values
 fields_left (k ∷ ks) values = token (word " ") λ _. token (field k) λ v. fields_left ks (values ++ v ∷ [])
 
-abbrev pub form : List ℕ → List Bool → Form (List ℕ)
+abbrev pub form : List ℕ → List Kind → Form (List ℕ)
 form word kinds = token (exactly (form_start word)) λ _. fields_left kinds []
 
 -- The values of the fields of a line that has the form and nothing behind it.
-unfoldable pub field_values : List ℕ → List Bool → List ℕ → Option (List ℕ)
+unfoldable pub field_values : List ℕ → List Kind → List ℕ → Option (List ℕ)
 field_values word kinds line = whole (read (form word kinds)) line
 
--- What a reader of a form is given: a word of letters, and a place for the value of each field.
-pub record FormAsked (word : List ℕ) (kinds : List Bool) (values : List ℕ) : Type 0 where
-  pub letters : every is_letter word ≡ true
-  pub wide : length values ≡ length kinds
-
-abbrev pub values_if : Bool → List ℕ → Option (List ℕ)
-values_if there values = cond there (some values) none
+-- What a reader of a form answers.
+abbrev pub values_read : Code.Option (List ℕ) → Option (List ℕ)
+values_read Code.None = none
+values_read (Code.Some values) = some values
 
 -- One reader after another, and what is made of what the last one gives.
 module _ {A B C : Type 0} where
@@ -69,11 +68,11 @@ said_by_lem (some n) h = let l = number_unmarked n h in rw (ne_eqb n mark (λ e.
 
 module _ (xs : List ℕ) where
   -- What the definition reads, by the value of the field.
-  number_by_value : number xs ≡ field false xs
+  number_by_value : number xs ≡ field Number xs
   unfolding field
   number_by_value = refl
 
-  hyphen_by_value : hyphen_or_number xs ≡ (do v ← field true; give (said_by v)) xs
+  hyphen_by_value : hyphen_or_number xs ≡ (do v ← field Optional; give (said_by v)) xs
   unfolding field bind
   hyphen_by_value = go (hyphen_or_number xs) (λ p ys e. (hyphen_reads.only e).0)
     where
@@ -93,14 +92,14 @@ abbrev pub end_said : List ℕ → ℕ
 end_said values = get_or values 0 0
 
 module _ (xs : List ℕ) where
-  pub region_form : whole region_line xs ≡ option_map region_said (field_values (text "region") (false ∷ false ∷ false ∷ []) xs)
+  pub region_form : whole region_line xs ≡ option_map region_said (field_values (text "region") (Number ∷ Number ∷ Number ∷ []) xs)
   unfolding region_line field_values
   region_form = simp (number_by_value, bind_bind, bind_some, map_bind, map_cond)
 
-  pub patient_form : whole patient_line xs ≡ option_map patient_said (field_values (text "patient") (false ∷ false ∷ true ∷ true ∷ []) xs)
+  pub patient_form : whole patient_line xs ≡ option_map patient_said (field_values (text "patient") (Number ∷ Number ∷ Optional ∷ Optional ∷ []) xs)
   unfolding patient_line field_values
   patient_form = simp (hyphen_by_value, number_by_value, bind_bind, bind_some, map_bind, map_cond)
 
-  pub end_form : whole end_line xs ≡ option_map end_said (field_values (text "end") (false ∷ []) xs)
+  pub end_form : whole end_line xs ≡ option_map end_said (field_values (text "end") (Number ∷ []) xs)
   unfolding end_line field_values
   end_form = simp (number_by_value, bind_bind, bind_some, map_bind, map_cond)

@@ -7,15 +7,16 @@ ghost use Rattle.definitions.specs.Limits.{file_length, limits};
 ghost use Rattle.definitions.specs.Questions.{checksum};
 ghost use Rattle.scanner.specs.Answers.{ReadAt, number_read};
 ghost use Rattle.line_reader.specs.Answers.{LineEnd, region_read, patient_read, end_read};
-ghost use Rattle.line_reader.specs.Forms.{FormAsked, field, field_values, values_if};
+ghost use Rattle.line_reader.specs.Forms.{field, field_values, values_read};
 ghost use Rattle.line_reader.specs.Lines.{Seeking, no_end_in_four};
 
+use held_region::Patient;
 use scanner::{
-    Entry, Number, Optional, Passed, code_of, form_end_at, form_start_at, hyphen_or_number_at,
-    is_line_end, number_at, said_by, space_at,
+    code_of, form_end_at, form_start_at, hyphen_or_number_at, is_line_end, number_at, said_by,
+    space_at,
 };
 
-// Is none of the four bytes from a place on a line end?
+// Is none of the four bytes from a place on a line end? Written out, and not a loop over the four: every byte of a file passes here.
 fn no_end_in_four(s: &[u8], at: usize) -> bool
     requires { at + 4 ≤ length s.now }
     ensures { result ≡ no_end_in_four s.now at }
@@ -24,7 +25,8 @@ fn no_end_in_four(s: &[u8], at: usize) -> bool
         && (!is_line_end(s[at + 1]) && (!is_line_end(s[at + 2]) && !is_line_end(s[at + 3])))
 }
 
-// A place on the line that begins at a place: eight bytes at a time are passed while none of them ends the line.
+// A place on the line that begins at a place: eight bytes at a time are passed while none of them ends the line,
+// which is faster than a test of the end of the file for each.
 fn pass_eights(s: &[u8], at: usize) -> usize
     ensures { Seeking s.now at result }
 {
@@ -48,12 +50,10 @@ fn pass_eights(s: &[u8], at: usize) -> usize
 pub fn line_end(s: &[u8], at: usize) -> usize
     ensures { LineEnd s.now at result }
 {
-    let mut i = pass_eights(s, at);
-    while i < s.len() {
+    for i in pass_eights(s, at)..s.len() {
         if is_line_end(s[i]) {
             return i + 1;
         }
-        i += 1;
     }
     s.len()
 }
@@ -66,115 +66,88 @@ pub fn checksum_of(s: &[u8]) -> u32
     ensures { result ≡ checksum s.now }
 {
     let mut sum: u32 = 0;
-    let mut i = 0;
-    while i < s.len() {
-        sum += s[i] as u32;
-        i += 1;
+    for b in s {
+        sum += u32::from(*b);
     }
     sum % MODULUS
 }
 
-// A field's kind: may it be a hyphen?
-const NUMBER: bool = false;
-
-const OPTIONAL: bool = true;
+// What a field may be: a number, or a hyphen in its place.
+#[derive(Clone, Copy, PartialEq, Eq)]
+enum Kind {
+    Number,
+    Optional,
+}
 
 // The value of a field of this kind, and the place after it.
-fn field_at(line: &[u8], at: usize, hyphen: bool) -> Number
-    ensures { ReadAt (field hyphen) line.now at (number_read result) }
+fn field_at(line: &[u8], at: usize, kind: Kind) -> Option<(u32, usize)>
+    ensures { ReadAt (field kind) line.now at (number_read result) }
 {
-    if hyphen {
-        match hyphen_or_number_at(line, at) {
-            Entry::Is(field, next) => Number::Value(code_of(field), next),
-            Entry::Nothing => Number::Nothing,
+    match kind {
+        Kind::Number => number_at(line, at),
+        Kind::Optional => {
+            let (said, next) = hyphen_or_number_at(line, at)?;
+            Some((code_of(said), next))
         }
-    } else {
-        number_at(line, at)
     }
 }
 
-// Is a line a form of this word, with fields of these kinds, one space before each? Then the values are theirs.
-fn read_form(line: &[u8], word: &[u8], kinds: &[bool], values: &mut [u32]) -> bool
-    requires { FormAsked word.now kinds.now values.old }
-    ensures { values_if result values.new ≡ field_values word.now kinds.now line.now }
+// The values of a line that is a form of this word, with fields of these kinds, one space before each.
+fn read_form<const N: usize>(line: &[u8], word: &[u8], kinds: &[Kind; N]) -> Option<[u32; N]>
+    ensures { values_read result ≡ field_values word.now kinds.now line.now }
 {
-    let Passed::At(start) = form_start_at(line, 0, word) else {
-        return false;
-    };
-    let mut at = start;
-    let mut k = 0;
-    while k < kinds.len() {
-        let Passed::At(begin) = space_at(line, at) else {
-            return false;
-        };
-        let Number::Value(value, next) = field_at(line, begin, kinds[k]) else {
-            return false;
-        };
+    let mut values = [0; N];
+    let mut at = form_start_at(line, 0, word)?;
+    for (k, kind) in kinds.iter().enumerate() {
+        let begin = space_at(line, at)?;
+        let (value, next) = field_at(line, begin, *kind)?;
         values[k] = value;
         at = next;
-        k += 1;
     }
-    let Passed::At(end) = form_end_at(line, at) else {
-        return false;
-    };
-    line.len() <= end
+    let end = form_end_at(line, at)?;
+    if line.len() <= end {
+        Some(values)
+    } else {
+        None
+    }
 }
 
 // The region line's counts of patients and tables, and the number of plans wanted.
 #[derive(Clone, Copy)]
-pub enum RegionLine {
-    Is(u32, u32, u32),
-    Other,
+pub struct RegionLine {
+    pub v: u32,
+    pub t: u32,
+    pub m: u32,
 }
 
-pub fn region_line(line: &[u8]) -> RegionLine
+pub fn region_line(line: &[u8]) -> Option<RegionLine>
     ensures { region_read result ≡ whole region_line line.now }
 {
-    let mut values = [0; 3];
-    if read_form(line, b"region", &[NUMBER, NUMBER, NUMBER], &mut values) {
-        RegionLine::Is(values[0], values[1], values[2])
-    } else {
-        RegionLine::Other
-    }
+    let [v, t, m] = read_form(line, b"region", &[Kind::Number; 3])?;
+    Some(RegionLine { v, t, m })
 }
 
 // A patient's clinic and count of beds; its parent, a hyphen at a root; its fixed bed, a hyphen where the patient is free.
-#[derive(Clone, Copy)]
-pub enum PatientLine {
-    Is(u32, u32, Optional, Optional),
-    Other,
-}
-
-pub fn patient_line(line: &[u8]) -> PatientLine
+pub fn patient_line(line: &[u8]) -> Option<Patient>
     ensures { patient_read result ≡ whole patient_line line.now }
 {
-    let mut values = [0; 4];
-    if read_form(
+    let [clinic, beds, parent, fixed] = read_form(
         line,
         b"patient",
-        &[NUMBER, NUMBER, OPTIONAL, OPTIONAL],
-        &mut values,
-    ) {
-        PatientLine::Is(values[0], values[1], said_by(values[2]), said_by(values[3]))
-    } else {
-        PatientLine::Other
-    }
+        &[Kind::Number, Kind::Number, Kind::Optional, Kind::Optional],
+    )?;
+    Some(Patient {
+        clinic,
+        beds,
+        parent: said_by(parent),
+        fixed: said_by(fixed),
+    })
 }
 
 // The end line's sum.
-#[derive(Clone, Copy)]
-pub enum EndLine {
-    Is(u32),
-    Other,
-}
-
-pub fn end_line(line: &[u8]) -> EndLine
+pub fn end_line(line: &[u8]) -> Option<u32>
     ensures { end_read result ≡ whole end_line line.now }
 {
-    let mut values = [0; 1];
-    if read_form(line, b"end", &[NUMBER], &mut values) {
-        EndLine::Is(values[0])
-    } else {
-        EndLine::Other
-    }
+    let [sum] = read_form(line, b"end", &[Kind::Number])?;
+    Some(sum)
 }

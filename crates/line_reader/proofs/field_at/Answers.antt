@@ -1,17 +1,13 @@
-use mathlib.Core.Path.{ap}
+use Rattle.std.proofs.Common.{ap}
 use Rattle.scanner.specs.Answers.{entry_read}
 use Rattle.line_reader.proofs.Forms.{number_field, hyphen_field, hyphen_field_missing}
 use Rattle.line_reader.proofs.field_at.Goals as goal
 
-pub returns-in-Is : goal.returns-in-Is
-returns-in-Is c =
-    let read = c in
-    hyphen_field read.if-hyphen.true read.hyphen_or_number_at.ensures (ap entry_read c.in-Is.is) c.code_of.ensures
+pub returns-in-Number : goal.returns-in-Number
+returns-in-Number c = number_field c.in-Number.is c.number_at.ensures
 
-pub returns-in-Nothing : goal.returns-in-Nothing
-returns-in-Nothing c =
-    let read = c in
-    hyphen_field_missing read.if-hyphen.true read.hyphen_or_number_at.ensures (ap entry_read c.in-Nothing.is)
+pub returns-in_err-said-in-Optional : goal.returns-in_err-said-in-Optional
+returns-in_err-said-in-Optional c = rw c.from_residual.ensures (hyphen_field_missing c.in-Optional.is c.hyphen_or_number_at.ensures (ap entry_read c.in_err-said-in-Optional.was))
 
-pub returns-else-hyphen : goal.returns-else-hyphen
-returns-else-hyphen c = number_field c.if-hyphen.false c.number_at.ensures
+pub returns-in_ok-said-in-Optional : goal.returns-in_ok-said-in-Optional
+returns-in_ok-said-in-Optional c = hyphen_field c.in-Optional.is c.hyphen_or_number_at.ensures (ap entry_read c.in_ok-said-in-Optional.was) c.code_of.ensures

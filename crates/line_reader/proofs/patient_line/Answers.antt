@@ -1,11 +1,10 @@
-use Rattle.line_reader.specs.Forms.{patient_said, patient_form}
+use Rattle.std.proofs.Common.{sym, ap, ◌∙◌}
+use Rattle.line_reader.specs.Forms.{patient_said, patient_form, values_read}
 use Rattle.line_reader.proofs.Forms.{said_there, said_missing}
 use Rattle.line_reader.proofs.patient_line.Goals as goal
 
-pub returns-then-read_form : goal.returns-then-read_form
-returns-then-read_form c =
-    let there = c in
-    rw (c.said_by.ensures, c.said_by-then-read_form.ensures) (said_there patient_said _ (patient_form _) there.read_form.ensures there.if-read_form.true)
+pub returns-in_err-clinic : goal.returns-in_err-clinic
+returns-in_err-clinic c = rw c.from_residual.ensures (said_missing patient_said (patient_form _) (sym (ap values_read c.in_err-clinic.was) ∙ c.read_form.ensures))
 
-pub returns-else-read_form : goal.returns-else-read_form
-returns-else-read_form c = said_missing patient_said _ (patient_form _) c.read_form.ensures c.if-read_form.false
+pub returns : goal.returns
+returns c = rw (c.said_by.ensures, c.said_by-2.ensures) (said_there patient_said (patient_form _) _ (sym (ap values_read c.in_ok-clinic.was) ∙ c.read_form.ensures))

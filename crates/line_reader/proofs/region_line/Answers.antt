@@ -1,9 +1,10 @@
-use Rattle.line_reader.specs.Forms.{region_said, region_form}
+use Rattle.std.proofs.Common.{sym, ap, ◌∙◌}
+use Rattle.line_reader.specs.Forms.{region_said, region_form, values_read}
 use Rattle.line_reader.proofs.Forms.{said_there, said_missing}
 use Rattle.line_reader.proofs.region_line.Goals as goal
 
-pub returns-then-read_form : goal.returns-then-read_form
-returns-then-read_form c = said_there region_said _ (region_form _) c.read_form.ensures c.if-read_form.true
+pub returns-in_err-v : goal.returns-in_err-v
+returns-in_err-v c = rw c.from_residual.ensures (said_missing region_said (region_form _) (sym (ap values_read c.in_err-v.was) ∙ c.read_form.ensures))
 
-pub returns-else-read_form : goal.returns-else-read_form
-returns-else-read_form c = said_missing region_said _ (region_form _) c.read_form.ensures c.if-read_form.false
+pub returns : goal.returns
+returns c = said_there region_said (region_form _) _ (sym (ap values_read c.in_ok-v.was) ∙ c.read_form.ensures)
