@@ -1,11 +1,12 @@
 -- The entries of one table after the other, counted and compared with the products of bed counts.
 use mathlib.Core.Path.{◌≡◌, refl, sym, ap, ◌∙◌}
-use mathlib.Core.Bool.{false≢true}
 use Prim.Native.Nat.{◌≤◌}
 use native.Mathlib.Numerals.{add-one}
 use native.Mathlib.Omega.{arith}
 use borrow.Author.Tests.{eq-eqb, ne_eqb}
-use Rattle.std.specs.Prelude.{◌+◌, ◌*◌, ◌<◌, ◌&&◌}
+use Rattle.std.specs.Prelude.{Option, Some, None, ◌+◌, ◌*◌, ◌<◌, ◌&&◌}
+use Rattle.std.specs.Option.{is_some}
+use Rattle.std.specs.Bool.{then_some}
 use Rattle.definitions.specs.Basics.{ℕ, Bool, true, false, List, map, eqb, product}
 use Rattle.definitions.specs.Limits.{within, entry_count}
 use Rattle.definitions.specs.Questions.{entry_counts_right}
@@ -34,11 +35,11 @@ module _ (h : Region) (sound : Sound h) where
 
   module _ {n i : ℕ} (c : Counting h n i) where
     module _ {beds : ℕ} (more : i < h.t) (is : beds ≡ product_in h i) where
-      pub counting_wrong : ((table_in h i).entries ≡ beds → ⊥) → EntriesCounted h (record { right = false; total = 0 })
+      pub counting_wrong : ((table_in h i).entries ≡ beds → ⊥) → EntriesCounted h None
       unfolding entry_counts_right
       counting_wrong other = record {
         asked = λ store. let wrong = ask_no _ _ i more (ne_eqb _ _ (λ e. other (e ∙ sym is))) (c.asked store) in ap (λ b. b && within entry_count (entries_of (said h store).tables)) wrong;
-        total = λ e. absurd (false≢true e);
+        total = λ k e. absurd (cc);
       }
 
       module _ (same : (table_in h i).entries ≡ beds) where
@@ -53,14 +54,22 @@ module _ (h : Region) (sound : Sound h) where
           asked = λ store. ask_yes _ _ i more (eq-eqb _ _ (same ∙ is)) (c.asked store);
         }
 
-    pub counting_done : h.t ≤ i → {fits : Bool} → fits ≡ within entry_count n → EntriesCounted h (record { right = fits; total = n })
+    pub counting_done : h.t ≤ i → {counted : Option ℕ} {fits : Bool} → counted ≡ then_some fits n → fits ≡ within entry_count n → EntriesCounted h counted
     unfolding entry_counts_right
-    counting_done end {fits} e =
+    counting_done end {counted} {fits} is e =
         let last : i ≡ h.t = omega (arith, c.place) in
         let all : n ≡ start_in h h.t = c.sum ∙ ap (start_in h) last in
         record {
           asked = λ store.
-              e ∙ ap (within entry_count) (all ∙ sym (total_said h store))
+              ap is_some is ∙ some_where fits ∙ e ∙ ap (within entry_count) (all ∙ sym (total_said h store))
               ∙ ap (λ b. b && within entry_count (entries_of (said h store).tables)) (ask_done _ _ i end (c.asked store));
-          total = λ _. all;
+          total = λ k some. that fits k (sym is ∙ some) ∙ all;
         }
+      where
+        some_where : (b : Bool) → is_some (then_some b n) ≡ b
+        some_where true = refl
+        some_where false = refl
+
+        that : (b : Bool) (k : ℕ) → then_some b n ≡ Some k → k ≡ n
+        that true k s = cc
+        that false k s = absurd (cc)

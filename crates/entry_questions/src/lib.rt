@@ -12,17 +12,13 @@ use held_region::{FORBIDDEN, Patient, Region, Table};
 use limits::{Field, within};
 
 // How many beds the members of a table have together: the product.
-fn bed_product(patients: [Patient; 32], table: Table) -> usize
-    requires { BedsRead patients table }
-    ensures { result ≡ product (map (bed_count_in patients) (members_of table)) }
+fn bed_product(patients: &[Patient; 32], table: Table) -> usize
+    requires { BedsRead patients.now table }
+    ensures { result ≡ product (map (bed_count_in patients.now) (members_of table)) }
 {
     let mut n: usize = 1;
-    let mut i = 0;
-    while i < table.members {
-        let s = table.first[i] as usize;
-        let patient = patients[s];
-        n = n * (patient.beds as usize);
-        i += 1;
+    for i in 0..table.members {
+        n *= patients[table.first[i] as usize].beds as usize;
     }
     n
 }
@@ -33,45 +29,26 @@ pub fn entry_total(region: Region) -> usize
     ensures { result ≡ start_in region region.t }
 {
     let mut total: usize = 0;
-    let mut i = 0;
-    while i < region.t {
-        let table = region.tables[i];
-        total += table.entries;
-        i += 1;
+    for i in 0..region.t {
+        total += region.tables[i].entries;
     }
     total
 }
 
-// Whether question 8 is answered yes, and then how many entries there are.
-#[derive(Clone, Copy)]
-pub struct Counts {
-    pub right: bool,
-    pub total: usize,
-}
-
-// 8. Has each table as many entries as the product of its members' bed counts, and have all together their place?
-pub fn entry_counts(region: Region) -> Counts
+// 8. Has each table as many entries as the product of its members' bed counts, and have all together their place? Then this is how many there are.
+pub fn entry_counts(region: Region) -> Option<usize>
     requires { Sound region }
     ensures { EntriesCounted region result }
 {
-    let patients = region.patients;
     let mut n: usize = 0;
-    let mut i = 0;
-    while i < region.t {
+    for i in 0..region.t {
         let table = region.tables[i];
-        if table.entries != bed_product(patients, table) {
-            return Counts {
-                right: false,
-                total: 0,
-            };
+        if table.entries != bed_product(&region.patients, table) {
+            return None;
         }
         n += table.entries;
-        i += 1;
     }
-    Counts {
-        right: within(Field::EntryCount, n),
-        total: n,
-    }
+    within(Field::EntryCount, n).then_some(n)
 }
 
 fn entry_fits(entry: u32) -> bool
@@ -85,12 +62,5 @@ pub fn entries_fit(entries: &[u32; 4096], total: usize) -> bool
     requires { total ≤ 4096 }
     ensures { result ≡ store_fits total entries.now }
 {
-    let mut i = 0;
-    while i < total {
-        if !entry_fits(entries[i]) {
-            return false;
-        }
-        i += 1;
-    }
-    true
+    entries[..total].iter().all(|entry| entry_fits(*entry))
 }

@@ -10,7 +10,10 @@ use Rattle.held_region.specs.declared.Region as Held
 use Rattle.held_region.specs.Meaning.{said}
 use Rattle.held_region.specs.Entries.{store_fits, total_said, total_most, entries_asked}
 use Rattle.held_region.specs.Refusals.{asked, last_asked}
-use Rattle.entry_questions.specs.declared.Counts.{Counts}
+use Rattle.std.specs.Prelude.{Option, Some, None, Ok, Err, refl}
+use Rattle.std.specs.Option.{ok_or}
+use Rattle.held_region.specs.declared.Refusal.{Refusal}
+use Rattle.std.specs.Option.{is_some}
 use Rattle.entry_questions.specs.Counting.{EntriesCounted}
 
 module _ (r : Region) (parents : Bool) where
@@ -55,9 +58,19 @@ module _ (r : Region) (parents : Bool) where
       all_yes_lem p e = simp (eight, nine, p, e)
 
 -- Where question 8 is answered yes, question 9 is asked of the store as far as the total says.
-module _ (h : Held.Region) (store : List ℕ) {c : Counts} (counted : EntriesCounted h c) (right : c.right ≡ true) where
-  pub total_fits : c.total ≤ 4096
-  total_fits = omega (arith, counted.total right, total_said h store, total_most (said h store) (sym (counted.asked store) ∙ right))
+module _ (h : Held.Region) (store : List ℕ) {c : Option ℕ} (counted : EntriesCounted h c) {total : ℕ} (right : c ≡ Some total) where
+  pub eight_yes : entry_counts_right (said h store) ≡ true
+  eight_yes = sym (counted.asked store) ∙ ap is_some right
 
-  pub nine_asked : {answer : Bool} → answer ≡ store_fits c.total store → answer ≡ entries_within (said h store)
-  nine_asked e = e ∙ ap (λ n. store_fits n store) (counted.total right) ∙ sym (entries_asked h store)
+  pub total_fits : total ≤ 4096
+  total_fits = omega (arith, counted.total total right, total_said h store, total_most (said h store) eight_yes)
+
+  pub nine_asked : {answer : Bool} → answer ≡ store_fits total store → answer ≡ entries_within (said h store)
+  nine_asked e = e ∙ ap (λ n. store_fits n store) (counted.total total right) ∙ sym (entries_asked h store)
+
+-- What was counted, where the count went on as a result.
+pub counted_some : {o : Option ℕ} (refusal : Refusal) {n : ℕ} → ok_or o refusal ≡ Ok n → o ≡ Some n
+counted_some {o} refusal {n} e = elim o as (λ p. ok_or p refusal ≡ Ok n → p ≡ Some n) [ Some k ↦ λ f. cc | None ↦ λ f. absurd (cc) ] e
+
+pub counted_none : {o : Option ℕ} (refusal : Refusal) {other : Refusal} → ok_or o refusal ≡ Err other → (o ≡ None) × (refusal ≡ other)
+counted_none {o} refusal {other} e = elim o as (λ p. ok_or p refusal ≡ Err other → (p ≡ None) × (refusal ≡ other)) [ Some k ↦ λ f. absurd (cc) | None ↦ λ f. (refl, cc) ] e

@@ -9,33 +9,31 @@ ghost use Rattle.held_region.specs.Asked.{patient_fits, none_or_below};
 
 use held_region::{Patient, Region, Table};
 use limits::{Field, within};
-use scanner::Optional;
 
 // 5. Are V, T and m within their limits?
+#[tactic(auto, unfolding(definitions::specs::Questions::counts_within, held_region::specs::Meaning::said))]
 pub fn counts_fit(region: Region) -> bool
     ensures { (store : List ℕ) → result ≡ counts_within (said region store) }
 {
     within(Field::PatientCount, region.v)
-        && (within(Field::TableCount, region.t) && within(Field::PlansWanted, region.m))
+        && within(Field::TableCount, region.t)
+        && within(Field::PlansWanted, region.m)
 }
 
-// Is a field a hyphen, or a number below n?
-fn none_or_below(field: Optional, n: usize) -> bool
+// Is there no number in a field, or one below n?
+fn none_or_below(field: Option<u32>, n: usize) -> bool
     ensures { result ≡ none_or_below (optional field) n }
 {
-    match field {
-        Optional::Hyphen => true,
-        Optional::Number(k) => (k as usize) < n,
-    }
+    field.is_none_or(|k| (k as usize) < n)
 }
 
 fn patient_fits(patient: Patient) -> bool
     ensures { result ≡ patient_fits (patient_of patient) }
 {
     let beds = patient.beds as usize;
-    let fixed = patient.fixed;
     within(Field::Clinic, patient.clinic as usize)
-        && (within(Field::BedCount, beds) && none_or_below(fixed, beds))
+        && within(Field::BedCount, beds)
+        && none_or_below(patient.fixed, beds)
 }
 
 // 6, but for parents: is each clinic and bed count within its limits, each fixed bed below the count?
@@ -43,16 +41,7 @@ pub fn patients_fit(region: Region) -> bool
     requires { HasPlaces region }
     ensures { (store : List ℕ) → result ≡ patients_within (said region store) }
 {
-    let patients = region.patients;
-    let mut s = 0;
-    while s < region.v {
-        let patient = patients[s];
-        if !patient_fits(patient) {
-            return false;
-        }
-        s += 1;
-    }
-    true
+    (0..region.v).all(|s| patient_fits(region.patients[s]))
 }
 
 // 6, of parents: has each a smaller number than the patient's own?
@@ -60,17 +49,7 @@ pub fn parents_smaller(region: Region) -> bool
     requires { HasPlaces region }
     ensures { (store : List ℕ) → result ≡ parents_smaller (said region store) }
 {
-    let patients = region.patients;
-    let mut s = 0;
-    while s < region.v {
-        let patient = patients[s];
-        let parent = patient.parent;
-        if !none_or_below(parent, s) {
-            return false;
-        }
-        s += 1;
-    }
-    true
+    (0..region.v).all(|s| none_or_below(region.patients[s].parent, s))
 }
 
 // 6. Are the patients right, and if it is asked, their parents?
@@ -78,13 +57,7 @@ pub fn patients_right(region: Region, parents: bool) -> bool
     requires { HasPlaces region }
     ensures { (store : List ℕ) → result ≡ (patients_within (said region store) && (not parents || parents_smaller (said region store))) }
 {
-    if !patients_fit(region) {
-        return false;
-    }
-    if !parents {
-        return true;
-    }
-    parents_smaller(region)
+    patients_fit(region) && (!parents || parents_smaller(region))
 }
 
 // Are a table's members below v, each above the one before it?
@@ -93,17 +66,12 @@ fn members_rise(table: Table, v: usize) -> bool
     ensures { result ≡ rises_from v 0 (members_of table) }
 {
     let mut least = 0;
-    let mut i = 0;
-    while i < table.members {
+    for i in 0..table.members {
         let s = table.first[i] as usize;
-        if v <= s {
-            return false;
-        }
-        if s < least {
+        if v <= s || s < least {
             return false;
         }
         least = s + 1;
-        i += 1;
     }
     true
 }
@@ -119,13 +87,5 @@ pub fn members_right(region: Region) -> bool
     requires { HasPlaces region }
     ensures { (store : List ℕ) → result ≡ members_right (said region store) }
 {
-    let mut i = 0;
-    while i < region.t {
-        let table = region.tables[i];
-        if !members_fit(table, region.v) {
-            return false;
-        }
-        i += 1;
-    }
-    true
+    (0..region.t).all(|i| members_fit(region.tables[i], region.v))
 }

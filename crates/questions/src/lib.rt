@@ -12,42 +12,36 @@ ghost use Rattle.held_region.specs.Refusals.{number_of, asked, last_asked};
 
 use entry_questions::{entries_fit, entry_counts};
 use fields::{counts_fit, members_right, patients_right};
-use held_region::{Judged, Refusal, Region};
+use held_region::{Refusal, Region};
 use region_sets::members_related;
 
 // Questions 8 to 10, which rely on the ones before them.
-fn judge_entries(region: Region, store: &[u32; 4096], parents: bool) -> Judged
+fn judge_entries(region: Region, store: &[u32; 4096], parents: bool) -> Result<(), Refusal>
     requires { (Sound region) × (parents ≡ true → ParentsFirst region) }
     ensures { number_of result ≡ first_no (last_asked parents (said region store.now)) }
 {
-    let counts = entry_counts(region);
-    if !counts.right {
-        return Judged::Refused(Refusal::EntryCounts);
+    let total = entry_counts(region).ok_or(Refusal::EntryCounts)?;
+    if !entries_fit(store, total) {
+        return Err(Refusal::Entries);
     }
-    if !entries_fit(store, counts.total) {
-        return Judged::Refused(Refusal::Entries);
+    if parents && !members_related(region) {
+        return Err(Refusal::Ancestors);
     }
-    if !parents {
-        return Judged::Fine;
-    }
-    if !members_related(region) {
-        return Judged::Refused(Refusal::Ancestors);
-    }
-    Judged::Fine
+    Ok(())
 }
 
 // Questions 5 to 10 in their order, with or without those of parents: the first no is the answer.
-pub fn judge(region: Region, store: &[u32; 4096], parents: bool) -> Judged
+pub fn judge(region: Region, store: &[u32; 4096], parents: bool) -> Result<(), Refusal>
     ensures { number_of result ≡ first_no (asked parents (said region store.now)) }
 {
     if !counts_fit(region) {
-        return Judged::Refused(Refusal::Limits);
+        return Err(Refusal::Limits);
     }
     if !patients_right(region, parents) {
-        return Judged::Refused(Refusal::Patients);
+        return Err(Refusal::Patients);
     }
     if !members_right(region) {
-        return Judged::Refused(Refusal::Members);
+        return Err(Refusal::Members);
     }
     judge_entries(region, store, parents)
 }

@@ -1,6 +1,6 @@
 use mathlib.Core.Path.{sym, ap, ◌∙◌}
 use mathlib.Core.List.{map}
-use Prim.Native.Nat.{◌-◌, ◌*◌}
+use Prim.Native.Nat.{◌*◌}
 use native.Mathlib.Nat.{le_refl, one-mul, mul-one}
 use native.Mathlib.Omega.{arith}
 use Rattle.definitions.specs.Basics.{product}
@@ -10,19 +10,13 @@ use Rattle.entry_questions.proofs.Products.{more_most, more_fits, more_product}
 use Rattle.entry_questions.proofs.bed_product.Goals as goal
 
 pub loop-i-init : goal.loop-i-init
-loop-i-init c = (le_refl 1, one-mul _ ∙ ap (λ l. product (map (bed_count_in c.args.patients) l)) (members_all c.args.table))
+loop-i-init c = (le_refl 1, one-mul _ ∙ ap (λ l. product (map (bed_count_in c.args.patients.now) l)) (members_all c.args.table))
 
-pub overflow_cast-s : goal.overflow_cast-s
-overflow_cast-s c = omega (arith, c.requires.known _ c.loop-i-test.true)
+pub offset_bounds-patients-table : goal.offset_bounds-patients-table
+offset_bounds-patients-table c = omega (arith, c.requires.known _ c.loop-i-test.true)
 
-pub offset_bounds-patients-s : goal.offset_bounds-patients-s
-offset_bounds-patients-s c = omega (arith, c.requires.known _ c.loop-i-test.true)
-
-pub bounds-patients-s : goal.bounds-patients-s
-bounds-patients-s c = c.requires.known _ c.loop-i-test.true
-
-pub overflow_cast-n : goal.overflow_cast-n
-overflow_cast-n c = omega (arith, c.requires.small _ c.loop-i-test.true)
+pub bounds-patients-table : goal.bounds-patients-table
+bounds-patients-table c = c.requires.known _ c.loop-i-test.true
 
 pub overflow_mul-n : goal.overflow_mul-n
 overflow_mul-n c = record { fits = more_fits _ _ _ _ c.requires c.loop-i-test.true c.loop-i.invariant.0 }
@@ -37,5 +31,5 @@ loop-i-preserved c =
 pub returns : goal.returns
 returns c =
     sym (mul-one _)
-    ∙ ap (λ l. c.loop-i.n * product (map (bed_count_in c.args.patients) l)) (sym (members_done c.args.table _ c.loop-i-test.false))
+    ∙ ap (λ l. c.loop-i.n * product (map (bed_count_in c.args.patients.now) l)) (sym (members_done c.args.table _ c.loop-i-test.false))
     ∙ c.loop-i.invariant.1

@@ -1,4 +1,3 @@
-use Prim.Native.Nat.{◌-◌}
 use native.Mathlib.Omega.{arith}
 use Rattle.held_region.specs.Entries.{beds_read}
 use Rattle.entry_questions.proofs.Counting.{counting_none, counting_wrong, counted_small, counting_next, counting_done}
@@ -30,4 +29,4 @@ loop-i-preserved c =
 pub returns : goal.returns
 returns c =
     let loop = c in
-    counting_done _ loop.requires loop.loop-i.invariant c.loop-i-test.false c.within.ensures
+    counting_done _ loop.requires loop.loop-i.invariant c.loop-i-test.false c.then_some.ensures c.within.ensures

@@ -15,33 +15,25 @@ patients_right-requires c = has_places _ [] (answered_yes (c.counts_fit.ensures 
 
 pub returns-then-not-patients_right : goal.returns-then-not-patients_right
 returns-then-not-patients_right c =
-    let counts = c in
-    no_six _ _ (answered_yes (counts.counts_fit.ensures _) (ap not c.if-not-counts_fit.false)) (answered_no (c.patients_right.ensures _) (ap not c.if-not-patients_right.true))
+    no_six _ _ (answered_yes (c.counts_fit.ensures _) (ap not c.if-not-counts_fit.false)) (answered_no (c.patients_right.ensures _) (ap not c.if-not-patients_right.true))
 
 pub members_right-requires : goal.members_right-requires
 members_right-requires c = has_places _ [] (answered_yes (c.counts_fit.ensures []) (ap not c.if-not-counts_fit.false))
 
 pub returns-then-not-members_right : goal.returns-then-not-members_right
 returns-then-not-members_right c =
-    let patients = c in
-    let counts = patients in
-    no_seven _ _ (answered_yes (counts.counts_fit.ensures _) (ap not patients.if-not-counts_fit.false)) (answered_yes (patients.patients_right.ensures _) (ap not c.if-not-patients_right.false))
+    no_seven _ _ (answered_yes (c.counts_fit.ensures _) (ap not c.if-not-counts_fit.false)) (answered_yes (c.patients_right.ensures _) (ap not c.if-not-patients_right.false))
     (answered_no (c.members_right.ensures _) (ap not c.if-not-members_right.true))
 
 pub judge_entries-requires : goal.judge_entries-requires
 judge_entries-requires c =
-    let patients = c in
-    let counts = patients in
-    let six = (and-eq-true_iff _ _).0 (answered_yes (patients.patients_right.ensures []) (ap not c.if-not-patients_right.false)) in
-    let five = has_places _ [] (answered_yes (counts.counts_fit.ensures []) (ap not patients.if-not-counts_fit.false)) in (
+    let six = (and-eq-true_iff _ _).0 (answered_yes (c.patients_right.ensures []) (ap not c.if-not-patients_right.false)) in
+    let five = has_places _ [] (answered_yes (c.counts_fit.ensures []) (ap not c.if-not-counts_fit.false)) in (
       record { store = []; places = five; patients = six.0; members = answered_yes (c.members_right.ensures []) (ap not c.if-not-members_right.false) },
       λ asked. record { store = []; places = five; smaller = rw asked at six.1 },
     )
 
 pub returns : goal.returns
 returns c =
-    let members = c in
-    let patients = members in
-    let counts = patients in
-    first_yes _ _ (answered_yes (counts.counts_fit.ensures _) (ap not patients.if-not-counts_fit.false)) (answered_yes (patients.patients_right.ensures _) (ap not members.if-not-patients_right.false))
-    (answered_yes (members.members_right.ensures _) (ap not c.if-not-members_right.false)) c.judge_entries.ensures
+    first_yes _ _ (answered_yes (c.counts_fit.ensures _) (ap not c.if-not-counts_fit.false)) (answered_yes (c.patients_right.ensures _) (ap not c.if-not-patients_right.false))
+    (answered_yes (c.members_right.ensures _) (ap not c.if-not-members_right.false)) c.judge_entries.ensures

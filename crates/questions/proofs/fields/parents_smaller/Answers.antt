@@ -1,19 +1,13 @@
-use Prim.Native.Nat.{◌-◌}
-use Rattle.held_region.specs.Asked.{parents_asked}
-use Rattle.lists.specs.Tests.{answered_no, answered_yes}
-use Rattle.lists.specs.Loops.{ask_all, ask_yes, ask_no, ask_done}
-use mathlib.Core.Path.{ap}
-use mathlib.Core.Bool.{not}
+use Rattle.std.proofs.Common.{rules, tests, refl, arith, ◌∙◌, sym}
+use Rattle.std.proofs.lemmas.Iterator.{YieldsList-from_range}
+use Rattle.std.proofs.lemmas.Iterator.Search.{all_from_yields_List}
+use Rattle.held_region.specs.Meaning.{optional, patient_in}
+use Rattle.held_region.specs.Asked.{none_or_below, parents_asked}
+use Rattle.entry_questions.specs.Passing.{all_below}
 use Rattle.questions.proofs.fields.parents_smaller.Goals as goal
 
-pub loop-s-init : goal.loop-s-init
-loop-s-init c = λ store. ask_all _ _ (parents_asked _ store)
-
-pub returns-then-not-none_or_below : goal.returns-then-not-none_or_below
-returns-then-not-none_or_below c = λ store. ask_no _ _ _ c.loop-s-test.true (answered_no c.none_or_below.ensures (ap not c.if-not-none_or_below.true)) (c.loop-s.invariant store)
-
-pub loop-s-preserved : goal.loop-s-preserved
-loop-s-preserved c = λ store. ask_yes _ _ _ c.loop-s-test.true (answered_yes c.none_or_below.ensures (ap not c.if-not-none_or_below.false)) (c.loop-s.invariant store)
-
 pub returns : goal.returns
-returns c = λ store. ask_done _ _ _ c.loop-s-test.false (c.loop-s.invariant store)
+returns c =
+    let region = c.args.region in
+    λ store. all_from_yields_List (λ s. none_or_below (optional (patient_in region s).parent) s) _ _ _ c.all.ensures.ran (YieldsList-from_range 0 region.v region.v refl (omega arith)) (λ x b q k. search (rules, tests))
+    ∙ all_below (λ s. none_or_below (optional (patient_in region s).parent) s) region.v ∙ sym (parents_asked region store)
