@@ -1,42 +1,39 @@
 -- The items of a table line one after the other, and the line part by part.
 use mathlib.Core.Path.{◌≡◌, refl, sym, ap, ◌∙◌}
 use mathlib.Core.List.{append-nil, append_assoc, map-append}
-use mathlib.Core.Bool.{Bool, true, false, false≢true}
+use mathlib.Core.Bool.{Bool, true, false}
 use native.Mathlib.Omega.{arith}
 use Prim.Native.Nat.{◌≤◌}
 use lib.ListN.{set, drop, length-append, length-map, length-set, length-take}
 use lib.Seq.{ext_get_or, get_or-take}
 use Rattle.std.specs.Prelude.{◌+◌, ◌<◌, ◌∷◌, ◌++◌}
+use Rattle.std.specs.Prelude as Code
 use Rattle.definitions.specs.Basics.{ℕ, Option, none, some, List, bind, [], map, length, take, replicate, is_empty, text}
 use Rattle.definitions.specs.Layout.{Reader, whole, exactly, word, number, hyphen_or_number, items, table_line}
-use Rattle.held_region.specs.Meaning.{code_of, no_table}
-use Rattle.scanner.specs.declared.Passed.{Passed}
-use Rattle.scanner.specs.declared.Passed.TheVariants.{At, Nothing as NotPassed}
+use Rattle.held_region.specs.Meaning.{code_of}
 use Rattle.scanner.specs.Words.{form_start, words_there, words_missing}
 use Rattle.scanner.specs.Answers.{ReadAt, passed, there, missing, read_as}
 use Rattle.scanner.specs.Separators.{separator, separator_ahead}
 use Rattle.scanner.specs.Items.{Bounded}
-use Rattle.table_reader.specs.declared.Entries.{Entries}
-use Rattle.table_reader.specs.declared.Entries.TheVariants.{Are}
 use Rattle.table_reader.specs.TakenItems.{items_start, items_no_item, items_next, items_closed, items_no_separator, items_no_list}
 use Rattle.held_region.specs.FirstHeld.{FirstHeld, held_none, held_more}
 use Rattle.table_reader.specs.Stores.{stored_set, stored_full}
-use Rattle.table_reader.specs.TableReading.{Found, ItemsSoFar, ItemsThere, MembersHeld, Adds, EntriesAdded, EntriesRead, TableRead}
+use Rattle.table_reader.specs.TableReading.{Found, ItemsSoFar, ItemsThere, MembersHeld, Adds, EntriesAdded, TableRead}
 
--- An answer by its flag.
-module _ {There Missing : Type 0} where
-  pub found : There → Found true There Missing
-  found t = record { there = λ e. t; missing = λ e. absurd (false≢true (sym e)) }
+-- An answer by whether it is there.
+module _ {A : Type 0} {There : A → Type 0} {Missing : Type 0} where
+  pub found : {a : A} → There a → Found (Code.Some a) There Missing
+  found {a} t = record { there = λ b e. let q : a ≡ b = cc in rw q at t; missing = λ e. absurd cc }
 
-  pub not_found : Missing → Found false There Missing
-  not_found m = record { there = λ e. absurd (false≢true e); missing = λ e. m }
+  pub not_found : Missing → Found Code.None There Missing
+  not_found m = record { there = λ a e. absurd cc; missing = λ e. m }
 
 -- A list begins, or is not there.
-module _ {A : Type 0} (item : Reader ℕ A) {s : List ℕ} {at : ℕ} {r : Passed} (h : ReadAt (word "(") s at (passed r)) where
-  pub list_start : {Kept : List A → Type 0} {start : ℕ} → r ≡ At start → Kept [] → ItemsSoFar item Kept s at 0 start
+module _ {A : Type 0} (item : Reader ℕ A) {s : List ℕ} {at : ℕ} {r : Code.Option ℕ} (h : ReadAt (word "(") s at (passed r)) where
+  pub list_start : {Kept : List A → Type 0} {start : ℕ} → r ≡ Code.Some start → Kept [] → ItemsSoFar item Kept s at 0 start
   list_start e kept = record { said = []; taken = items_start (read_as (ap passed e) h); counted = refl; kept = kept }
 
-  pub list_missing : r ≡ NotPassed → items item (drop at s) ≡ none
+  pub list_missing : r ≡ Code.None → items item (drop at s) ≡ none
   list_missing e = items_no_list item (read_as (ap passed e) h)
 
 -- One more item is counted.
@@ -123,11 +120,6 @@ pub entries_more : (o : Option ℕ) {code used count : ℕ} {before between afte
 entries_more o is one said counted added =
     rw (map-append code_of said (o ∷ []), ← is) (adds_then (map code_of said) (_ ∷ []) (omega (arith, counted, length-map said code_of)) added one)
 
--- The entries are there, by the answer.
-pub entries_there : {s : List ℕ} {at used : ℕ} {before after : List ℕ} {r : Entries} {count next : ℕ} → r ≡ Are count next → EntriesRead s at used before after r
-    → ItemsThere hyphen_or_number (EntriesAdded used before after) s at count next
-entries_there e h = rw e at h
-
 -- The beginning of a table line, by its bracket and word and the space behind them.
 module _ (line : List ℕ) {o : Option (Unit {0} × ℕ)} (h : ReadAt (exactly (form_start (text "cost"))) line 0 o) where
   pub cost_missing : o ≡ none → word "(cost " line ≡ none
@@ -172,7 +164,7 @@ module _ (line : List ℕ) where
             table_said_lem e = rw (cost, members, space, entries, end, e)
 
 -- Where the first word is missing nothing is stored.
-pub line_other : {line : List ℕ} {used : ℕ} {store : List ℕ} → word "(cost " line ≡ none → TableRead line used store store (record { found = false; table = no_table })
+pub line_other : {line : List ℕ} {used : ℕ} {store : List ℕ} → word "(cost " line ≡ none → TableRead line used store store Code.None
 line_other {line} e = record { answer = not_found (no_cost line e); kept = λ _. refl }
 
 -- Where it is there, the rest may be missing.
@@ -180,14 +172,14 @@ both_ways : {A P : Type 0} {o : Option A} {a : A} → o ≡ some a → o ≡ non
 both_ways there missing = absurd (let z : ◌≡◌ {A = ℕ} 0 1 = cc in omega arith)
 
 pub line_broken : {line : List ℕ} {used : ℕ} {before after ys : List ℕ} → word "(cost " line ≡ some (tt, ys) → whole table_line line ≡ none
-    → TableRead line used before after (record { found = false; table = no_table })
+    → TableRead line used before after Code.None
 line_broken cost e = record { answer = not_found e; kept = both_ways cost }
 
 -- The whole line is there.
 pub line_table : {line : List ℕ} {used : ℕ} {before after : List ℕ} {a mid b end : ℕ} {first : List ℕ} {members entries : ℕ} {ws : List ℕ}
     → word "(cost " line ≡ some (tt, drop a line) → (m : ItemsThere number (MembersHeld first) line a members mid) → word " " (drop mid line) ≡ some (tt, drop b line)
     → (e : ItemsThere hyphen_or_number (EntriesAdded used before after) line b entries end) → word ")\n" (drop end line) ≡ some (tt, ws) → is_empty ws ≡ true
-    → TableRead line used before after (record { found = true; table = record { first = first; members = members; entries = entries } })
+    → TableRead line used before after (Code.Some (record { first = first; members = members; entries = entries }))
 line_table {line} {first = first} cost m space e close over = record {
   answer = found record {
     said = record { members = m.said; entries = e.said };

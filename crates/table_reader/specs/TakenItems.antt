@@ -1,6 +1,6 @@
 -- A loop that takes one item of a list after the other: what was taken and what is left to read is the whole list.
 use Rattle.std.specs.Prelude.{◌≡◌, refl, ◌≤◌, drop}
-use Rattle.std.proofs.Common.{sym, ap, ◌∙◌, arith, length-append, ◌+◌, ◌<◌, ◌∷◌, ◌++◌}
+use Rattle.std.proofs.Common.{sym, ap, ◌∙◌, arith, length-append, ◌<◌, ◌∷◌, ◌++◌}
 use Rattle.std.proofs.Math.Seq.{append_snoc}
 use Rattle.definitions.specs.Basics.{ℕ, true, false, Option, none, some, option_map, bind, List, [], length}
 use Rattle.definitions.specs.Layout.{Reader, word, items}
