@@ -1,4 +1,4 @@
--- Numbers that stand for none, counts taken off what is left, and areas that are whole.
+-- Counts taken off what is left, and areas that are whole.
 use mathlib.Core.Path.{◌≡◌, sym, ap, ap₂, ◌∙◌}
 use mathlib.Core.Bool.{and-false}
 use Prim.Native.Nat.{◌≤◌}
@@ -6,19 +6,10 @@ use native.Mathlib.Decide.{ℕ_discrete}
 use native.Mathlib.Numerals.{add-one}
 use native.Mathlib.Omega.{arith}
 use borrow.Author.Tests.{eq-eqb, ne_eqb}
-use Rattle.std.specs.Prelude.{◌+◌, ◌-◌, ◌*◌, ◌/◌, ◌%◌, ◌^◌, ◌<◌, ◌&&◌}
-use Rattle.definitions.specs.Basics.{ℕ, suc, Bool, false, cond, none, some, List, length, eqb}
-use Rattle.definitions.specs.Boundary.{number_at, option_at, lent_table_count, lent_entries_before, lent_whole}
+use Rattle.std.specs.Prelude.{◌+◌, ◌-◌, ◌*◌, ◌/◌, ◌%◌, ◌<◌, ◌&&◌}
+use Rattle.definitions.specs.Basics.{ℕ, suc, Bool, false, List, length, eqb}
+use Rattle.definitions.specs.Boundary.{number_at, lent_table_count, lent_entries_before, lent_whole}
 use Rattle.lent_region.specs.Lent.{before_next, before_most}
-
--- ---- one number, or none
-
-module _ (area : List ℕ) (i : ℕ) {n : ℕ} (is : n ≡ number_at area i) where
-  pub option_none : n ≡ 0xffff_ffff_ffff_ffff → option_at area i ≡ none
-  option_none largest = ap (λ b. cond b none (some (number_at area i))) (eq-eqb (number_at area i) (2 ^ 64 - 1) (sym is ∙ largest))
-
-  pub option_some : (n ≡ 0xffff_ffff_ffff_ffff → ⊥) → option_at area i ≡ some n
-  option_some other = ap (λ b. cond b none (some (number_at area i))) (ne_eqb (number_at area i) (2 ^ 64 - 1) (λ e. other (is ∙ e))) ∙ ap some (sym is)
 
 -- ---- the counts of entries
 

@@ -7,7 +7,7 @@ use Rattle.std.proofs.Math.ListN.{length-map, get_or-map}
 use Rattle.std.proofs.Math.Seq.{ext_get_or}
 use borrow.Author.Tests.{eqb-true, ltb-true}
 use Rattle.definitions.specs.Basics.{ℕ, Bool, true, false, Option, none, some, none_or, List, [], map, length, get_or, eqb, ltb, sum, product, below, every, every_two}
-use Rattle.definitions.specs.Limits.{limits, within, patient_count, table_count, plans_wanted, clinic, bed_count, member_count, entry_count, entry}
+use Rattle.definitions.specs.Limits.{limits, within, patient_count, table_count, clinic, bed_count, member_count, entry_count, entry}
 use Rattle.definitions.specs.Syntax.{Patient, Table, Region, patient_at, bed_counts}
 use Rattle.definitions.specs.Spelling.{spell_body}
 use Rattle.definitions.specs.Questions.{counts_true, counts_within, patients_within, parents_smaller, members_right, entry_counts_right, entries_within, members_related, checksum}

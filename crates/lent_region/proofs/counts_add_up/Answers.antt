@@ -1,4 +1,3 @@
-use Prim.Native.Nat.{◌-◌}
 use native.Mathlib.Omega.{arith}
 use Rattle.lent_region.proofs.Areas.{count_over, count_off, counts_done}
 use Rattle.lent_region.proofs.counts_add_up.Goals as goal

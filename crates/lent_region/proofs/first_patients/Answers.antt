@@ -1,5 +1,4 @@
 use borrow.Author.Rules.{rules}
-use Prim.Native.Nat.{◌-◌}
 use native.Mathlib.Omega.{arith}
 use Rattle.lists.specs.Filling.{filled_none, filled_more, filled_all}
 use Rattle.lent_region.proofs.first_patients.Goals as goal

@@ -1,5 +1,4 @@
 use mathlib.Core.Path.{◌≡◌}
-use Prim.Native.Nat.{◌-◌}
 use Rattle.definitions.specs.Basics.{flat_map, below, length}
 use Rattle.definitions.specs.Boundary.{numbers_after}
 use Rattle.region_areas.specs.Laid.{parts_left, entry_part}
@@ -7,6 +6,3 @@ use Rattle.region_areas.proofs.store_entries.Given as goal
 
 abbrev pub invariant-loop-k : goal.invariant-loop-k
 invariant-loop-k l = (length l.entries ≡ length l.initial.entries) × (parts_left 1 (entry_part l.store) l.total l.k l.entries ≡ numbers_after (flat_map (entry_part l.store) (below l.total)) l.initial.entries)
-
-abbrev pub decreases-loop-k : goal.decreases-loop-k
-decreases-loop-k l = l.total - l.k

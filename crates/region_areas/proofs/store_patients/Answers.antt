@@ -1,6 +1,5 @@
 use borrow.Author.Rules.{rules}
 use mathlib.Core.Path.{refl, ◌∙◌}
-use Prim.Native.Nat.{◌-◌}
 use Rattle.region_areas.specs.Laid.{parts_all, parts_next, parts_done, patient_part}
 use Rattle.region_areas.proofs.store_patients.Goals as goal
 

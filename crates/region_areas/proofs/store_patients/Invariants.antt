@@ -1,5 +1,4 @@
 use mathlib.Core.Path.{◌≡◌}
-use Prim.Native.Nat.{◌-◌}
 use Rattle.definitions.specs.Basics.{flat_map, below, length}
 use Rattle.definitions.specs.Boundary.{numbers_after}
 use Rattle.region_areas.specs.Laid.{parts_left, patient_part}
@@ -7,6 +6,3 @@ use Rattle.region_areas.proofs.store_patients.Given as goal
 
 abbrev pub invariant-loop-s : goal.invariant-loop-s
 invariant-loop-s l = (length l.patients ≡ length l.initial.patients) × (parts_left 4 (patient_part l.region) l.region.v l.s l.patients ≡ numbers_after (flat_map (patient_part l.region) (below l.region.v)) l.initial.patients)
-
-abbrev pub decreases-loop-s : goal.decreases-loop-s
-decreases-loop-s l = l.region.v - l.s

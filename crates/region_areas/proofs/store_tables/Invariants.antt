@@ -1,5 +1,4 @@
 use mathlib.Core.Path.{◌≡◌}
-use Prim.Native.Nat.{◌-◌}
 use Rattle.definitions.specs.Basics.{flat_map, below, length}
 use Rattle.definitions.specs.Boundary.{numbers_after}
 use Rattle.region_areas.specs.Laid.{parts_left, table_part}
@@ -7,6 +6,3 @@ use Rattle.region_areas.proofs.store_tables.Given as goal
 
 abbrev pub invariant-loop-i : goal.invariant-loop-i
 invariant-loop-i l = (length l.tables ≡ length l.initial.tables) × (parts_left 6 (table_part l.region) l.region.t l.i l.tables ≡ numbers_after (flat_map (table_part l.region) (below l.region.t)) l.initial.tables)
-
-abbrev pub decreases-loop-i : goal.decreases-loop-i
-decreases-loop-i l = l.region.t - l.i
