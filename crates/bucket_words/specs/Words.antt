@@ -1,34 +1,47 @@
--- What the words of the buckets say, by their places.
-use Rattle.std.specs.Prelude.{◌+◌, ◌*◌}
-use Rattle.definitions.specs.Basics.{ℕ, List, get_or}
+-- What the buckets say of a patient and of a term.
+use Rattle.definitions.specs.Basics.{ℕ, List, [], get_or}
+use Rattle.bucket_words.specs.declared.PatientBucket.{PatientBucket}
+use Rattle.bucket_words.specs.declared.TermMember.{TermMember}
+use Rattle.bucket_words.specs.declared.TableTerm.{TableTerm}
 
--- ---- the words of a patient: its count of beds, its first permitted bed and their end, the sum of its bucket's least numbers, and its bucket's first term
+-- ---- a patient: its count of beds, its first permitted bed and their end, the sum of its bucket's least numbers, and its bucket's first term
 
-abbrev pub beds_at : List ℕ → ℕ → ℕ
-beds_at patients s = get_or patients (s * 5) 0
+-- What stands where no patient is.
+abbrev pub no_bucket : PatientBucket
+no_bucket = record { beds = 0; first_bed = 0; bed_end = 0; least = 0; first_term = 0 }
 
-abbrev pub first_bed_at : List ℕ → ℕ → ℕ
-first_bed_at patients s = get_or patients (s * 5 + 1) 0
+abbrev pub beds_at : List PatientBucket → ℕ → ℕ
+beds_at patients s = (get_or patients s no_bucket).beds
 
-abbrev pub bed_end_at : List ℕ → ℕ → ℕ
-bed_end_at patients s = get_or patients (s * 5 + 2) 0
+abbrev pub first_bed_at : List PatientBucket → ℕ → ℕ
+first_bed_at patients s = (get_or patients s no_bucket).first_bed
 
-abbrev pub least_at : List ℕ → ℕ → ℕ
-least_at patients s = get_or patients (s * 5 + 3) 0
+abbrev pub bed_end_at : List PatientBucket → ℕ → ℕ
+bed_end_at patients s = (get_or patients s no_bucket).bed_end
 
-abbrev pub first_at : List ℕ → ℕ → ℕ
-first_at patients s = get_or patients (s * 5 + 4) 0
+abbrev pub least_at : List PatientBucket → ℕ → ℕ
+least_at patients s = (get_or patients s no_bucket).least
 
--- ---- the words of a term: the start of its entries, the next term of the bucket, four members and their strides
+abbrev pub first_at : List PatientBucket → ℕ → ℕ
+first_at patients s = (get_or patients s no_bucket).first_term
 
-abbrev pub start_at : List ℕ → ℕ → ℕ
-start_at terms k = get_or terms (k * 10) 0
+-- ---- a term: the start of its entries, the next term of the bucket, four members and their strides
 
-abbrev pub next_at : List ℕ → ℕ → ℕ
-next_at terms k = get_or terms (k * 10 + 1) 0
+-- What stands where no member and no term is.
+abbrev pub no_member : TermMember
+no_member = record { patient = 0; stride = 0 }
 
-abbrev pub member_at : List ℕ → ℕ → ℕ → ℕ
-member_at terms k j = get_or terms (k * 10 + 2 + j) 0
+abbrev pub no_term : TableTerm
+no_term = record { start = 0; next = 0; members = [] }
 
-abbrev pub stride_at : List ℕ → ℕ → ℕ → ℕ
-stride_at terms k j = get_or terms (k * 10 + 6 + j) 0
+abbrev pub start_at : List TableTerm → ℕ → ℕ
+start_at terms k = (get_or terms k no_term).start
+
+abbrev pub next_at : List TableTerm → ℕ → ℕ
+next_at terms k = (get_or terms k no_term).next
+
+abbrev pub member_at : List TableTerm → ℕ → ℕ → ℕ
+member_at terms k j = (get_or (get_or terms k no_term).members j no_member).patient
+
+abbrev pub stride_at : List TableTerm → ℕ → ℕ → ℕ
+stride_at terms k j = (get_or (get_or terms k no_term).members j no_member).stride

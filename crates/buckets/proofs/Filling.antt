@@ -2,13 +2,13 @@
 use mathlib.Core.Path.{◌≡◌, refl, sym, ap, ap₂, ◌∙◌, subst, subst⁻¹}
 use mathlib.Core.Bool.{true≢false}
 use Prim.Native.Nat.{◌≤◌}
-use native.Mathlib.Decide.{ℕ_discrete, dec_lt}
+use native.Mathlib.Decide.{ℕ_discrete}
 use native.Mathlib.Nat.{le_refl, add_comm}
 use native.Mathlib.Omega.{arith}
 use borrow.Author.Tests.{eq-eqb, ne_eqb}
-use lib.ListN.{drop, replicate, drop_of_length-le}
+use lib.ListN.{drop, replicate, length-replicate, get_or-replicate, drop_of_length-le}
 use lib.Seq.{drop-cons}
-use Rattle.std.specs.Prelude.{◌+◌, ◌-◌, ◌*◌, ◌<◌, ◌∷◌}
+use Rattle.std.specs.Prelude.{◌+◌, ◌-◌, ◌<◌, ◌∷◌}
 use Rattle.definitions.specs.Basics.{ℕ, suc, Bool, true, false, cond, List, [], map, length, get_or, eqb, sum, keep}
 use Rattle.definitions.specs.Syntax as Said
 use Rattle.definitions.specs.Syntax.{patient_at}
@@ -21,7 +21,8 @@ use Rattle.held_region.specs.Meaning.{table_in, start_in, said}
 use Rattle.held_region.specs.Asked.{patients_said_lem, patient_said_lem, starts_said, stands}
 use Rattle.held_region.specs.Sound.{accepted_sound}
 use Rattle.held_region.specs.Entries.{CountsSmall, counts_match_lem, counts_small}
-use Rattle.bucket_words.specs.Words.{beds_at, first_bed_at, bed_end_at, least_at, first_at}
+use Rattle.bucket_words.specs.declared.TermMember.{TermMember}
+use Rattle.bucket_words.specs.Words.{no_member, no_term, beds_at, first_bed_at, bed_end_at, least_at, first_at}
 use Rattle.bucket_words.specs.Kept.{Bounded}
 use Rattle.buckets.specs.Permitted.{first_permitted, permitted_end}
 use Rattle.buckets.specs.Terms.{Term, Chain, Prepared, highest, bucket_of, least_in}
@@ -32,16 +33,17 @@ use Rattle.buckets.specs.Chains.{term_right, term_kept, chain_kept, chain_lower}
 use Rattle.buckets.specs.WithTables.{with_tables, accepted_with, term_with}
 use Rattle.buckets.specs.Counting.{PreparedFor}
 use Rattle.buckets.specs.Written.{PatientsWritten, last_of, TermKnown, TermAdded}
-use Rattle.buckets.proofs.Writing.{zeros}
 use Rattle.buckets.proofs.Held.{held_lines, least_fits, held_place, held_right, members_same, entries_same, count_same}
 use Rattle.buckets.proofs.Held.{first_same, last_same, last_known, least_in_store, least_one}
+use Rattle.bucket_words.specs.declared.PatientBucket.{PatientBucket}
+use Rattle.bucket_words.specs.declared.TableTerm.{TableTerm}
 
 -- The tables that pass a test, from place i on, of which s is the highest member.
 abbrev pub bucket_from : (Said.Table → Bool) → Said.Region → ℕ → ℕ → List Said.Table
 bucket_from test r i s = keep (highest s) (keep test (drop i r.tables))
 
--- The words say the buckets of the tables that pass a test from place i on.
-pub record Filled (test : Said.Table → Bool) (r : Said.Region) (store : List ℕ) (i start : ℕ) (patients terms : List ℕ) : Type 0 where
+-- Held are the buckets of the tables that pass a test from place i on.
+pub record Filled (test : Said.Table → Bool) (r : Said.Region) (store : List ℕ) (i start : ℕ) (patients : List PatientBucket) (terms : List TableTerm) : Type 0 where
   pub starts : start ≡ start_of r.tables i
   pub beds : (s : ℕ) → s < length r.patients → beds_at patients s ≡ (patient_at r s).bed_count
   pub first_bed : (s : ℕ) → s < length r.patients → first_bed_at patients s ≡ first_permitted (patient_at r s)
@@ -55,17 +57,17 @@ module _ (h : Region) (store : List ℕ) (test : Said.Table → Bool) (a : Accep
   r = said h store
 
   -- No table yet.
-  pub filled_none : (start : ℕ) (words terms : List ℕ) → PatientsWritten h.patients h.v words → start ≡ start_in h h.t
-      → Filled test r store h.t start words terms
+  pub filled_none : (start : ℕ) (written : List PatientBucket) (terms : List TableTerm) → PatientsWritten h.patients h.v written → start ≡ start_in h h.t
+      → Filled test r store h.t start written terms
   unfolding Chain
-  filled_none start words terms w total =
+  filled_none start written terms w total =
       record {
         starts = total ∙ sym (starts_said h store h.t (omega arith));
         beds = λ s l. w.beds s (known s l) ∙ ap (λ p. p.bed_count) (sym (patient_said_lem h store s (known s l)));
         first_bed = λ s l. w.first_bed s (known s l) ∙ ap first_permitted (sym (patient_said_lem h store s (known s l)));
         bed_end = λ s l. w.bed_end s (known s l) ∙ ap permitted_end (sym (patient_said_lem h store s (known s l)));
-        least = λ s l. w.least s ∙ sym (ap (λ ts. sum (map least_entry (keep (highest s) (keep test ts)))) none_left);
-        bucket = λ s l. subst (λ ts. Chain (with_tables r test) store terms h.t (first_at words s) (keep (highest s) (keep test ts))) (sym none_left) (w.first s (known s l));
+        least = λ s l. w.least s (known s l) ∙ sym (ap (λ ts. sum (map least_entry (keep (highest s) (keep test ts)))) none_left);
+        bucket = λ s l. subst (λ ts. Chain (with_tables r test) store terms h.t (first_at written s) (keep (highest s) (keep test ts))) (sym none_left) (w.first s (known s l));
         term = λ k l m. absurd (omega (arith, held_lines h store a));
       }
     where
@@ -76,12 +78,12 @@ module _ (h : Region) (store : List ℕ) (test : Said.Table → Bool) (a : Accep
       none_left = drop_of_length-le r.tables {i = h.t} (omega (arith, held_lines h store a))
 
   -- All tables.
-  pub filled_all : (start : ℕ) (patients terms : List ℕ) → Filled test r store 0 start patients terms → Prepared (with_tables r test) store patients terms
+  pub filled_all : (start : ℕ) (patients : List PatientBucket) (terms : List TableTerm) → Filled test r store 0 start patients terms → Prepared (with_tables r test) store patients terms
   unfolding bucket_of least_in patient_at
   filled_all start patients terms f = record { accepted = accepted_with r test a; beds = f.beds; first_bed = f.first_bed; bed_end = f.bed_end; least = f.least; bucket = f.bucket }
 
   -- One more table.
-  module _ (i : ℕ) (l : i < h.t) (start : ℕ) (patients terms : List ℕ) (f : Filled test r store (suc i) start patients terms) where
+  module _ (i : ℕ) (l : i < h.t) (start : ℕ) (patients : List PatientBucket) (terms : List TableTerm) (f : Filled test r store (suc i) start patients terms) where
     abbrev table : Table
     table = table_in h i
 
@@ -111,7 +113,7 @@ module _ (h : Region) (store : List ℕ) (test : Said.Table → Bool) (a : Accep
     member_known j m =
         omega (arith, first_same h store a i l j m, member_at_lem (held_right h store a i l) j (omega (arith, count_same h store a i l)))
 
-    pub term_known : length patients ≡ 160 → length terms ≡ 640 → TermKnown store table i from patients terms
+    pub term_known : length patients ≡ 32 → length terms ≡ 64 → TermKnown store table i from patients terms
     term_known wide terms_wide =
         record {
           members =
@@ -119,10 +121,10 @@ module _ (h : Region) (store : List ℕ) (test : Said.Table → Bool) (a : Accep
                 few = omega (arith, count_same h store a i l, (held_right h store a i l).few);
                 known = λ j m. omega (arith, member_known j m, patients_few r a);
                 small = λ j m. omega (arith, f.beds _ (member_known j m), beds_few r a _ (member_known j m));
-                term = omega (arith, held_place h store a i l, tables_few r a);
-                wide = terms_wide;
               };
+          term = omega (arith, held_place h store a i l, tables_few r a);
           wide = wide;
+          terms_wide = terms_wide;
           last =
               record {
                 some = omega (arith, count_same h store a i l, (held_right h store a i l).some);
@@ -161,47 +163,41 @@ module _ (h : Region) (store : List ℕ) (test : Said.Table → Bool) (a : Accep
         over : (s : ℕ) → bucket_from test r i s ≡ bucket_from test r (suc i) s
         over s = next_table s ∙ ap (λ b. keep (highest s) (cond b (t ∷ keep test (drop (suc i) r.tables)) (keep test (drop (suc i) r.tables)))) out
 
-    module _ (own : test t ≡ true) (blank : (p : ℕ) → p < suc i * 10 → get_or terms p 0 ≡ 0) {counted after : List ℕ} (w : TermAdded store table i from patients counted terms after) where
+    module _ (own : test t ≡ true) {counted : List PatientBucket} {after : List TableTerm} (w : TermAdded store table i from patients counted terms after) where
       term_own : Term r store after i t
       term_own =
           term_right r a i (held_place h store a i l) after (w.starts ∙ from_is)
-          (λ j m. w.members.members (λ q n. blank _ (omega arith)) j m ∙ ap (λ ms. get_or ms j 0) (members_same h store a i l))
+          (λ j m. w.members.members j m ∙ ap (λ ms. get_or ms j 0) (members_same h store a i l))
           (λ j m.
-          w.members.strides (λ q n. blank _ (omega arith)) j m ∙ ap (λ ms. stride_of (beds_at patients) ms j) (members_same h store a i l)
+          w.members.strides j m ∙ ap (λ ms. stride_of (beds_at patients) ms j) (members_same h store a i l)
           ∙ stride_same (beds_at patients) (λ s. (patient_at r s).bed_count) t.members (λ q n. f.beds _ (member_at_lem (held_right h store a i l) q n)) j) store (stands h store)
 
       term_there : Term (with_tables r test) store after i t
       term_there = term_with r test store after i t term_own
 
-      -- Its own words keep to the bounds, and those of the other terms are as they were.
+      -- It keeps to the bounds, and the other terms are as they were.
       pub bounded_more : {n : ℕ} → i < n → Bounded terms n → Bounded after n
       bounded_more {n} inside bounded =
           record {
             few = bounded.few;
             known = λ k j m q. elim (ℕ_discrete k i) [
               | yes e ↦ rw e (term_own.known j q)
-              | no e ↦ omega (arith, bounded.known k j m q, others k e (k * 10 + 2 + j) (omega arith) (omega arith))
+              | no e ↦ omega (arith, bounded.known k j m q, ap (λ (held : TableTerm). (get_or held.members j no_member).patient) (w.others k e))
             ];
             near = λ k j m q. elim (ℕ_discrete k i) [
               | yes e ↦ rw e (term_own.near j q)
-              | no e ↦ omega (arith, bounded.near k j m q, others k e (k * 10 + 6 + j) (omega arith) (omega arith))
+              | no e ↦ omega (arith, bounded.near k j m q, ap (λ (held : TableTerm). (get_or held.members j no_member).stride) (w.others k e))
             ];
-            blank = λ k j o m q. others k (λ e. omega arith) (k * 10 + 6 + j) (omega arith) (omega arith) ∙ bounded.blank k j o m q;
+            blank = λ k j o m q. ap (λ (held : TableTerm). (get_or held.members j no_member).stride) (w.others k (λ e. omega arith)) ∙ bounded.blank k j o m q;
           }
-        where
-          others : (k : ℕ) → (k ≡ i → ⊥) → (p : ℕ) → k * 10 ≤ p → p < k * 10 + 10 → get_or after p 0 ≡ get_or terms p 0
-          others k e p low high = elim (dec_lt k i) [
-            | yes m ↦ w.members.others.lower p (omega arith)
-            | no m ↦ w.members.others.higher p (omega (arith, e))
-          ]
 
       term_of : (k : ℕ) → i ≤ k → k < length r.tables → test (table_at r k) ≡ true → Dec (k ≡ i) → Term r store after k (table_at r k)
       term_of k n m own (yes e) = rw e term_own
       term_of k n m own (no e) =
-          term_kept r store terms after k (table_at r k) (λ p o. w.members.others.higher p (omega (arith, e))) (f.term k (omega (arith, e)) m own)
+          term_kept r store terms after k (table_at r k) (w.others k e) (f.term k (omega (arith, e)) m own)
 
       kept : (s : ℕ) → s < length r.patients → Chain (with_tables r test) store after (suc i) (first_at patients s) (bucket_from test r (suc i) s)
-      kept s m = chain_kept (with_tables r test) store terms after (suc i) (first_at patients s) (bucket_from test r (suc i) s) (λ q n. w.members.others.higher q (omega arith)) (f.bucket s m)
+      kept s m = chain_kept (with_tables r test) store terms after (suc i) (first_at patients s) (bucket_from test r (suc i) s) (λ q n. w.others q (λ e. omega arith)) (f.bucket s m)
 
       one_more_lem : (s : ℕ) → bucket_from test r i s ≡ cond (eqb s (last_of table)) (t ∷ bucket_from test r (suc i) s) (bucket_from test r (suc i) s)
       one_more_lem s =
@@ -257,13 +253,16 @@ module _ (h : Region) (store : List ℕ) (test : Said.Table → Bool) (a : Accep
 
 -- ---- the loop
 
--- At place i: the terms below it are blank, and the tables that pass from it on are in their buckets.
-pub record Filling (h : Region) (store : List ℕ) (test : Said.Table → Bool) (i start : ℕ) (patients terms : List ℕ) : Type 0 where
-  pub wide : length patients ≡ 160
-  pub terms_wide : length terms ≡ 640
+-- What stands for a table before it is put into a bucket.
+abbrev pub blank_term : TableTerm
+blank_term = record { start = 0; next = 64; members = replicate 4 no_member }
+
+-- At place i: the tables that pass from it on are in their buckets.
+pub record Filling (h : Region) (store : List ℕ) (test : Said.Table → Bool) (i start : ℕ) (patients : List PatientBucket) (terms : List TableTerm) : Type 0 where
+  pub wide : length patients ≡ 32
+  pub terms_wide : length terms ≡ 64
   pub left : i ≤ h.t
   pub few : i ≤ 64
-  pub blank : (p : ℕ) → p < i * 10 → get_or terms p 0 ≡ 0
   pub bounded : Bounded terms h.t
   pub filled : Filled test (said h store) store i start patients terms
 
@@ -273,25 +272,27 @@ module _ (h : Region) (store : List ℕ) (a : Accepted (said h store)) where
   counts_held = counts_small h (accepted_sound h store a) store (counts_match_lem (said h store) a.entry_counts_fit)
 
   module _ (test : Said.Table → Bool) where
-    pub filling_none : (start : ℕ) (words : List ℕ) → h.t ≤ 64
-        → PatientsWritten h.patients h.v words → start ≡ start_in h h.t → Filling h store test h.t start words (replicate 640 0)
-    filling_none start words few w total =
+    pub filling_none : (start : ℕ) (written : List PatientBucket) → h.t ≤ 64
+        → PatientsWritten h.patients h.v written → start ≡ start_in h h.t → Filling h store test h.t start written (replicate 64 blank_term)
+    filling_none start written few w total =
         record {
           wide = w.wide;
-          terms_wide = refl;
+          terms_wide = length-replicate {A = TableTerm} 64 blank_term;
           left = omega arith;
           few = few;
-          blank = λ p l. zeros 640 p;
           bounded = record {
             few = few;
-            known = λ k j l m. omega (arith, zeros 640 (k * 10 + 2 + j));
-            near = λ k j l m. omega (arith, zeros 640 (k * 10 + 6 + j));
-            blank = λ k j o l m. zeros 640 (k * 10 + 6 + j);
+            known = λ k j l m. rw (blank_at k l, get_or-replicate {A = TermMember} 4 j no_member no_member m) (omega arith);
+            near = λ k j l m. rw (blank_at k l, get_or-replicate {A = TermMember} 4 j no_member no_member m) (omega arith);
+            blank = λ k j o l m. rw (blank_at k l, get_or-replicate {A = TermMember} 4 j no_member no_member m) refl;
           };
-          filled = filled_none h store test a start words (replicate 640 0) w total;
+          filled = filled_none h store test a start written (replicate 64 blank_term) w total;
         }
+      where
+        blank_at : (k : ℕ) → k < 64 → get_or (replicate 64 blank_term) k no_term ≡ blank_term
+        blank_at k l = get_or-replicate {A = TableTerm} 64 k blank_term no_term l
 
-    pub filling_all : (start i : ℕ) (patients terms : List ℕ) → i ≤ 0 → Filling h store test i start patients terms
+    pub filling_all : (start i : ℕ) (patients : List PatientBucket) (terms : List TableTerm) → i ≤ 0 → Filling h store test i start patients terms
         → PreparedFor test (said h store) store patients terms
     filling_all start i patients terms done f =
         let none_left : i ≡ 0 = omega arith in
@@ -301,7 +302,7 @@ module _ (h : Region) (store : List ℕ) (a : Accepted (said h store)) where
           numbered = record { bounded = subst⁻¹ (Bounded terms) (held_lines h store a) f.bounded; term = λ k l own. filled.term k (omega arith) l own };
         }
 
-    module _ (i start : ℕ) (patients terms : List ℕ) (more : 0 < i) (f : Filling h store test i start patients terms) where
+    module _ (i start : ℕ) (patients : List PatientBucket) (terms : List TableTerm) (more : 0 < i) (f : Filling h store test i start patients terms) where
       abbrev k : ℕ
       k = i - 1
 
@@ -327,21 +328,19 @@ module _ (h : Region) (store : List ℕ) (a : Accepted (said h store)) where
             terms_wide = f.terms_wide;
             left = omega (arith, f.left);
             few = omega (arith, f.few);
-            blank = λ p l. f.blank p (omega arith);
             bounded = f.bounded;
             filled = filled_over h store test a k filling_place start patients terms filled_next (sym e ∙ out);
           }
 
-      pub filling_more : {b : Bool} → b ≡ test (table_at (said h store) k) → b ≡ true → {counted after : List ℕ}
+      pub filling_more : {b : Bool} → b ≡ test (table_at (said h store) k) → b ≡ true → {counted : List PatientBucket} {after : List TableTerm}
           → TermAdded store (table_in h k) k (start - (table_in h k).entries) patients counted terms after
           → Filling h store test k (start - (table_in h k).entries) counted after
       filling_more e own {counted} {after} w =
           record {
             wide = w.wide;
-            terms_wide = w.members.others.wide ∙ f.terms_wide;
+            terms_wide = w.terms_wide;
             left = omega (arith, f.left);
             few = omega (arith, f.few);
-            blank = λ p l. w.members.others.lower p l ∙ f.blank p (omega arith);
-            bounded = bounded_more h store test a k filling_place start patients terms filled_next (sym e ∙ own) (λ p l. f.blank p (omega arith)) w filling_place f.bounded;
-            filled = filled_more h store test a k filling_place start patients terms filled_next (sym e ∙ own) (λ p l. f.blank p (omega arith)) w;
+            bounded = bounded_more h store test a k filling_place start patients terms filled_next (sym e ∙ own) w filling_place f.bounded;
+            filled = filled_more h store test a k filling_place start patients terms filled_next (sym e ∙ own) w;
           }

@@ -1,4 +1,4 @@
--- A held table of an accepted region: its words, and the least of its numbers.
+-- A held table of an accepted region: its members, and the least of its numbers.
 use mathlib.Core.Path.{◌≡◌, sym, ap, ◌∙◌}
 use Prim.Native.Nat.{◌≤◌}
 use native.Mathlib.Omega.{arith}

@@ -1,9 +1,10 @@
 -- The members and strides of a term, written from the last member down.
-use mathlib.Core.Path.{◌≡◌, refl, sym, ap, ap₂, ◌∙◌, subst⁻¹}
-use native.Mathlib.Decide.{ℕ_discrete, dec_lt}
+use mathlib.Core.Path.{◌≡◌, sym, ap, ap₂, ◌∙◌, subst⁻¹}
+use native.Mathlib.Decide.{ℕ_discrete}
 use native.Mathlib.Nat.{mul_comm, mul-le-mul, pow-suc, pow-zero, pow-le-pow_right, zero-lt-suc}
 use native.Mathlib.Omega.{arith}
-use lib.ListN.{length, get_or, set, get_or-eq_default}
+use lib.ListN.{length, get_or, set, replicate, length-set, length-replicate, get_or-replicate, get_or-eq_default}
+use lib.Seq.{get_or-set_same, get_or-set_other}
 use Prim.Native.Nat.{ℕ, zero, suc, ◌+◌, ◌-◌, ◌*◌, ◌^◌, ◌≤◌, ◌<◌}
 use mathlib.Core.List.{List, ◌∷◌, map}
 use Rattle.definitions.specs.Basics.{product, numbers_from}
@@ -12,14 +13,11 @@ use Rattle.held_region.specs.Meaning.{members_of}
 use Rattle.held_region.specs.Members.{members_from, members_next, members_done}
 use Rattle.lists.specs.Below.{length_by_places, at_place}
 use Rattle.lists.specs.Loops.{places_from}
-use Rattle.bucket_words.specs.Words.{member_at, stride_at, beds_at}
+use Rattle.bucket_words.specs.declared.PatientBucket.{PatientBucket}
+use Rattle.bucket_words.specs.declared.TermMember.{TermMember}
+use Rattle.bucket_words.specs.Words.{no_member, beds_at}
 use Rattle.buckets.specs.Places.{stride_of, stride_past}
-use Rattle.buckets.specs.Written.{MembersWritable, OthersKept, MembersSoFar, MembersWritten}
-use Rattle.buckets.proofs.Writing.{two_length, two_other, two_first, two_second}
-
--- The place that a loop from the end takes next.
-pub place_left : (n j : ℕ) → j ≤ n → 0 < j → j - 1 < n
-place_left n j l h = omega arith
+use Rattle.buckets.specs.Written.{MembersWritable, MembersSoFar, MembersWritten}
 
 -- A member's stride is the product over the members behind it.
 stride_places : (f g : ℕ → ℕ) (a n i : ℕ) → i < n → stride_of f (map g (numbers_from a n)) i ≡ product (map f (map g (numbers_from (a + (i + 1)) (n - (i + 1)))))
@@ -41,34 +39,41 @@ stride_from f t i h =
     stride_places f (λ j. get_or t.first j 0) 0 t.members i h
     ∙ ap (λ b. product (map f (map (λ j. get_or t.first j 0) (numbers_from b (t.members - (i + 1)))))) from
 
-module _ (patients : List ℕ) (t : Table) (k : ℕ) (before : List ℕ) (known : MembersWritable patients t k before) where
-  -- Before the loop.
-  pub members_none : MembersSoFar patients t k before t.members 1 before
+module _ (patients : List PatientBucket) (t : Table) (known : MembersWritable patients t) where
+  counted : length (members_of t) ≡ t.members
+  counted = length_by_places (λ i. get_or t.first i 0) 0 t.members
+
+  -- Before the loop: past the last member there is nobody.
+  pub members_none : MembersSoFar patients t t.members 1 (replicate 4 no_member)
   members_none =
       let none_left : t.members - t.members ≡ 0 = omega arith in
       record {
         left = omega arith;
-        others = record { wide = refl; lower = λ p h. refl; higher = λ p h. refl };
-        members = λ i h l. absurd (omega arith);
-        strides = λ i h l. absurd (omega arith);
-        past_members = λ i h l. refl;
-        past_strides = λ i h l. refl;
+        wide = length-replicate {A = TermMember} 4 no_member;
+        members = λ i h l. rw (get_or-replicate {A = TermMember} 4 i no_member no_member l) (sym (get_or-eq_default (members_of t) 0 (omega (arith, counted))));
+        strides = λ i h l. rw (get_or-replicate {A = TermMember} 4 i no_member no_member l) (sym (stride_past (beds_at patients) (members_of t) i (omega (arith, counted))));
         multiplied = sym (ap (λ l. product (map (beds_at patients) l)) (members_done t t.members (omega arith)));
         small = rw none_left (omega (arith, pow-zero 16));
       }
 
   -- One more member.
-  module _ (j stride : ℕ) (terms : List ℕ) (more : 0 < j) (so : MembersSoFar patients t k before j stride terms) where
+  module _ (j stride : ℕ) (written : List TermMember) (more : 0 < j) (so : MembersSoFar patients t j stride written) where
     abbrev i : ℕ
     i = j - 1
+
+    pub place : i < t.members
+    place = omega (arith, so.left)
 
     abbrev member : ℕ
     member = get_or t.first i 0
 
-    abbrev after : List ℕ
-    after = set (set terms (k * 10 + 2 + i) member) (k * 10 + 6 + i) stride
+    abbrev one : TermMember
+    one = record { patient = member; stride = stride }
 
-    pub stride_most : stride * beds_at patients member ≤ 16 ^ (t.members - i)
+    abbrev after : List TermMember
+    after = set written i one
+
+    stride_most : stride * beds_at patients member ≤ 16 ^ (t.members - i)
     stride_most =
         let left : t.members - i ≡ suc (t.members - j) = omega (arith, so.left) in
         subst⁻¹ (λ m. stride * beds_at patients member ≤ m) (ap (λ n. 16 ^ n) left ∙ pow-suc 16 (t.members - j))
@@ -80,46 +85,31 @@ module _ (patients : List ℕ) (t : Table) (k : ℕ) (before : List ℕ) (known 
         let room : 16 ^ (t.members - i) ≤ 16 ^ 4 = pow-le-pow_right (zero-lt-suc 15) few in
         omega (arith, stride_most)
 
-    place : i < t.members
-    place = omega (arith, so.left)
-
     next_place : i + 1 ≡ j
     next_place = omega arith
 
-    room : k * 10 + 6 + i < length terms
-    room = omega (arith, so.others.wide, known.wide, known.term, known.few, place)
+    here : get_or after i no_member ≡ one
+    here = get_or-set_same written i one no_member (omega (arith, so.wide, known.few, place))
 
-    kept : (p : ℕ) → (p ≡ k * 10 + 2 + i → ⊥) → (p ≡ k * 10 + 6 + i → ⊥) → get_or after p 0 ≡ get_or terms p 0
-    kept = two_other terms (k * 10 + 2 + i) (k * 10 + 6 + i) member stride
+    other : (q : ℕ) → (q ≡ i → ⊥) → get_or after q no_member ≡ get_or written q no_member
+    other q n = get_or-set_other written i q one no_member n
 
-    others_kept : OthersKept k before after
-    others_kept =
-        record {
-          wide = two_length terms (k * 10 + 2 + i) (k * 10 + 6 + i) member stride ∙ so.others.wide;
-          lower = λ p h. kept p (λ z. omega arith) (λ z. omega arith) ∙ so.others.lower p h;
-          higher = λ p h. kept p (λ z. omega (arith, place, known.few)) (λ z. omega (arith, place, known.few)) ∙ so.others.higher p h;
-        }
+    stride_here : stride ≡ stride_of (beds_at patients) (members_of t) i
+    stride_here = so.multiplied ∙ ap (λ n. product (map (beds_at patients) (members_from t n))) (sym next_place) ∙ sym (stride_from (beds_at patients) t i place)
 
-    member_of : (q : ℕ) → i ≤ q → q < t.members → Dec (q ≡ i) → member_at after k q ≡ get_or t.first q 0
-    member_of q h l (yes e) = rw e (two_first terms (k * 10 + 2 + i) (k * 10 + 6 + i) member stride (omega (arith, room)) (λ z. omega arith))
-    member_of q h l (no n) = kept (k * 10 + 2 + q) (λ z. n (omega arith)) (λ z. omega (arith, known.few)) ∙ so.members q (omega arith) l
-
-    stride_of_lem : (q : ℕ) → i ≤ q → q < t.members → Dec (q ≡ i) → stride_at after k q ≡ stride_of (beds_at patients) (members_of t) q
-    stride_of_lem q h l (yes e) =
-        rw e
-        (two_second terms (k * 10 + 2 + i) (k * 10 + 6 + i) member stride room
-        ∙ so.multiplied ∙ ap (λ n. product (map (beds_at patients) (members_from t n))) (sym next_place) ∙ sym (stride_from (beds_at patients) t i place))
-    stride_of_lem q h l (no n) = kept (k * 10 + 6 + q) (λ z. omega (arith, known.few, place)) (λ z. n (omega arith)) ∙ so.strides q (omega arith) l
-
-    pub members_more : MembersSoFar patients t k before i (stride * beds_at patients member) after
+    pub members_more : MembersSoFar patients t i (stride * beds_at patients member) after
     members_more =
         record {
           left = omega (arith, so.left);
-          others = others_kept;
-          members = λ q h l. member_of q h l (ℕ_discrete q i);
-          strides = λ q h l. stride_of_lem q h l (ℕ_discrete q i);
-          past_members = λ q h l. kept (k * 10 + 2 + q) (λ z. omega (arith, place)) (λ z. omega (arith, place)) ∙ so.past_members q h l;
-          past_strides = λ q h l. kept (k * 10 + 6 + q) (λ z. omega (arith, place)) (λ z. omega (arith, place)) ∙ so.past_strides q h l;
+          wide = length-set written i one ∙ so.wide;
+          members = λ q h l. elim (ℕ_discrete q i) [
+            | yes e ↦ rw (e, here) (sym (at_place (λ n. get_or t.first n 0) 0 t.members i place))
+            | no n ↦ ap (λ (m : TermMember). m.patient) (other q n) ∙ so.members q (omega (arith, n)) l
+          ];
+          strides = λ q h l. elim (ℕ_discrete q i) [
+            | yes e ↦ rw (e, here) stride_here
+            | no n ↦ ap (λ (m : TermMember). m.stride) (other q n) ∙ so.strides q (omega (arith, n)) l
+          ];
           multiplied =
               ap (λ n. n * beds_at patients member) so.multiplied ∙ mul_comm _ _
               ∙ sym (ap (λ l. product (map (beds_at patients) l)) (members_next t i place ∙ ap (λ n. member ∷ members_from t n) next_place));
@@ -127,23 +117,5 @@ module _ (patients : List ℕ) (t : Table) (k : ℕ) (before : List ℕ) (known 
         }
 
   -- All members.
-  pub members_written : (stride : ℕ) (terms : List ℕ) (j : ℕ) → j ≤ 0 → MembersSoFar patients t k before j stride terms → MembersWritten patients t k before terms
-  members_written stride terms j done so =
-      record {
-        others = so.others;
-        members = λ blank i h. member_of blank i h (dec_lt i t.members);
-        strides = λ blank i h. stride_of_lem blank i h (dec_lt i t.members);
-      }
-    where
-      counted : length (members_of t) ≡ t.members
-      counted = length_by_places (λ i. get_or t.first i 0) 0 t.members
-
-      member_of : ((i : ℕ) → i < 4 → member_at before k i ≡ 0) → (i : ℕ) → i < 4 → Dec (i < t.members)
-          → member_at terms k i ≡ get_or (members_of t) i 0
-      member_of blank i h (yes l) = so.members i (omega arith) l ∙ sym (at_place (λ n. get_or t.first n 0) 0 t.members i l)
-      member_of blank i h (no l) = so.past_members i (omega arith) h ∙ blank i h ∙ sym (get_or-eq_default (members_of t) 0 (omega (arith, counted)))
-
-      stride_of_lem : ((i : ℕ) → i < 4 → stride_at before k i ≡ 0) → (i : ℕ) → i < 4 → Dec (i < t.members)
-          → stride_at terms k i ≡ stride_of (beds_at patients) (members_of t) i
-      stride_of_lem blank i h (yes l) = so.strides i (omega arith) l
-      stride_of_lem blank i h (no l) = so.past_strides i (omega arith) h ∙ blank i h ∙ sym (stride_past (beds_at patients) (members_of t) i (omega (arith, counted)))
+  pub members_written : (stride j : ℕ) (written : List TermMember) → j ≤ 0 → MembersSoFar patients t j stride written → MembersWritten patients t written
+  members_written stride j written done so = record { members = λ i h. so.members i (omega arith) h; strides = λ i h. so.strides i (omega arith) h }

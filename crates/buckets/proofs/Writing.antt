@@ -1,80 +1,44 @@
--- Two words written into a list of words.
-use mathlib.Core.Path.{◌≡◌, refl, ◌∙◌}
+-- The patients, written one after the other.
+use mathlib.Core.Path.{◌≡◌, sym, ap, ◌∙◌}
 use native.Mathlib.Decide.{ℕ_discrete}
 use native.Mathlib.Omega.{arith}
-use lib.ListN.{length, get_or, set, replicate, length-set}
+use lib.ListN.{get_or, set, length-set}
 use lib.Seq.{get_or-set_same, get_or-set_other}
-use Prim.Native.Nat.{ℕ, zero, suc, ◌+◌, ◌*◌, ◌<◌}
+use Prim.Native.Nat.{ℕ, ◌+◌, ◌<◌}
 use mathlib.Core.List.{List}
 use Rattle.held_region.specs.declared.Patient.{Patient}
 use Rattle.held_region.specs.Meaning.{patient_of, no_patient}
-use Rattle.bucket_words.specs.Words.{beds_at, first_bed_at, bed_end_at, first_at}
+use Rattle.bucket_words.specs.declared.PatientBucket.{PatientBucket}
+use Rattle.bucket_words.specs.Words.{no_bucket}
 use Rattle.buckets.specs.Permitted.{first_permitted, permitted_end}
 use Rattle.buckets.specs.Written.{PatientsWritten}
 
-pub zeros : (n i : ℕ) → get_or {A = ℕ} (replicate n 0) i 0 ≡ 0
-zeros zero i = refl
-zeros (suc n) zero = refl
-zeros (suc n) (suc i) = zeros n i
+-- One more patient.
+module _ (patients : List Patient) (before : List PatientBucket) (s : ℕ) (h : s < 32) (written : PatientsWritten patients s before) where
+  abbrev bucket : PatientBucket
+  bucket = record {
+    beds = (get_or patients s no_patient).beds;
+    first_bed = first_permitted (patient_of (get_or patients s no_patient));
+    bed_end = permitted_end (patient_of (get_or patients s no_patient));
+    least = 0;
+    first_term = 64;
+  }
 
-module _ (l : List ℕ) (a b x y : ℕ) where
-  pub two_length : length (set (set l a x) b y) ≡ length l
-  two_length = length-set (set l a x) b y ∙ length-set l a x
+  abbrev after : List PatientBucket
+  after = set before s bucket
 
-  pub two_other : (p : ℕ) → (p ≡ a → ⊥) → (p ≡ b → ⊥) → get_or (set (set l a x) b y) p 0 ≡ get_or l p 0
-  two_other p u v = get_or-set_other (set l a x) b p y 0 v ∙ get_or-set_other l a p x 0 u
+  here_at : (q : ℕ) → q ≡ s → get_or after q no_bucket ≡ bucket
+  here_at q e = ap (λ i. get_or after i no_bucket) e ∙ get_or-set_same before s bucket no_bucket (omega (arith, written.wide))
 
-  pub two_first : a < length l → (a ≡ b → ⊥) → get_or (set (set l a x) b y) a 0 ≡ x
-  two_first h v = get_or-set_other (set l a x) b a y 0 v ∙ get_or-set_same l a x 0 h
-
-  pub two_second : b < length l → get_or (set (set l a x) b y) b 0 ≡ y
-  two_second h = get_or-set_same (set l a x) b y 0 (omega (arith, length-set l a x))
-
--- One more patient: four of its five words.
-module _ (patients : List Patient) (words : List ℕ) (s : ℕ) (h : s < 32) (written : PatientsWritten patients s words) where
-  abbrev patient : Patient
-  patient = get_or patients s no_patient
-
-  abbrev ranged : List ℕ
-  ranged = set (set words (s * 5) patient.beds) (s * 5 + 1) (first_permitted (patient_of patient))
-
-  abbrev after : List ℕ
-  after = set (set ranged (s * 5 + 2) (permitted_end (patient_of patient))) (s * 5 + 4) 64
-
-  wide : length ranged ≡ length words
-  wide = two_length words (s * 5) (s * 5 + 1) patient.beds (first_permitted (patient_of patient))
-
-  other : (p : ℕ) → (p ≡ s * 5 → ⊥) → (p ≡ s * 5 + 1 → ⊥) → (p ≡ s * 5 + 2 → ⊥) → (p ≡ s * 5 + 4 → ⊥) → get_or after p 0 ≡ get_or words p 0
-  other p a b c d =
-      two_other ranged (s * 5 + 2) (s * 5 + 4) (permitted_end (patient_of patient)) 64 p c d
-      ∙ two_other words (s * 5) (s * 5 + 1) patient.beds (first_permitted (patient_of patient)) p a b
-
-  early : (p : ℕ) → (p ≡ s * 5 + 2 → ⊥) → (p ≡ s * 5 + 4 → ⊥) → get_or after p 0 ≡ get_or ranged p 0
-  early = two_other ranged (s * 5 + 2) (s * 5 + 4) (permitted_end (patient_of patient)) 64
+  other : (q : ℕ) → (q ≡ s → ⊥) → get_or after q no_bucket ≡ get_or before q no_bucket
+  other q n = get_or-set_other before s q bucket no_bucket n
 
   pub patients_more : PatientsWritten patients (s + 1) after
-  patients_more =
-      record {
-        wide = two_length ranged (s * 5 + 2) (s * 5 + 4) (permitted_end (patient_of patient)) 64 ∙ wide ∙ written.wide;
-        beds = λ q l. beds_of_lem q l (ℕ_discrete q s);
-        first_bed = λ q l. first_bed_of q l (ℕ_discrete q s);
-        bed_end = λ q l. bed_end_of q l (ℕ_discrete q s);
-        least = λ q. other (q * 5 + 3) (λ z. omega arith) (λ z. omega arith) (λ z. omega arith) (λ z. omega arith) ∙ written.least q;
-        first = λ q l. first_of q l (ℕ_discrete q s);
-      }
-    where
-      beds_of_lem : (q : ℕ) → q < s + 1 → Dec (q ≡ s) → beds_at after q ≡ (get_or patients q no_patient).beds
-      beds_of_lem q l (yes e) = rw e (early (s * 5) (λ z. omega arith) (λ z. omega arith) ∙ two_first words (s * 5) (s * 5 + 1) patient.beds (first_permitted (patient_of patient)) (omega (arith, written.wide)) (λ z. omega arith))
-      beds_of_lem q l (no n) = other (q * 5) (λ z. n (omega arith)) (λ z. omega arith) (λ z. omega arith) (λ z. omega arith) ∙ written.beds q (omega arith)
-
-      first_bed_of : (q : ℕ) → q < s + 1 → Dec (q ≡ s) → first_bed_at after q ≡ first_permitted (patient_of (get_or patients q no_patient))
-      first_bed_of q l (yes e) = rw e (early (s * 5 + 1) (λ z. omega arith) (λ z. omega arith) ∙ two_second words (s * 5) (s * 5 + 1) patient.beds (first_permitted (patient_of patient)) (omega (arith, written.wide)))
-      first_bed_of q l (no n) = other (q * 5 + 1) (λ z. omega arith) (λ z. n (omega arith)) (λ z. omega arith) (λ z. omega arith) ∙ written.first_bed q (omega arith)
-
-      bed_end_of : (q : ℕ) → q < s + 1 → Dec (q ≡ s) → bed_end_at after q ≡ permitted_end (patient_of (get_or patients q no_patient))
-      bed_end_of q l (yes e) = rw e (two_first ranged (s * 5 + 2) (s * 5 + 4) (permitted_end (patient_of patient)) 64 (omega (arith, wide, written.wide)) (λ z. omega arith))
-      bed_end_of q l (no n) = other (q * 5 + 2) (λ z. omega arith) (λ z. omega arith) (λ z. n (omega arith)) (λ z. omega arith) ∙ written.bed_end q (omega arith)
-
-      first_of : (q : ℕ) → q < s + 1 → Dec (q ≡ s) → first_at after q ≡ 64
-      first_of q l (yes e) = rw e (two_second ranged (s * 5 + 2) (s * 5 + 4) (permitted_end (patient_of patient)) 64 (omega (arith, wide, written.wide)))
-      first_of q l (no n) = other (q * 5 + 4) (λ z. omega arith) (λ z. omega arith) (λ z. omega arith) (λ z. n (omega arith)) ∙ written.first q (omega arith)
+  patients_more = record {
+    wide = length-set before s bucket ∙ written.wide;
+    beds = λ q l. elim (ℕ_discrete q s) [ yes e ↦ ap (λ (b : PatientBucket). b.beds) (here_at q e) ∙ ap (λ i. (get_or patients i no_patient).beds) (sym e) | no n ↦ ap (λ (b : PatientBucket). b.beds) (other q n) ∙ written.beds q (omega (arith, n)) ];
+    first_bed = λ q l. elim (ℕ_discrete q s) [ yes e ↦ ap (λ (b : PatientBucket). b.first_bed) (here_at q e) ∙ ap (λ i. first_permitted (patient_of (get_or patients i no_patient))) (sym e) | no n ↦ ap (λ (b : PatientBucket). b.first_bed) (other q n) ∙ written.first_bed q (omega (arith, n)) ];
+    bed_end = λ q l. elim (ℕ_discrete q s) [ yes e ↦ ap (λ (b : PatientBucket). b.bed_end) (here_at q e) ∙ ap (λ i. permitted_end (patient_of (get_or patients i no_patient))) (sym e) | no n ↦ ap (λ (b : PatientBucket). b.bed_end) (other q n) ∙ written.bed_end q (omega (arith, n)) ];
+    least = λ q l. elim (ℕ_discrete q s) [ yes e ↦ ap (λ (b : PatientBucket). b.least) (here_at q e) | no n ↦ ap (λ (b : PatientBucket). b.least) (other q n) ∙ written.least q (omega (arith, n)) ];
+    first = λ q l. elim (ℕ_discrete q s) [ yes e ↦ ap (λ (b : PatientBucket). b.first_term) (here_at q e) | no n ↦ ap (λ (b : PatientBucket). b.first_term) (other q n) ∙ written.first q (omega (arith, n)) ];
+  }

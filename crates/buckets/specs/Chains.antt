@@ -1,4 +1,4 @@
--- When the words of a term are right, and what leaves a chain of terms as it is.
+-- When a held term is right, and what leaves a chain of terms as it is.
 use Rattle.std.proofs.Math.Path.{sym, ap, ap₂, subst}
 use Rattle.std.proofs.Common.{◌∙◌, le_trans, arith, ◌+◌, ◌-◌, ◌*◌, ◌<◌, ◌≡◌, ◌∷◌}
 use Rattle.std.specs.Prelude.{◌≤◌, set}
@@ -13,11 +13,12 @@ use Rattle.theorems.specs.Accepted.{Accepted, TableRight, member_at_lem, table_r
 use Rattle.theorems.specs.EntryPlaces.{stride_highest}
 use Rattle.theorems.proofs.EntryPlaces.{place_moved}
 use Rattle.held_region.specs.Stores.{table_at, start_of, start_next, start_most, HasEntries}
-use Rattle.bucket_words.specs.Words.{start_at, next_at, member_at, stride_at}
+use Rattle.bucket_words.specs.Words.{no_member, no_term, start_at, next_at, member_at, stride_at}
 use Rattle.bucket_words.specs.Kept.{kept_at}
 use Rattle.buckets.specs.Terms.{Fitting, highest, place_at, Term, Chain}
 use Rattle.buckets.specs.Places.{stride_of, low_of, product_more, place_of, place_strides, place_bound, place_low}
 use Rattle.buckets.specs.Highest.{in_bucket, highest_in, none_higher}
+use Rattle.bucket_words.specs.declared.TableTerm.{TableTerm}
 
 sum_same : (f g : ℕ → ℕ) (a n : ℕ) → ((j : ℕ) → j < a + n → f j ≡ g j) → sum (map f (numbers_from a n)) ≡ sum (map g (numbers_from a n))
 sum_same f g a zero same = refl
@@ -32,8 +33,8 @@ stride_most count (s ∷ members) each zero = product_more count s members (each
 stride_most count (s ∷ members) each (suc j) =
     le_trans (stride_most count members (λ i l. each (suc i) (omega arith)) j) (product_more count s members (each 0 (omega arith)))
 
--- The term of a table, from its words.
-module _ (r : Region) (a : Accepted r) (i : ℕ) (h : i < length r.tables) (terms : List ℕ) where
+-- The term of a table, from what is held of it.
+module _ (r : Region) (a : Accepted r) (i : ℕ) (h : i < length r.tables) (terms : List TableTerm) where
   abbrev t : Table
   t = table_at r i
 
@@ -97,44 +98,50 @@ module _ (r : Region) (a : Accepted r) (i : ℕ) (h : i < length r.tables) (term
         member_small j (yes l) = omega (arith, member_at_lem right j l, patients_few r a)
         member_small j (no l) = omega (arith, get_or-eq_default t.members 0 {n = j} (omega arith))
 
--- Words that are the same from a place on leave the terms there as they are.
-module _ (r : Region) (store before after : List ℕ) where
-  pub term_kept : (k : ℕ) (t : Table) → ((p : ℕ) → k * 10 ≤ p → get_or after p 0 ≡ get_or before p 0) → Term r store before k t → Term r store after k t
+-- Terms that are held the same from a place on stay as they are.
+module _ (r : Region) (store : List ℕ) (before after : List TableTerm) where
+  pub term_kept : (k : ℕ) (t : Table) → get_or after k no_term ≡ get_or before k no_term → Term r store before k t → Term r store after k t
   unfolding place_at kept_at
   term_kept k t same term =
       record {
-        known = λ j l. omega (arith, term.known j l, same (k * 10 + 2 + j) (omega arith));
-        near = λ j l. omega (arith, term.near j l, same (k * 10 + 6 + j) (omega arith));
-        starts = omega (arith, term.starts, same (k * 10) (omega arith));
+        known = λ j l. omega (arith, term.known j l, members j);
+        near = λ j l. omega (arith, term.near j l, strides j);
+        starts = omega (arith, term.starts, starts);
         inside = λ plan fits. omega (arith, term.inside plan fits, places plan);
         finds = λ plan fits. ap (λ n. get_or store n 0) (places plan) ∙ term.finds plan fits;
         small = term.small;
-        place = λ plan. omega (arith, term.place plan, places plan, same (k * 10) (omega arith));
-        beside = λ s bed plan top inside. omega (arith, term.beside s bed plan top inside, places (set plan s bed), same (k * 10) (omega arith), kepts plan);
+        place = λ plan. omega (arith, term.place plan, places plan, starts);
+        beside = λ s bed plan top inside. omega (arith, term.beside s bed plan top inside, places (set plan s bed), starts, kepts plan);
       }
     where
+      starts : start_at after k ≡ start_at before k
+      starts = ap (λ (held : TableTerm). held.start) same
+
+      members : (j : ℕ) → member_at after k j ≡ member_at before k j
+      members j = ap (λ (held : TableTerm). (get_or held.members j no_member).patient) same
+
+      strides : (j : ℕ) → stride_at after k j ≡ stride_at before k j
+      strides j = ap (λ (held : TableTerm). (get_or held.members j no_member).stride) same
+
       places : (plan : Plan) → place_at after k plan ≡ place_at before k plan
-      places plan =
-          ap₂ (λ n m. n + m) (same (k * 10) (omega arith))
-          (sum_same _ _ 0 4 (λ j l. ap₂ (λ s n. bed_of plan s * n) (same (k * 10 + 2 + j) (omega arith)) (same (k * 10 + 6 + j) (omega arith))))
+      places plan = ap₂ (λ n m. n + m) starts (sum_same _ _ 0 4 (λ j l. ap₂ (λ s n. bed_of plan s * n) (members j) (strides j)))
 
       kepts : (plan : Plan) → kept_at after k plan ≡ kept_at before k plan
-      kepts plan = sum_same _ _ 0 3 (λ j l.
-          ap₂ (λ s n. bed_of plan s * n) (same (k * 10 + 2 + j) (omega arith)) (ap₂ (λ n m. cond (eqb n 0) 0 m) (same (k * 10 + 6 + suc j) (omega arith)) (same (k * 10 + 6 + j) (omega arith))))
+      kepts plan = sum_same _ _ 0 3 (λ j l. ap₂ (λ s n. bed_of plan s * n) (members j) (ap₂ (λ n m. cond (eqb n 0) 0 m) (strides (suc j)) (strides j)))
 
-  pub chain_kept : (low p : ℕ) (tables : List Table) → ((q : ℕ) → low * 10 ≤ q → get_or after q 0 ≡ get_or before q 0)
+  pub chain_kept : (low p : ℕ) (tables : List Table) → ((q : ℕ) → low ≤ q → get_or after q no_term ≡ get_or before q no_term)
       → Chain r store before low p tables → Chain r store after low p tables
   unfolding Chain
   chain_kept low p [] same chain = chain
   chain_kept low p (t ∷ tables) same (above, inside, term, rest) = (
     above,
     inside,
-    term_kept p t (λ q h. same q (omega arith)) term,
-    subst (λ n. Chain r store after (suc p) n tables) (sym (same (p * 10 + 1) (omega arith))) (chain_kept (suc p) (next_at before p) tables (λ q h. same q (omega arith)) rest),
+    term_kept p t (same p (omega arith)) term,
+    subst (λ n. Chain r store after (suc p) n tables) (sym (ap (λ (held : TableTerm). held.next) (same p (omega arith)))) (chain_kept (suc p) (next_at before p) tables (λ q h. same q (omega arith)) rest),
   )
 
 -- A chain's low bound may be a lower one.
-pub chain_lower : (r : Region) (store terms : List ℕ) (low lower p : ℕ) (tables : List Table) → lower ≤ low
+pub chain_lower : (r : Region) (store : List ℕ) (terms : List TableTerm) (low lower p : ℕ) (tables : List Table) → lower ≤ low
     → Chain r store terms low p tables → Chain r store terms lower p tables
 unfolding Chain
 chain_lower r store terms low lower p [] h chain = chain

@@ -12,6 +12,8 @@ use Rattle.patient_set.specs.Sets.{members}
 use Rattle.patient_set.specs.Laws.{members_full}
 use Rattle.buckets.specs.Terms.{Prepared, Numbered}
 use Rattle.buckets.specs.WithTables.{with_tables, with_all}
+use Rattle.bucket_words.specs.declared.PatientBucket.{PatientBucket}
+use Rattle.bucket_words.specs.declared.TableTerm.{TableTerm}
 
 -- Is the lowest of these patients in a set? Does a table count for its patients?
 abbrev pub lowest_in : ℕ → List ℕ → Bool
@@ -30,16 +32,16 @@ all_count r a = every_all (counts_for everybody) r.tables (λ t k.
     ap (λ m. contains m (lowest t.members)) members_full
     ∙ contains_numbers 0 32 (lowest t.members) (omega arith) (omega (arith, right.known (lowest_in_lem t.members right.some), patients_few r a)))
 
--- The words say the buckets of the tables that count, and each of these has the term of its number; where all count, so of the whole region.
-pub record PreparedFor (counts : Table → Bool) (r : Region) (store patients terms : List ℕ) : Type 0 where
+-- Held are the buckets of the tables that count, and each of these has the term of its number; where all count, so of the whole region.
+pub record PreparedFor (counts : Table → Bool) (r : Region) (store : List ℕ) (patients : List PatientBucket) (terms : List TableTerm) : Type 0 where
   pub prepared : Prepared (with_tables r counts) store patients terms
   pub numbered : Numbered r counts store terms
 
-pub record PreparedAll (r : Region) (store patients terms : List ℕ) : Type 0 where
+pub record PreparedAll (r : Region) (store : List ℕ) (patients : List PatientBucket) (terms : List TableTerm) : Type 0 where
   pub prepared : Prepared r store patients terms
   pub numbered : Numbered r (λ t. true) store terms
 
-pub prepared_all : (r : Region) → Accepted r → {store patients terms : List ℕ} → PreparedFor (counts_for everybody) r store patients terms → PreparedAll r store patients terms
+pub prepared_all : (r : Region) → Accepted r → {store : List ℕ} {patients : List PatientBucket} {terms : List TableTerm} → PreparedFor (counts_for everybody) r store patients terms → PreparedAll r store patients terms
 prepared_all r a {store} {patients} {terms} p =
     record {
       prepared = subst (λ x. Prepared x store patients terms) (with_all r (counts_for everybody) a (all_count r a)) p.prepared;

@@ -4,7 +4,7 @@ use Rattle.std.proofs.Math.Path.{refl, ap, fun_ext}
 use Rattle.std.proofs.Common.{◌∙◌, arith, ◌+◌, ◌||◌, ◌∷◌}
 use borrow.Author.Tests.{le-leb, eq-eqb}
 use Rattle.definitions.specs.Basics.{ℕ, zero, suc, Bool, true, false, cond, Option, none, some, List, [], length, every, every_two, keep, contains}
-use Rattle.definitions.specs.Limits.{limits, within, patient_count, table_count}
+use Rattle.definitions.specs.Limits.{limits, within}
 use Rattle.definitions.specs.Syntax.{Table, Region, patient_at}
 use Rattle.definitions.specs.Plans.{entry_for}
 use Rattle.definitions.specs.Questions.{counts_true, counts_within, patients_within, parents_smaller, members_right, entry_counts_right, entries_within, following, ancestors, members_related}
@@ -14,6 +14,7 @@ use Rattle.lists.specs.Keep.{keep_out, keep_all, keep_short, every_keep}
 use Rattle.theorems.specs.Accepted.{Accepted, patients_counted_lem, tables_counted_lem, counts_within_lem, table_right, tables_few, entries_few}
 use Rattle.buckets.specs.Terms.{Term}
 use Rattle.held_region.specs.Stores.{entries_of}
+use Rattle.bucket_words.specs.declared.TableTerm.{TableTerm}
 
 abbrev pub with_tables : Region → (Table → Bool) → Region
 with_tables r test = record {
@@ -85,7 +86,7 @@ module _ (r : Region) (test : Table → Bool) where
         }
 
 -- A term of one of its tables.
-pub term_with : (r : Region) (test : Table → Bool) (store terms : List ℕ) (k : ℕ) (t : Table) → Term r store terms k t → Term (with_tables r test) store terms k t
+pub term_with : (r : Region) (test : Table → Bool) (store : List ℕ) (terms : List TableTerm) (k : ℕ) (t : Table) → Term r store terms k t → Term (with_tables r test) store terms k t
 unfolding entry_for patient_at
 term_with r test store terms k t term =
     record { known = term.known; near = term.near; starts = term.starts; inside = term.inside; finds = term.finds; small = term.small; place = term.place; beside = term.beside }

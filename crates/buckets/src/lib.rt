@@ -12,59 +12,69 @@ ghost use Rattle.buckets.specs.Counting.{lowest_in, counts_for, PreparedFor, Pre
 ghost use Rattle.buckets.specs.Least.{least_number};
 ghost use Rattle.buckets.specs.Written.{FixedFit, PatientsWritten, MembersWritable, MembersWritten, LastKnown, last_of, TermKnown, TermAdded};
 
+use bucket_words::{Buckets, PatientBucket, TableTerm, TermMember};
 use entry_questions::entry_total;
 use held_region::{FORBIDDEN, Patient, Region, Table};
 use patient_set::PatientSet;
-use scanner::Optional;
-
-// For each patient five words: its count of beds, its first permitted bed, the end of these, the sum of the least numbers of its bucket, and the first term of its bucket.
-// For each table a term of ten words: the start of its entries, the next term of the bucket, four members and their strides.
-#[derive(Clone, Copy)]
-pub struct Buckets {
-    pub patients: [u32; 160],
-    pub terms: [u32; 640],
-}
 
 // The end of a bucket: no table has this number.
 const NO_TERM: u32 = 64;
 
+// What stands where no member, no patient and no table is.
+const NO_MEMBER: TermMember = TermMember {
+    patient: 0,
+    stride: 0,
+};
+
+const NO_BUCKET: PatientBucket = PatientBucket {
+    beds: 0,
+    first_bed: 0,
+    bed_end: 0,
+    least: 0,
+    first_term: NO_TERM,
+};
+
+const BLANK_TERM: TableTerm = TableTerm {
+    start: 0,
+    next: NO_TERM,
+    members: [NO_MEMBER; 4],
+};
+
 // The permitted beds are all, or the fixed one: the first, and the end behind the last.
-fn first_permitted(fixed: Optional) -> u32
+fn first_permitted(fixed: Option<u32>) -> u32
     ensures { result ≡ first_of (optional fixed) }
 {
-    match fixed {
-        Optional::Hyphen => 0,
-        Optional::Number(bed) => bed,
-    }
+    fixed.unwrap_or(0)
 }
 
-fn permitted_end(fixed: Optional, beds: u32) -> u32
+fn permitted_end(fixed: Option<u32>, beds: u32) -> u32
     requires { none_or_below (optional fixed) beds ≡ true }
     ensures { result ≡ end_of (optional fixed) beds }
 {
     match fixed {
-        Optional::Hyphen => beds,
-        Optional::Number(bed) => bed + 1,
+        None => beds,
+        Some(bed) => bed + 1,
     }
 }
 
-// The words of the patients before any table is put into its bucket.
-fn patient_words(patients: [Patient; 32], v: usize) -> [u32; 160]
+// The patients before any table is put into its bucket.
+fn patient_buckets(patients: [Patient; 32], v: usize) -> [PatientBucket; 32]
     requires { (v ≤ 32) × FixedFit patients v }
     ensures { PatientsWritten patients v result }
 {
-    let mut words = [0u32; 160];
-    let mut s = 0;
-    while s < v {
+    let mut written = [NO_BUCKET; 32];
+    for s in 0..v {
         let patient = patients[s];
         let fixed = patient.fixed;
-        words[s * 5] = patient.beds;
-        words[s * 5 + 1] = first_permitted(fixed);
-        words[s * 5 + 2] = permitted_end(fixed, patient.beds);
-        words[s * 5 + 4] = NO_TERM;
-        s += 1;
+        written[s] = PatientBucket {
+            beds: patient.beds,
+            first_bed: first_permitted(fixed),
+            bed_end: permitted_end(fixed, patient.beds),
+            least: 0,
+            first_term: NO_TERM,
+        };
     }
-    words
+    written
 }
 
 // The least number of a part of the store, or 0 where all of it is forbidden.
@@ -73,32 +83,31 @@ fn least_number(entries: &[u32; 4096], from: usize, to: usize) -> u32
     ensures { result ≡ least_number entries.now from to }
 {
     let mut least = FORBIDDEN;
-    let mut i = from;
-    while i < to {
+    for i in from..to {
         let code = entries[i];
         if code < least {
             least = code;
         }
-        i += 1;
     }
     if least == FORBIDDEN { 0 } else { least }
 }
 
 // The members of a table, and for each the product of the bed counts of the members after it.
-fn write_members(terms: &mut [u32; 640], patients: &[u32; 160], table: Table, k: usize)
-    requires { MembersWritable patients.now table k terms.old }
-    ensures { MembersWritten patients.now table k terms.old terms.new }
+fn term_members(patients: &[PatientBucket; 32], table: Table) -> [TermMember; 4]
+    requires { MembersWritable patients.now table }
+    ensures { MembersWritten patients.now table result }
 {
+    let mut members = [NO_MEMBER; 4];
     let mut stride: u32 = 1;
-    let mut j = table.members;
-    while 0 < j {
-        j -= 1;
-        let member = table.first[j];
-        let s = member as usize;
-        terms[k * 10 + 2 + j] = member;
-        terms[k * 10 + 6 + j] = stride;
-        stride = stride * patients[s * 5];
+    for j in (0..table.members).rev() {
+        let patient = table.first[j];
+        members[j] = TermMember {
+            patient: patient,
+            stride: stride,
+        };
+        stride *= patients[patient as usize].beds;
     }
+    members
 }
 
 // The highest member of a table: members rise, so it is the last.
@@ -111,24 +120,24 @@ fn highest_member(table: Table) -> usize
 }
 
 // A table as a term in front of the bucket of its highest member.
-fn add_term(
-    patients: &mut [u32; 160],
-    terms: &mut [u32; 640],
-    entries: &[u32; 4096],
-    table: Table,
-    k: usize,
-    start: usize,
-)
-    requires { TermKnown entries.now table k start patients.old terms.old }
-    ensures { TermAdded entries.now table k start patients.old patients.new terms.old terms.new }
+fn add_term(buckets: &mut Buckets, entries: &[u32; 4096], table: Table, k: usize, start: usize)
+    requires { TermKnown entries.now table k start buckets.old.patients buckets.old.terms }
+    ensures { TermAdded entries.now table k start buckets.old.patients buckets.new.patients buckets.old.terms buckets.new.terms }
 {
     let least = least_number(entries, start, start + table.entries);
-    write_members(terms, patients, table, k);
+    let members = term_members(&buckets.patients, table);
     let s = highest_member(table);
-    terms[k * 10] = start as u32;
-    terms[k * 10 + 1] = patients[s * 5 + 4];
-    patients[s * 5 + 3] += least;
-    patients[s * 5 + 4] = k as u32;
+    let bucket = buckets.patients[s];
+    buckets.terms[k] = TableTerm {
+        start: start as u32,
+        next: bucket.first_term,
+        members: members,
+    };
+    buckets.patients[s] = PatientBucket {
+        least: bucket.least + least,
+        first_term: k as u32,
+        ..bucket
+    };
 }
 
 // Does a table count for the patients of a set: is its lowest member one of them? Members rise, so it is the first.
@@ -146,23 +155,19 @@ pub fn prepare_for(region: Region, store: &[u32; 4096], of: PatientSet) -> Bucke
     requires { Accepted (said region store.now) }
     ensures { PreparedFor (counts_for of.0) (said region store.now) store.now result.patients result.terms }
 {
-    let held = region.patients;
-    let mut patients = patient_words(held, region.v);
-    let mut terms = [0u32; 640];
+    let mut buckets = Buckets {
+        patients: patient_buckets(region.patients, region.v),
+        terms: [BLANK_TERM; 64],
+    };
     let mut start = entry_total(region);
-    let mut i = region.t;
-    while 0 < i {
-        i -= 1;
+    for i in (0..region.t).rev() {
         let table = region.tables[i];
         start -= table.entries;
         if counts_for(table, of) {
-            add_term(&mut patients, &mut terms, store, table, i, start);
+            add_term(&mut buckets, store, table, i, start);
         }
     }
-    Buckets {
-        patients: patients,
-        terms: terms,
-    }
+    buckets
 }
 
 // Every table as a term.

@@ -10,19 +10,15 @@ ghost use Rattle.forest.specs.Trees.{RootNumbers, root_from};
 
 use held_region::Region;
 use patient_set::PatientSet;
-use scanner::Optional;
 
 // The root of patient s, who has this parent: its own number, or its parent's root.
-fn root_number(roots: [u32; 32], s: usize, parent: Optional) -> u32
+fn root_number(roots: &[u32; 32], s: usize, parent: Option<u32>) -> u32
     requires { (s < 32) × ((p : ℕ) → optional parent ≡ some p → p < 32) }
-    ensures { result ≡ root_from roots s (optional parent) }
+    ensures { result ≡ root_from roots.now s (optional parent) }
 {
     match parent {
-        Optional::Hyphen => s as u32,
-        Optional::Number(p) => {
-            let above = p as usize;
-            roots[above]
-        }
+        None => s as u32,
+        Some(p) => roots[p as usize],
     }
 }
 
@@ -32,22 +28,11 @@ pub fn root_numbers(region: Region) -> [u32; 32]
     ensures { (store : List ℕ) → RootNumbers (said region store) result }
 {
     let mut roots = [0u32; 32];
-    let patients = region.patients;
-    let mut s = 0;
-    while s < region.v {
-        let patient = patients[s];
-        let parent = patient.parent;
-        let root = root_number(roots, s, parent);
+    for s in 0..region.v {
+        let root = root_number(&roots, s, region.patients[s].parent);
         roots[s] = root;
-        s += 1;
     }
     roots
-}
-
-fn as_number(word: u32) -> usize
-    ensures { result ≡ word }
-{
-    word as usize
 }
 
 // The patients with this root.
@@ -56,12 +41,10 @@ pub fn tree(roots: &[u32; 32], v: usize, k: usize) -> PatientSet
     ensures { (q : ℕ) → in_set result.0 q ≡ (ltb q v && eqb (get_or roots.now q 0) k) }
 {
     let mut set = PatientSet::EMPTY;
-    let mut s = 0;
-    while s < v {
-        if as_number(roots[s]) == k {
+    for s in 0..v {
+        if roots[s] as usize == k {
             set = set.add(s);
         }
-        s += 1;
     }
     set
 }

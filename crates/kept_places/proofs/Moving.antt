@@ -10,6 +10,8 @@ use borrow.Author.Tests.{eqb-false, lt-ltb, le-ltb}
 use Rattle.std.specs.Prelude.{◌+◌, ◌-◌, ◌*◌, ◌<◌}
 use Rattle.definitions.specs.Basics.{ℕ, zero, suc, Bool, true, false, cond, List, map, length, get_or, eqb, ltb, below, sum}
 use Rattle.definitions.specs.Plans.{bed_of}
+use Rattle.bucket_words.specs.declared.TableTerm.{TableTerm}
+use Rattle.kept_places.specs.declared.Moves.{Moves}
 use Rattle.bucket_words.specs.Words.{member_at}
 use Rattle.bucket_words.specs.Kept.{low_stride, kept_at, Kept}
 use Rattle.kept_places.specs.Beds.{low_set}
@@ -37,28 +39,28 @@ total_most f most few = omega (arith, few 0 (omega arith), few 1 (omega arith), 
 -- ---- halfway from the old beds to the new
 
 -- What a member makes of its term's place.
-abbrev part : List ℕ → List ℕ → ℕ → ℕ → ℕ
+abbrev part : List TableTerm → List ℕ → ℕ → ℕ → ℕ
 part terms beds k j = bed_of beds (member_at terms k j) * low_stride terms k j
 
 -- The same while a bed changes: the moves below a place are made.
-abbrev part_at : List ℕ → List ℕ → List ℕ → ℕ → ℕ → ℕ → ℕ
+abbrev part_at : List TableTerm → List ℕ → List ℕ → ℕ → ℕ → ℕ → ℕ
 part_at terms beds after low k j = part terms (cond (ltb (move_at k j) low) after beds) k j
 
 -- A term's place, from its three parts.
-abbrev pub half_at : List ℕ → List ℕ → List ℕ → ℕ → ℕ → ℕ
+abbrev pub half_at : List TableTerm → List ℕ → List ℕ → ℕ → ℕ → ℕ
 half_at terms beds after low k = total (part_at terms beds after low k)
 
 part_most : {bed stride : ℕ} → bed < 16 → stride ≤ 4096 → bed * stride ≤ 61440
 part_most few near = mul-le-mul {n₂ = 15} {m₂ = 4096} (omega arith) near
 
-module _ (terms beds after : List ℕ) (k j : ℕ) where
+module _ (terms : List TableTerm) (beds after : List ℕ) (k j : ℕ) where
   part_before : {low : ℕ} → low ≤ move_at k j → part_at terms beds after low k j ≡ part terms beds k j
   part_before {low} h = ap (λ made. part terms (cond made after beds) k j) (le-ltb (move_at k j) low h)
 
   part_after : {low : ℕ} → move_at k j < low → part_at terms beds after low k j ≡ part terms after k j
   part_after {low} h = ap (λ made. part terms (cond made after beds) k j) (lt-ltb (move_at k j) low h)
 
-module _ (terms beds : List ℕ) (s new : ℕ) where
+module _ (terms : List TableTerm) (beds : List ℕ) (s new : ℕ) where
   abbrev changed : List ℕ
   changed = set beds s new
 
@@ -80,11 +82,11 @@ module _ (terms beds : List ℕ) (s new : ℕ) where
     ]
   ]
 
-  kept_before : (k : ℕ) → kept_at terms k beds ≡ half_at terms beds changed 32 k
+  kept_before : (k : ℕ) → kept_at terms k beds ≡ half_at terms beds changed 0 k
   unfolding kept_at
-  kept_before k = total_same (part terms beds k) (part_at terms beds changed 32 k) (λ j h. sym (part_before terms beds changed k j (omega arith)))
+  kept_before k = total_same (part terms beds k) (part_at terms beds changed 0 k) (λ j h. sym (part_before terms beds changed k j (omega arith)))
 
-  kept_after : {low at : ℕ} → Leads terms s low at → 608 ≤ at → (k : ℕ) → k < 64 → half_at terms beds changed low k ≡ kept_at terms k changed
+  kept_after : {low at : ℕ} → Leads terms s low at → 192 ≤ at → (k : ℕ) → k < 64 → half_at terms beds changed low k ≡ kept_at terms k changed
   unfolding kept_at
   kept_after {low} leads past k h =
       total_same (part_at terms beds changed low k) (part terms changed k)
@@ -93,30 +95,30 @@ module _ (terms beds : List ℕ) (s new : ℕ) where
 -- ---- one move made
 
 -- Where the walk over the moves of s stands: those below some place are made, and one is next.
-pub record Stands (terms beds : List ℕ) (s new : ℕ) (places : List ℕ) (at : ℕ) : Type 0 where
+pub record Stands (terms : List TableTerm) (beds : List ℕ) (s new : ℕ) (places : List ℕ) (at : ℕ) : Type 0 where
   pub low : ℕ
   pub leads : Leads terms s low at
   pub each : (k : ℕ) → k < 64 → get_or places k 0 ≡ half_at terms beds (set beds s new) low k
 
 -- The loop stands so for all beds that its places were kept for.
-pub record Halfway (moves : List ℕ) (s old new : ℕ) (before places : List ℕ) (at : ℕ) : Type 0 where
+pub record Halfway (moves : Moves) (s old new : ℕ) (before places : List ℕ) (at : ℕ) : Type 0 where
   pub long : length places ≡ 64
-  pub stands : (terms beds : List ℕ) → Linked terms 32 moves → Kept terms beds before → s < length beds → bed_of beds s ≡ old → Stands terms beds s new places at
+  pub stands : (terms : List TableTerm) (beds : List ℕ) → Linked terms 0 moves → Kept terms beds before → s < length beds → bed_of beds s ≡ old → Stands terms beds s new places at
 
 -- A move can be made: what the loop reads stays in its bounds, with beds up to 15 and strides up to 4096.
-pub record Makes (moves places : List ℕ) (old new at : ℕ) : Type 0 where
-  pub inside : at + 3 ≤ 608
+pub record Makes (moves : Moves) (places : List ℕ) (old new at : ℕ) : Type 0 where
+  pub inside : at < 192
   pub term : term_in moves at < 64
   pub near : stride_in moves at ≤ 4096
   pub next : at < next_in moves at
-  pub last : next_in moves at ≤ 608
+  pub last : next_in moves at ≤ 192
   pub old_most : stride_in moves at * old ≤ 61440
   pub new_most : stride_in moves at * new ≤ 61440
   pub place_most : get_or places (term_in moves at) 0 ≤ 184320
   pub enough : stride_in moves at * old ≤ get_or places (term_in moves at) 0 + stride_in moves at * new
 
-module _ {terms beds moves places : List ℕ} {s old new at : ℕ} (linked : Linked terms 32 moves) (inside : s < length beds) (was : bed_of beds s ≡ old)
-    (stands : Stands terms beds s new places at) (more : at < 608) where
+module _ {terms : List TableTerm} {beds : List ℕ} {moves : Moves} {places : List ℕ} {s old new at : ℕ} (linked : Linked terms 0 moves) (inside : s < length beds) (was : bed_of beds s ≡ old)
+    (stands : Stands terms beds s new places at) (more : at < 192) where
   abbrev move : MoveOf terms s at
   move = stands.leads.found more
 
@@ -133,13 +135,13 @@ module _ {terms beds moves places : List ℕ} {s old new at : ℕ} (linked : Lin
   says = linked.each k j move.term_few move.slot_few (omega arith) move.moves
 
   is_term : term_in moves at ≡ k
-  is_term = ap (λ p. get_or moves p 0) move.here ∙ says.term
+  is_term = ap (term_in moves) move.here ∙ says.term
 
   is_stride_lem : stride_in moves at ≡ low_stride terms k j
-  is_stride_lem = ap (λ p. get_or moves (p + 1) 0) move.here ∙ says.stride
+  is_stride_lem = ap (stride_in moves) move.here ∙ says.stride
 
   next_leads : Leads terms s (suc at) (next_in moves at)
-  next_leads = subst⁻¹ (λ p. Leads terms s (suc p) (get_or moves (p + 2) 0)) move.here (rw move.member at says.next)
+  next_leads = subst⁻¹ (λ p. Leads terms s (suc p) (next_in moves p)) move.here (rw move.member at says.next)
 
   -- The part of the member that moves.
   part_is : (bed : ℕ) (plan : List ℕ) → bed_of plan s ≡ bed → part terms plan k j ≡ stride_in moves at * bed
@@ -191,20 +193,20 @@ module _ {terms beds moves places : List ℕ} {s old new at : ℕ} (linked : Lin
 
 -- ---- all moves
 
-module _ {moves before : List ℕ} {s old new : ℕ} where
-  pub halfway_start : s < 32 → length before ≡ 64 → Halfway moves s old new before before (get_or moves s 0)
+module _ {moves : Moves} {before : List ℕ} {s old new : ℕ} where
+  pub halfway_start : s < 32 → length before ≡ 64 → Halfway moves s old new before before (get_or moves.first s 0)
   halfway_start few long = record {
     long = long;
-    stands = λ terms beds linked kept inside was. record { low = 32; leads = linked.first s few; each = λ k h. kept.each k h ∙ kept_before terms beds s new k };
+    stands = λ terms beds linked kept inside was. record { low = 0; leads = linked.first s few; each = λ k h. kept.each k h ∙ kept_before terms beds s new k };
   }
 
-  pub halfway_done : {places : List ℕ} {at : ℕ} → Halfway moves s old new before places at → 608 ≤ at → GivesMove moves s old new before places
+  pub halfway_done : {places : List ℕ} {at : ℕ} → Halfway moves s old new before places at → 192 ≤ at → GivesMove moves s old new before places
   halfway_done half past terms beds linked kept inside was =
       let stands = half.stands terms beds linked kept inside was in
       record { long = half.long; each = λ k h. stands.each k h ∙ kept_after terms beds s new stands.leads past k h }
 
-module _ {moves before : List ℕ} {s old new : ℕ} (asks : AsksMove moves s old new before) where
-  abbrev terms : List ℕ
+module _ {moves : Moves} {before : List ℕ} {s old new : ℕ} (asks : AsksMove moves s old new before) where
+  abbrev terms : List TableTerm
   terms = asks.terms
 
   abbrev beds : List ℕ
@@ -223,7 +225,7 @@ module _ {moves before : List ℕ} {s old new : ℕ} (asks : AsksMove moves s ol
       each j h true = part_most (low_set beds s new asks.small asks.low (member_at terms k j)) (stride_near k j few h)
       each j h false = part_most (asks.low (member_at terms k j)) (stride_near k j few h)
 
-  module _ {places : List ℕ} {at : ℕ} (half : Halfway moves s old new before places at) (more : at < 608) where
+  module _ {places : List ℕ} {at : ℕ} (half : Halfway moves s old new before places at) (more : at < 192) where
     ours : Stands terms beds s new places at
     ours = half.stands terms beds asks.linked asks.kept inside asks.was
 

@@ -6,11 +6,12 @@ use native.Mathlib.Omega.{arith}
 use borrow.Author.Tests.{eq-eqb, ne_eqb}
 use Rattle.std.specs.Prelude.{◌+◌}
 use Rattle.definitions.specs.Basics.{ℕ, suc, Bool, true, false, cond, List, eqb}
+use Rattle.bucket_words.specs.declared.TableTerm.{TableTerm}
 use Rattle.bucket_words.specs.Words.{member_at, stride_at}
 use Rattle.bucket_words.specs.Kept.{low_stride}
 use Rattle.kept_places.specs.Moves.{stride_for}
 
-module _ (terms : List ℕ) (k j : ℕ) where
+module _ (terms : List TableTerm) (k j : ℕ) where
   pub low_last : stride_at terms k (j + 1) ≡ 0 → low_stride terms k j ≡ 0
   low_last e = ap (λ last. cond last 0 (stride_at terms k j)) (eq-eqb (stride_at terms k (suc j)) 0 (rw add-one at e))
 

@@ -2,7 +2,7 @@
 use mathlib.Core.Path.{◌≡◌, sym, ap, ◌∙◌, subst}
 use Prim.Native.Nat.{◌≤◌}
 use native.Mathlib.Omega.{arith}
-use lib.ListN.{set, get_or-replicate}
+use lib.ListN.{set, replicate, length-replicate, get_or-replicate}
 use Rattle.std.specs.Prelude.{◌+◌, ◌*◌, ◌<◌}
 use Rattle.definitions.specs.Basics.{ℕ, some, List, length, get_or}
 use Rattle.definitions.specs.Syntax.{Region, patient_at}
@@ -18,16 +18,18 @@ use Rattle.pricing.specs.Pricing.{sum_in}
 use Rattle.pricing.specs.Costs.{fitting_set}
 use Rattle.pricing.specs.BedCosts.{Small, most_added, AsksEntries, GivesEntries, Asks, Gives}
 use Rattle.pricing.proofs.Chains.{Left, left_start, left_most, left_later, left_next_most, left_beside, left_inside, left_small, left_next, left_done}
+use Rattle.bucket_words.specs.declared.PatientBucket.{PatientBucket}
+use Rattle.bucket_words.specs.declared.TableTerm.{TableTerm}
 
 -- Where the loop stands: for each bed, the sum so far and the tables that are left, whose terms begin at k.
-pub record Sums (store patients terms places : List ℕ) (s first end : ℕ) (sums : List ℕ) (k : ℕ) : Type 0 where
+pub record Sums (store : List ℕ) (patients : List PatientBucket) (terms : List TableTerm) (places : List ℕ) (s first end : ℕ) (sums : List ℕ) (k : ℕ) : Type 0 where
   pub long : length sums ≡ 16
   pub few : (bed n : ℕ) → first ≤ bed → bed < end → sum_in (get_or sums bed 0) ≡ some n → n ≤ k * 1_000_000
   pub most : (bed : ℕ) → first ≤ bed → bed < end → get_or sums bed 0 ≤ k * most_added
   pub left : (r : Region) (beds : Plan) → Prepared r store patients terms → Fitting r beds → Kept terms beds places → s < length r.patients → s < length beds
       → (bed : ℕ) → first ≤ bed → bed < end → Left r store terms s (set beds s bed) (sum_in (get_or sums bed 0)) k
 
-module _ {store patients terms places : List ℕ} {s first end : ℕ} {zeros : List ℕ} (asks : Asks store patients terms places s first end zeros) where
+module _ {store : List ℕ} {patients : List PatientBucket} {terms : List TableTerm} {places : List ℕ} {s first end : ℕ} (asks : Asks store patients terms places s first end) where
   -- In every region that the words are prepared for, the permitted beds are among the patient's.
   inside : (r : Region) → Prepared r store patients terms → s < length r.patients → (bed : ℕ) → bed < end → bed < (patient_at r s).bed_count
   inside r prepared known bed h = omega (arith, asks.ends, prepared.bed_end s known, permitted_most r prepared.accepted s known)
@@ -44,12 +46,15 @@ module _ {store patients terms places : List ℕ} {s first end : ℕ} {zeros : L
       let most = permitted_most asks.region asks.prepared.accepted s asks.known in
       omega (arith, asks.ends, asks.prepared.bed_end s asks.known, most, beds_few asks.region asks.prepared.accepted s asks.known)
 
+  abbrev zeros : List ℕ
+  zeros = replicate 16 0
+
   nothing : (bed : ℕ) → bed < end → get_or zeros bed 0 ≡ 0
-  nothing bed h = ap (λ (l : List ℕ). get_or l bed 0) asks.zeros ∙ get_or-replicate 16 bed 0 0 (omega (arith, few_beds))
+  nothing bed h = get_or-replicate 16 bed 0 0 (omega (arith, few_beds))
 
   pub sums_start : Sums store patients terms places s first end zeros (first_at patients s)
   sums_start = record {
-    long = ap length asks.zeros;
+    long = length-replicate {A = ℕ} 16 0;
     few = λ bed n l h e. (let zero : some 0 ≡ some n = sym (ap sum_in (nothing bed h)) ∙ e in let none : n ≡ 0 = cc in omega arith);
     most = λ bed l h. omega (arith, nothing bed h);
     left = λ r beds prepared fits kept known long bed l h.

@@ -19,17 +19,19 @@ use Rattle.bucket_words.specs.Kept.{kept_at}
 use Rattle.buckets.specs.Terms.{Fitting, highest, bucket_of, place_at, Term, Chain, Prepared}
 use Rattle.pricing.specs.Pricing.{Reads, Asks, Gives}
 use Rattle.pricing.specs.Costs.{entry_number, entry_known}
-use Rattle.pricing.specs.declared.Cost.TheVariants.{Forbidden, Of}
+use Rattle.std.specs.Prelude.{None, Some}
+use Rattle.bucket_words.specs.declared.PatientBucket.{PatientBucket}
+use Rattle.bucket_words.specs.declared.TableTerm.{TableTerm}
 
 -- Where the loop stands: the sum so far, and the tables of the bucket that are left, whose terms begin at k.
-pub record Left (r : Region) (store terms : List ℕ) (s : ℕ) (beds : Plan) (sum : Option ℕ) (k : ℕ) : Type 0 where
+pub record Left (r : Region) (store : List ℕ) (terms : List TableTerm) (s : ℕ) (beds : Plan) (sum : Option ℕ) (k : ℕ) : Type 0 where
   pub low : ℕ
   pub tables : List Table
   pub chain : Chain r store terms low k tables
   pub own : (t : Table) → t ∈ tables → highest s t ≡ true
   pub cost : plus sum (cost_over tables r beds) ≡ cost_over (bucket_of r s) r beds
 
-pub left_start : (r : Region) (store terms : List ℕ) (s : ℕ) (beds : Plan) {k : ℕ} → Chain r store terms 0 k (bucket_of r s) → Left r store terms s beds (some 0) k
+pub left_start : (r : Region) (store : List ℕ) (terms : List TableTerm) (s : ℕ) (beds : Plan) {k : ℕ} → Chain r store terms 0 k (bucket_of r s) → Left r store terms s beds (some 0) k
 unfolding bucket_of
 left_start r store terms s beds chain = record {
   low = 0;
@@ -40,17 +42,17 @@ left_start r store terms s beds chain = record {
 }
 
 -- A chain goes no further than 64.
-chain_most : (r : Region) (store terms : List ℕ) (low k : ℕ) (tables : List Table) → Chain r store terms low k tables → k ≤ 64
+chain_most : (r : Region) (store : List ℕ) (terms : List TableTerm) (low k : ℕ) (tables : List Table) → Chain r store terms low k tables → k ≤ 64
 unfolding Chain
 chain_most r store terms low k [] h = omega arith
 chain_most r store terms low k (t ∷ tables) h = omega (arith, h.1)
 
-chain_from : (r : Region) (store terms : List ℕ) (low k : ℕ) (tables : List Table) → low ≤ 64 → Chain r store terms low k tables → low ≤ k
+chain_from : (r : Region) (store : List ℕ) (terms : List TableTerm) (low k : ℕ) (tables : List Table) → low ≤ 64 → Chain r store terms low k tables → low ≤ k
 unfolding Chain
 chain_from r store terms low k [] l h = omega arith
 chain_from r store terms low k (t ∷ tables) l h = h.0
 
-module _ {r : Region} {store terms : List ℕ} {s : ℕ} {beds : Plan} {sum : Option ℕ} {k : ℕ} where
+module _ {r : Region} {store : List ℕ} {terms : List TableTerm} {s : ℕ} {beds : Plan} {sum : Option ℕ} {k : ℕ} where
   pub left_most : Left r store terms s beds sum k → k ≤ 64
   left_most h = chain_most r store terms h.low k h.tables h.chain
 
@@ -127,12 +129,12 @@ module _ {r : Region} {store terms : List ℕ} {s : ℕ} {beds : Plan} {sum : Op
             cost = sym (plus_assoc sum _ (cost_over g.others r beds)) ∙ ap (λ o. plus sum (plus o (cost_over g.others r beds))) entry ∙ g.cost;
           }
 
--- The same for every region that the words are prepared for, with a sum that stays small.
-pub record Goes (store patients terms : List ℕ) (s : ℕ) (beds : Plan) (sum k : ℕ) : Type 0 where
+-- The same for every region that the buckets are prepared for, with a sum that stays small.
+pub record Goes (store : List ℕ) (patients : List PatientBucket) (terms : List TableTerm) (s : ℕ) (beds : Plan) (sum k : ℕ) : Type 0 where
   pub few : sum ≤ k * 1_000_000
   pub left : (r : Region) → Prepared r store patients terms → Fitting r beds → s < length r.patients → Left r store terms s beds (some sum) k
 
-module _ {store patients terms : List ℕ} {s : ℕ} {beds : Plan} (asks : Asks store patients terms s beds) where
+module _ {store : List ℕ} {patients : List PatientBucket} {terms : List TableTerm} {s : ℕ} {beds : Plan} (asks : Asks store patients terms s beds) where
   pub goes_start : Goes store patients terms s beds 0 (first_at patients s)
   goes_start = record { few = omega arith; left = λ r prepared fits known. left_start r store terms s beds (prepared.bucket s known) }
 
@@ -140,7 +142,7 @@ module _ {store patients terms : List ℕ} {s : ℕ} {beds : Plan} (asks : Asks 
     own : Left asks.region store terms s beds (some sum) k
     own = goes.left asks.region asks.prepared asks.fits asks.known
 
-    pub goes_done : 64 ≤ k → Gives store patients terms s beds (Of sum)
+    pub goes_done : 64 ≤ k → Gives store patients terms s beds (Some sum)
     goes_done end =
         let most : sum ≤ most_total = omega (arith, goes.few, left_most own) in
         record { most = λ n e. let same : n ≡ sum = cc in omega arith; cost = λ r prepared fits known. left_done (goes.left r prepared fits known) end }
@@ -161,7 +163,7 @@ module _ {store patients terms : List ℕ} {s : ℕ} {beds : Plan} (asks : Asks 
       with_entry {o} is r prepared fits known =
           subst (λ e. Left r store terms s beds (plus (some sum) e) (next_at terms k)) is (left_next (goes.left r prepared fits known) more fits)
 
-      pub goes_forbidden : get_or store (place_at terms k beds) 0 ≡ mark → Gives store patients terms s beds Forbidden
+      pub goes_forbidden : get_or store (place_at terms k beds) 0 ≡ mark → Gives store patients terms s beds None
       goes_forbidden e =
           record { most = λ n no. absurd (none-ne-some n no); cost = λ r prepared fits known. (with_entry (ap said_by e) r prepared fits known).cost }
 

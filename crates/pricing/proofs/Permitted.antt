@@ -13,19 +13,20 @@ use Rattle.theorems.specs.Fixed.{permits, keeps_fixed, total_kept}
 use Rattle.bucket_words.specs.Words.{first_bed_at, bed_end_at}
 use Rattle.buckets.specs.Permitted.{permitted_is}
 use Rattle.buckets.specs.Terms.{Fitting, Prepared}
-use Rattle.pricing.specs.Pricing.{GivesTables, GivesAll, permitted_at, bed_permitted}
-use Rattle.pricing.specs.declared.Cost.{Cost}
-use Rattle.pricing.specs.declared.Cost.TheVariants.{Forbidden}
+use Rattle.pricing.specs.Pricing.{Cost, GivesTables, GivesAll, permitted_at, bed_permitted}
+use Rattle.std.specs.Prelude.{None}
+use Rattle.bucket_words.specs.declared.PatientBucket.{PatientBucket}
+use Rattle.bucket_words.specs.declared.TableTerm.{TableTerm}
 
 -- A bed, from what was read of the patient's words.
-module _ (patients : List ℕ) (s bed : ℕ) {first : ℕ} (is : first ≡ first_bed_at patients s) where
+module _ (patients : List PatientBucket) (s bed : ℕ) {first : ℕ} (is : first ≡ first_bed_at patients s) where
   pub before_first : bed < first → leb first bed ≡ permitted_at patients s bed
   before_first h = lt-leb first bed h ∙ sym (ap (λ b. b && ltb bed (bed_end_at patients s)) (lt-leb (first_bed_at patients s) bed (omega (arith, is))))
 
   pub from_first : {end : ℕ} → first ≤ bed → end ≡ bed_end_at patients s → ltb bed end ≡ permitted_at patients s bed
   from_first h e = ap (ltb bed) e ∙ sym (ap (λ b. b && ltb bed (bed_end_at patients s)) (le-leb (first_bed_at patients s) bed (omega (arith, is))))
 
-module _ {store patients terms : List ℕ} {v : ℕ} (beds : Plan) (r : Region) (prepared : Prepared r store patients terms) (fits : Fitting r beds) (all : v ≡ length r.patients) where
+module _ {store : List ℕ} {patients : List PatientBucket} {terms : List TableTerm} {v : ℕ} (beds : Plan) (r : Region) (prepared : Prepared r store patients terms) (fits : Fitting r beds) (all : v ≡ length r.patients) where
   front : (s : ℕ) → s < length r.patients → bed_of (take v beds) s ≡ bed_of beds s
   front s h = get_or-take v beds s 0 (omega (arith, all))
 
@@ -42,8 +43,8 @@ module _ {store patients terms : List ℕ} {v : ℕ} (beds : Plan) (r : Region) 
       total_kept r (take v beds) (λ s h. omega (arith, front s h, fits s h))
       ∙ ap (λ b. cond b (cost_over r.tables r (take v beds)) none) fixed_kept
 
-module _ {store patients terms : List ℕ} {v : ℕ} (beds : Plan) {kept : Bool} (is : kept ≡ every (bed_permitted patients beds) (below v)) where
-  pub total_forbidden : kept ≡ false → GivesAll store patients terms v beds Forbidden
+module _ {store : List ℕ} {patients : List PatientBucket} {terms : List TableTerm} {v : ℕ} (beds : Plan) {kept : Bool} (is : kept ≡ every (bed_permitted patients beds) (below v)) where
+  pub total_forbidden : kept ≡ false → GivesAll store patients terms v beds None
   total_forbidden moved r prepared fits all = sym (total_is beds r prepared fits all ∙ ap (λ b. cond b (cost_over r.tables r (take v beds)) none) (sym is ∙ moved))
 
   pub total_allowed : (cost : Cost) → kept ≡ true → GivesTables store patients terms v beds cost → GivesAll store patients terms v beds cost

@@ -14,6 +14,7 @@ use Rattle.definitions.specs.Questions.{plan_fits}
 use Rattle.lists.specs.Below.{same_tests}
 use Rattle.bucket_words.specs.Words.{beds_at}
 use Rattle.pricing.specs.Pricing.{PlanAsked}
+use Rattle.bucket_words.specs.declared.PatientBucket.{PatientBucket}
 
 -- The first s beds of a plan are those of a list.
 pub record Begun (beds plan : List ℕ) (s : ℕ) : Type 0 where
@@ -35,17 +36,17 @@ begun_done beds plan s end room begun =
     ext_get_or 0 (take (length beds) plan) beds long (λ i l. get_or-take (length beds) plan i 0 (omega arith) ∙ begun.same i (omega arith))
 
 -- Question 14, of the words and the beds.
-abbrev pub bed_fits : List ℕ → List ℕ → ℕ → Bool
+abbrev pub bed_fits : List PatientBucket → List ℕ → ℕ → Bool
 bed_fits patients beds s = ltb (get_or beds s 0) (beds_at patients s)
 
-pub plan_asked : (patients : List ℕ) (v : ℕ) (beds : List ℕ) {answer : Bool} → answer ≡ (eqb (length beds) v && every (bed_fits patients beds) (below v)) → PlanAsked patients v beds answer
+pub plan_asked : (patients : List PatientBucket) (v : ℕ) (beds : List ℕ) {answer : Bool} → answer ≡ (eqb (length beds) v && every (bed_fits patients beds) (below v)) → PlanAsked patients v beds answer
 unfolding plan_fits
 plan_asked patients v beds e r counts counted all =
     e ∙ ap₂ (λ n fit. eqb (length beds) n && fit) counted
     (same_tests (bed_fits patients beds) (λ s. ltb (bed_of beds s) (patient_at r s).bed_count) v (λ s l. ap (ltb (get_or beds s 0)) (counts s l))
     ∙ ap (λ n. every (λ s. ltb (bed_of beds s) (patient_at r s).bed_count) (below n)) all)
 
-module _ (patients : List ℕ) (v : ℕ) (beds : List ℕ) where
+module _ (patients : List PatientBucket) (v : ℕ) (beds : List ℕ) where
   pub not_counted : (length beds ≡ v → ⊥) → PlanAsked patients v beds false
   not_counted h = plan_asked patients v beds (sym (ap (λ b. b && every (bed_fits patients beds) (below v)) (ne_eqb (length beds) v h)))
 
@@ -53,7 +54,7 @@ module _ (patients : List ℕ) (v : ℕ) (beds : List ℕ) where
   counted h e = plan_asked patients v beds (e ∙ sym (ap (λ b. b && every (bed_fits patients beds) (below v)) (eq-eqb (length beds) v h)))
 
 -- One bed, from what was read.
-module _ (patients beds : List ℕ) (s : ℕ) {count bed : ℕ} (is : count ≡ beds_at patients s) (has : bed ≡ get_or beds s 0) where
+module _ (patients : List PatientBucket) (beds : List ℕ) (s : ℕ) {count bed : ℕ} (is : count ≡ beds_at patients s) (has : bed ≡ get_or beds s 0) where
   pub bed_no : count ≤ bed → bed_fits patients beds s ≡ false
   bed_no h = le-ltb (get_or beds s 0) (beds_at patients s) (omega (arith, is, has))
 

@@ -10,9 +10,10 @@ use Rattle.buckets.specs.Terms.{place_at}
 use Rattle.lists.specs.Loops.{places_from, places_all, places_next, places_done}
 use Prim.Native.Nat.{◌≤◌}
 use Rattle.pricing.specs.Pricing.{Reads}
+use Rattle.bucket_words.specs.declared.TableTerm.{TableTerm}
 
 -- What a member's bed adds to the place of a term's entry.
-abbrev bed_at : List ℕ → ℕ → List ℕ → ℕ → ℕ
+abbrev bed_at : List TableTerm → ℕ → List ℕ → ℕ → ℕ
 bed_at terms k beds j = bed_of beds (member_at terms k j) * stride_at terms k j
 
 module _ (f : ℕ → ℕ) (n : ℕ) where
@@ -33,11 +34,11 @@ module _ (f : ℕ → ℕ) (n : ℕ) where
   left_done x i h = ap (λ l. x + sum (map f l)) (places_done n i h) ∙ add-zero x
 
 -- Where the loop over a term's members stands: the place so far, and what the members that are left add to it.
-pub record Placing (terms : List ℕ) (k : ℕ) (beds : List ℕ) (place j : ℕ) : Type 0 where
+pub record Placing (terms : List TableTerm) (k : ℕ) (beds : List ℕ) (place j : ℕ) : Type 0 where
   pub most : place ≤ 4096 + j * 1_048_576
   pub left : place + left_from (bed_at terms k beds) 4 j ≡ place_at terms k beds
 
-module _ {terms : List ℕ} {k : ℕ} {beds : List ℕ} (reads : Reads terms k) where
+module _ {terms : List TableTerm} {k : ℕ} {beds : List ℕ} (reads : Reads terms k) where
   pub placing_start : {place : ℕ} → place ≡ start_at terms k → Placing terms k beds place 0
   unfolding place_at
   placing_start is = record { most = omega (arith, is, reads.starts); left = ap₂ (λ n m. n + m) is (left_all (bed_at terms k beds) 4) }

@@ -20,9 +20,10 @@ use Rattle.partial_rows.specs.Sets.{only, Part, first, second, neither, Splits}
 use Rattle.partial_rows.specs.Rows.{holds}
 use Rattle.partial_rows.specs.Costs.{cost_same, tables_split}
 use Rattle.buckets.specs.Terms.{Fitting, bucket_of, Prepared}
-use Rattle.pricing.specs.Pricing.{cost_in, Asks, Gives, AsksAll, GivesTables}
-use Rattle.pricing.specs.declared.Cost.{Cost}
-use Rattle.pricing.specs.declared.Cost.TheVariants.{Forbidden, Of}
+use Rattle.pricing.specs.Pricing.{Cost, cost_in, Asks, Gives, AsksAll, GivesTables}
+use Rattle.std.specs.Prelude.{None, Some}
+use Rattle.bucket_words.specs.declared.PatientBucket.{PatientBucket}
+use Rattle.bucket_words.specs.declared.TableTerm.{TableTerm}
 
 -- The patients from s on are s and those above it.
 from_split : (s : ℕ) → Splits (leb s) (only s) (ltb s)
@@ -66,8 +67,8 @@ module _ (r : Region) (beds : Plan) where
     tables_take : (v : ℕ) → length r.patients ≤ v → cost_over r.tables r beds ≡ cost_over r.tables r (take v beds)
     tables_take v le = cost_same r beds (take v beds) r.tables (λ t k s i. sym (get_or-take v beds s 0 (omega (arith, (table_right r accepted k).known i))))
 
--- A loop over the patients: the sum so far and what is left make what all tables cost, for every region that the words are prepared for.
-pub record Adds (store patients terms : List ℕ) (v : ℕ) (beds : Plan) (sum s : ℕ) : Type 0 where
+-- A loop over the patients: the sum so far and what is left make what all tables cost, for every region that the buckets are prepared for.
+pub record Adds (store : List ℕ) (patients : List PatientBucket) (terms : List TableTerm) (v : ℕ) (beds : Plan) (sum s : ℕ) : Type 0 where
   pub few : sum ≤ s * most_total
   pub left : (r : Region) → Prepared r store patients terms → Fitting r beds → v ≡ length r.patients → plus (cost_from r beds s) (some sum) ≡ cost_over r.tables r beds
 
@@ -79,12 +80,12 @@ plus_late (some y) (some z) n x e = let same : z ≡ n = cc in ap {B = Option �
 none_late : (o p : Option ℕ) (x : ℕ) → p ≡ none → plus (plus o p) (some x) ≡ none
 none_late o p x e = ap (λ q. plus q (some x)) (ap (plus o) e ∙ plus_none o)
 
-module _ {store patients terms : List ℕ} {v : ℕ} {beds : Plan} where
+module _ {store : List ℕ} {patients : List PatientBucket} {terms : List TableTerm} {v : ℕ} {beds : Plan} where
   pub adds_start : Adds store patients terms v beds 0 0
   adds_start = record { few = omega arith; left = λ r prepared fits all. plus_zero (cost_from r beds 0) ∙ cost_all r beds prepared.accepted }
 
   module _ {sum s : ℕ} (adds : Adds store patients terms v beds sum s) where
-    pub adds_done : v ≤ s → GivesTables store patients terms v beds (Of sum)
+    pub adds_done : v ≤ s → GivesTables store patients terms v beds (Some sum)
     adds_done end r prepared fits all =
         ap {B = Option ℕ} some (omega arith)
         ∙ ap (λ o. plus o (some sum)) (sym (cost_none r beds prepared.accepted s (omega (arith, all))))
@@ -94,13 +95,13 @@ module _ {store patients terms : List ℕ} {v : ℕ} {beds : Plan} where
       known : (r : Region) → v ≡ length r.patients → s < length r.patients
       known r all = omega (arith, all)
 
-      pub adds_forbidden : cost ≡ Forbidden → GivesTables store patients terms v beds Forbidden
+      pub adds_forbidden : cost ≡ None → GivesTables store patients terms v beds None
       adds_forbidden e r prepared fits all =
           sym (ap (λ o. plus o (some sum)) (next_bucket r beds s)
           ∙ none_late (cost_from r beds (s + 1)) (cost_over (bucket_of r s) r beds) sum (sym (gives.cost r prepared fits (known r all)) ∙ ap cost_in e))
           ∙ adds.left r prepared fits all ∙ tables_take r beds prepared.accepted v (omega (arith, all))
 
-      module _ (n : ℕ) (e : cost ≡ Of n) where
+      module _ (n : ℕ) (e : cost ≡ Some n) where
         pub adds_small : n ≤ most_total
         adds_small = gives.most n (ap cost_in e)
 
@@ -115,5 +116,5 @@ module _ {store patients terms : List ℕ} {v : ℕ} {beds : Plan} where
             }
 
 -- What each bucket asks for.
-pub asks_one : {store patients terms : List ℕ} {v s : ℕ} {beds : Plan} → AsksAll store patients terms v beds → s < v → Asks store patients terms s beds
+pub asks_one : {store : List ℕ} {patients : List PatientBucket} {terms : List TableTerm} {v s : ℕ} {beds : Plan} → AsksAll store patients terms v beds → s < v → Asks store patients terms s beds
 asks_one a h = record { region = a.region; prepared = a.prepared; fits = a.fits; known = omega (arith, a.all); few = omega (arith, a.few) }

@@ -1,6 +1,6 @@
 -- What the costs of a patient's beds ask for and give.
 use Rattle.std.specs.Prelude.{◌≤◌, set, ◌+◌, ◌*◌, ◌<◌, ◌≡◌}
-use Rattle.definitions.specs.Basics.{ℕ, some, List, length, get_or, replicate}
+use Rattle.definitions.specs.Basics.{ℕ, some, List, length, get_or}
 use Rattle.definitions.specs.Syntax.{Region}
 use Rattle.definitions.specs.Plans.{Plan, cost_over}
 use Rattle.theorems.specs.Accepted.{most_total}
@@ -10,6 +10,8 @@ use Rattle.bucket_words.specs.Kept.{Kept}
 use Rattle.buckets.specs.Terms.{Fitting, bucket_of, Prepared}
 use Rattle.held_region.specs.Meaning.{said_by}
 use Rattle.pricing.specs.Pricing.{sum_in}
+use Rattle.bucket_words.specs.declared.PatientBucket.{PatientBucket}
+use Rattle.bucket_words.specs.declared.TableTerm.{TableTerm}
 
 -- A sum that is a number is no larger than 64 entries are.
 abbrev pub Small : ℕ → Type 0
@@ -41,7 +43,7 @@ pub record GivesEntries (store : List ℕ) (from first end : ℕ) (sums after : 
   pub each : (bed : ℕ) → first ≤ bed → bed < end → OneMore (get_or sums bed 0) (get_or store (from + bed) 0) (get_or after bed 0)
 
 -- The costs of all permitted beds of a patient, with the places that are kept for a plan.
-pub record Asks (store patients terms places : List ℕ) (s first end : ℕ) (sums : List ℕ) : Type 0 where
+pub record Asks (store : List ℕ) (patients : List PatientBucket) (terms : List TableTerm) (places : List ℕ) (s first end : ℕ) : Type 0 where
   pub region : Region
   pub beds : Plan
   pub prepared : Prepared region store patients terms
@@ -52,9 +54,8 @@ pub record Asks (store patients terms places : List ℕ) (s first end : ℕ) (su
   pub firsts : first ≡ first_bed_at patients s
   pub ends : end ≡ bed_end_at patients s
   pub long : s < length beds
-  pub zeros : sums ≡ replicate 16 0
 
-pub record Gives (store patients terms places : List ℕ) (s first end : ℕ) (sums : List ℕ) : Type 0 where
+pub record Gives (store : List ℕ) (patients : List PatientBucket) (terms : List TableTerm) (places : List ℕ) (s first end : ℕ) (sums : List ℕ) : Type 0 where
   pub small : (bed : ℕ) → first ≤ bed → bed < end → Small (get_or sums bed 0)
   pub cost : (r : Region) (beds : Plan) → Prepared r store patients terms → Fitting r beds → Kept terms beds places → s < length r.patients → s < length beds
       → (bed : ℕ) → first ≤ bed → bed < end → sum_in (get_or sums bed 0) ≡ cost_over (bucket_of r s) r (set beds s bed)

@@ -5,8 +5,7 @@ ghost use Rattle.held_region.specs.Meaning.{mark};
 ghost use Rattle.pricing.specs.Pricing.{cost_in, no_sum, sum_in};
 ghost use Rattle.pricing.specs.BedCosts.{Small, most_word, OneMore, AsksEntries, GivesEntries, Asks, Gives};
 
-use crate::Cost;
-use bucket_words::{entry_start, first_term, next_term};
+use bucket_words::Buckets;
 use held_region::FORBIDDEN;
 
 // From this word on a sum is no number, since one of its entries is forbidden: 64 numbers together are far below it.
@@ -35,44 +34,42 @@ fn add_entries(sums: &mut [u64; 16], entries: &[u32; 4096], from: usize, first: 
     requires { AsksEntries entries.now from first end sums.old }
     ensures { GivesEntries entries.now from first end sums.old sums.new }
 {
-    let mut bed = first;
-    while bed < end {
+    for bed in first..end {
         sums[bed] = add_entry(sums[bed], entries[from + bed]);
-        bed += 1;
     }
 }
 
-// What the tables of a patient's bucket cost together, for each of its permitted beds, in sums that were zero.
+// What the tables of a patient's bucket cost together, for each of its permitted beds.
 // The entries for its beds lie side by side, from each table's kept place on.
 pub fn bed_costs(
-    sums: &mut [u64; 16],
-    patients: &[u32; 160],
-    terms: &[u32; 640],
+    buckets: &Buckets,
     entries: &[u32; 4096],
     places: &[u32; 64],
     s: usize,
     first: usize,
     end: usize,
-)
-    requires { Asks entries.now patients.now terms.now places.now s first end sums.old }
-    ensures { Gives entries.now patients.now terms.now places.now s first end sums.new }
+) -> [u64; 16]
+    requires { Asks entries.now buckets.now.patients buckets.now.terms places.now s first end }
+    ensures { Gives entries.now buckets.now.patients buckets.now.terms places.now s first end result }
 {
-    let mut k = first_term(patients, s);
+    let mut sums = [0u64; 16];
+    let mut k = buckets.first_term(s);
     while k < 64 {
-        let from = entry_start(terms, k) + places[k] as usize;
-        add_entries(sums, entries, from, first, end);
-        k = next_term(terms, k);
+        let from = buckets.entry_start(k) + places[k] as usize;
+        add_entries(&mut sums, entries, from, first, end);
+        k = buckets.next_term(k);
     }
+    sums
 }
 
-// The cost of one of the beds.
-pub fn bed_cost(sums: &[u64; 16], bed: usize) -> Cost
+// The cost of one of the beds, none where an entry is forbidden.
+pub fn bed_cost(sums: &[u64; 16], bed: usize) -> Option<u64>
     requires { bed < 16 }
     ensures { cost_in result ≡ sum_in (get_or sums.now bed 0) }
 {
     let sum = sums[bed];
     if NO_SUM <= sum {
-        return Cost::Forbidden;
+        return None;
     }
-    Cost::Of(sum)
+    Some(sum)
 }

@@ -8,9 +8,7 @@ ghost use Rattle.definitions.specs.Basics.{replicate, below, every};
 ghost use Rattle.buckets.specs.Terms.{place_at};
 ghost use Rattle.pricing.specs.Pricing.{Reads, Asks, Gives, AsksAll, GivesTables, GivesAll, permitted_at, bed_permitted, PlanAsked};
 
-use bucket_words::{
-    bed_count, bed_end, entry_start, first_bed, first_term, member, next_term, stride,
-};
+use bucket_words::Buckets;
 use held_region::FORBIDDEN;
 
 // A plan, step by step: the beds of the patients placed so far, bed 0 for all others, and how many are placed.
@@ -37,146 +35,99 @@ impl Plan {
         ensures { (result.beds ≡ set self.beds patient bed) × (result.len ≡ self.len + 1) }
     {
         self.beds[patient] = bed;
-        self.len = self.len + 1;
+        self.len += 1;
         self
     }
 }
 
-// The sum of some entries; a forbidden one makes it no number at all.
-#[derive(Clone, Copy)]
-pub enum Cost {
-    Forbidden,
-    Of(u64),
-}
-
-fn wide(bed: u8) -> usize
-    ensures { (result ≡ bed) × (result < 256) }
-{
-    bed as usize
-}
-
 // The place in the store of a term's entry for a plan.
-fn entry_place(terms: &[u32; 640], k: usize, beds: &[u8; 32]) -> usize
-    requires { Reads terms.now k }
-    ensures { result ≡ place_at terms.now k beds.now }
+fn entry_place(buckets: &Buckets, k: usize, beds: &[u8; 32]) -> usize
+    requires { Reads buckets.now.terms k }
+    ensures { result ≡ place_at buckets.now.terms k beds.now }
 {
-    let mut place = entry_start(terms, k);
-    let mut j = 0;
-    while j < 4 {
-        let s = member(terms, k, j);
-        place += wide(beds[s]) * stride(terms, k, j);
-        j += 1;
+    let mut place = buckets.entry_start(k);
+    for j in 0..4 {
+        let s = buckets.member(k, j);
+        place += beds[s] as usize * buckets.stride(k, j);
     }
     place
 }
 
-// What the tables of a patient's bucket cost together.
-fn bucket_cost(
-    patients: &[u32; 160],
-    terms: &[u32; 640],
-    entries: &[u32; 4096],
-    s: usize,
-    beds: &[u8; 32],
-) -> Cost
-    requires { Asks entries.now patients.now terms.now s beds.now }
-    ensures { Gives entries.now patients.now terms.now s beds.now result }
+// What the tables of a patient's bucket cost together, none where an entry is forbidden.
+fn bucket_cost(buckets: &Buckets, entries: &[u32; 4096], s: usize, beds: &[u8; 32]) -> Option<u64>
+    requires { Asks entries.now buckets.now.patients buckets.now.terms s beds.now }
+    ensures { Gives entries.now buckets.now.patients buckets.now.terms s beds.now result }
 {
     let mut sum: u64 = 0;
-    let mut k = first_term(patients, s);
+    let mut k = buckets.first_term(s);
     while k < 64 {
-        let at = entry_place(terms, k, beds);
+        let at = entry_place(buckets, k, beds);
         let entry = entries[at];
         if entry == FORBIDDEN {
-            return Cost::Forbidden;
+            return None;
         }
         sum += entry as u64;
-        k = next_term(terms, k);
+        k = buckets.next_term(k);
     }
-    Cost::Of(sum)
+    Some(sum)
 }
 
-// What all tables cost together, a bucket after the other.
-pub fn tables_cost(
-    patients: &[u32; 160],
-    terms: &[u32; 640],
-    entries: &[u32; 4096],
-    v: usize,
-    plan: Plan,
-) -> Cost
-    requires { AsksAll entries.now patients.now terms.now v plan.beds }
-    ensures { GivesTables entries.now patients.now terms.now v plan.beds result }
+// What all tables cost together, a bucket after the other, none where an entry is forbidden.
+pub fn tables_cost(buckets: &Buckets, entries: &[u32; 4096], v: usize, plan: Plan) -> Option<u64>
+    requires { AsksAll entries.now buckets.now.patients buckets.now.terms v plan.beds }
+    ensures { GivesTables entries.now buckets.now.patients buckets.now.terms v plan.beds result }
 {
     let mut sum: u64 = 0;
-    let mut s = 0;
-    while s < v {
-        let cost = bucket_cost(patients, terms, entries, s, &plan.beds);
-        match cost {
-            Cost::Forbidden => {
-                return Cost::Forbidden;
-            }
-            Cost::Of(n) => {
-                sum += n;
-            }
-        }
-        s += 1;
+    for s in 0..v {
+        sum += bucket_cost(buckets, entries, s, &plan.beds)?;
     }
-    Cost::Of(sum)
+    Some(sum)
 }
 
 // Lies a bed between the patient's first permitted one and their end?
-fn is_permitted(patients: &[u32; 160], s: usize, bed: usize) -> bool
+fn is_permitted(buckets: &Buckets, s: usize, bed: usize) -> bool
     requires { s < 32 }
-    ensures { result ≡ permitted_at patients.now s bed }
+    ensures { result ≡ permitted_at buckets.now.patients s bed }
 {
-    first_bed(patients, s) <= bed && bed < bed_end(patients, s)
+    buckets.first_bed(s) <= bed && bed < buckets.bed_end(s)
 }
 
 // Has each patient a permitted bed?
-fn keeps_fixed(patients: &[u32; 160], v: usize, beds: &[u8; 32]) -> bool
+fn keeps_fixed(buckets: &Buckets, v: usize, beds: &[u8; 32]) -> bool
     requires { v ≤ 32 }
-    ensures { result ≡ every (bed_permitted patients.now beds.now) (below v) }
+    ensures { result ≡ every (bed_permitted buckets.now.patients beds.now) (below v) }
 {
-    let mut s = 0;
-    while s < v {
-        if !is_permitted(patients, s, wide(beds[s])) {
+    for s in 0..v {
+        if !is_permitted(buckets, s, beds[s] as usize) {
             return false;
         }
-        s += 1;
     }
     true
 }
 
 // The total of a plan: where each fixed bed is kept, what the tables cost.
-pub fn total(
-    patients: &[u32; 160],
-    terms: &[u32; 640],
-    entries: &[u32; 4096],
-    v: usize,
-    plan: Plan,
-) -> Cost
-    requires { AsksAll entries.now patients.now terms.now v plan.beds }
-    ensures { GivesAll entries.now patients.now terms.now v plan.beds result }
+pub fn total(buckets: &Buckets, entries: &[u32; 4096], v: usize, plan: Plan) -> Option<u64>
+    requires { AsksAll entries.now buckets.now.patients buckets.now.terms v plan.beds }
+    ensures { GivesAll entries.now buckets.now.patients buckets.now.terms v plan.beds result }
 {
-    if !keeps_fixed(patients, v, &plan.beds) {
-        return Cost::Forbidden;
+    if !keeps_fixed(buckets, v, &plan.beds) {
+        return None;
     }
-    tables_cost(patients, terms, entries, v, plan)
+    tables_cost(buckets, entries, v, plan)
 }
 
 // 14. Are there exactly v beds, each below its patient's count?
-pub fn plan_fits(patients: &[u32; 160], v: usize, beds: &[u8]) -> bool
+pub fn plan_fits(buckets: &Buckets, v: usize, beds: &[u8]) -> bool
     requires { v ≤ 32 }
-    ensures { PlanAsked patients.now v beds.now result }
+    ensures { PlanAsked buckets.now.patients v beds.now result }
 {
     if beds.len() != v {
         return false;
     }
-    let mut s = 0;
-    while s < v {
-        if bed_count(patients, s) <= wide(beds[s]) {
+    for s in 0..v {
+        if buckets.bed_count(s) <= beds[s] as usize {
             return false;
         }
-        s += 1;
     }
     true
 }
@@ -187,10 +138,8 @@ pub fn plan_of(beds: &[u8]) -> Plan
     ensures { take (length beds.now) result.beds ≡ beds.now }
 {
     let mut plan = Plan::new();
-    let mut s = 0;
-    while s < beds.len() {
+    for s in 0..beds.len() {
         plan = plan.place(s, beds[s]);
-        s += 1;
     }
     plan
 }

@@ -1,4 +1,4 @@
--- A plan is priced over the words of a held region as over what it says.
+-- A plan is priced over the buckets of a held region as over what it says.
 use mathlib.Core.Path.{◌≡◌, refl, sym, ap, ap₂, ◌∙◌}
 use Prim.Native.Nat.{◌≤◌}
 use native.Mathlib.Omega.{arith}
@@ -15,16 +15,17 @@ use Rattle.held_region.specs.declared.Region.{Region}
 use Rattle.held_region.specs.Meaning.{said}
 use Rattle.held_region.specs.Asked.{patients_said_lem}
 use Rattle.buckets.specs.Terms.{Prepared}
-use Rattle.pricing.specs.declared.Cost.{Cost}
-use Rattle.pricing.specs.Pricing.{cost_in, AsksAll, GivesAll, PlanAsked}
+use Rattle.bucket_words.specs.declared.PatientBucket.{PatientBucket}
+use Rattle.bucket_words.specs.declared.TableTerm.{TableTerm}
+use Rattle.pricing.specs.Pricing.{Cost, cost_in, AsksAll, GivesAll, PlanAsked}
 use Rattle.answers.specs.declared.Priced.{Priced}
 use Rattle.answers.specs.declared.Priced.TheVariants.{Misfit}
 use Rattle.answers.specs.Answers.{priced_outcome}
 use Rattle.held_region.specs.Counts.{counts_few}
 use Rattle.region_answers.specs.Prices.{RegionPriced, fitting}
 
-module _ (h : Region) (store : List ℕ) {words terms : List ℕ} (plan : List ℕ) (pre : Accepted (said h store))
-    (prepared : Prepared (said h store) store words terms) {answer : Bool} (asked : PlanAsked words h.v plan answer) where
+module _ (h : Region) (store : List ℕ) {patients : List PatientBucket} {terms : List TableTerm} (plan : List ℕ) (pre : Accepted (said h store))
+    (prepared : Prepared (said h store) store patients terms) {answer : Bool} (asked : PlanAsked patients h.v plan answer) where
   abbrev r : Said.Region
   r = said h store
 
@@ -47,7 +48,7 @@ module _ (h : Region) (store : List ℕ) {words terms : List ℕ} (plan : List �
     plan_short = omega (arith, as_many, (counts_few h store pre).0)
 
     module _ (beds : List ℕ) (same : take (length plan) beds ≡ plan) where
-      pub asks_all : AsksAll store words terms h.v beds
+      pub asks_all : AsksAll store patients terms h.v beds
       asks_all = record {
         region = r;
         prepared = prepared;
@@ -56,7 +57,7 @@ module _ (h : Region) (store : List ℕ) {words terms : List ℕ} (plan : List �
         few = (counts_few h store pre).0;
       }
 
-      pub fit_priced : (cost : Cost) → GivesAll store words terms h.v beds cost → (p : Priced) → priced 0 (cost_in cost) ≡ priced_outcome p → RegionPriced r plan p
+      pub fit_priced : (cost : Cost) → GivesAll store patients terms h.v beds cost → (p : Priced) → priced 0 (cost_in cost) ≡ priced_outcome p → RegionPriced r plan p
       fit_priced cost gives p e =
           let is = gives r prepared (fitting r plan beds pre fits same) (sym (patients_said_lem h store)) in
           let whole = ap (λ n. take n beds) (sym as_many) ∙ same in

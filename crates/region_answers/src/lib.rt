@@ -9,7 +9,7 @@ ghost use Rattle.region_answers.specs.Lists.{RegionListed};
 use answers::{Listed, Priced};
 use buckets::prepare;
 use held_region::Region;
-use pricing::{Cost, plan_fits, plan_of, total};
+use pricing::{plan_fits, plan_of, total};
 use row_writer::{clear, long_enough, write_rows};
 use search::list_region;
 
@@ -19,16 +19,13 @@ pub fn price_region(region: Region, store: &[u32; 4096], plan: &[u8]) -> Priced
     ensures { RegionPriced (said region store.now) plan.now result }
 {
     let buckets = prepare(region, store);
-    let patients = buckets.patients;
-    let terms = buckets.terms;
-    if !plan_fits(&patients, region.v, plan) {
+    if !plan_fits(&buckets, region.v, plan) {
         return Priced::Misfit;
     }
     let placed = plan_of(plan);
-    let cost = total(&patients, &terms, store, region.v, placed);
-    match cost {
-        Cost::Forbidden => Priced::Forbidden,
-        Cost::Of(n) => Priced::Allowed(n),
+    match total(&buckets, store, region.v, placed) {
+        None => Priced::Forbidden,
+        Some(cost) => Priced::Allowed(cost),
     }
 }
 

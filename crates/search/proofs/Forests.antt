@@ -8,7 +8,7 @@ use native.Mathlib.Numerals.{add-one}
 use native.Mathlib.Omega.{arith}
 use borrow.Author.Tests.{lt-ltb, le-ltb}
 use Rattle.std.specs.Prelude.{◌+◌, ◌<◌, ◌&&◌, ◌∷◌}
-use Rattle.definitions.specs.Basics.{ℕ, suc, Bool, true, false, List, [], length, get_or, replicate, eqb, ltb, below, contains}
+use Rattle.definitions.specs.Basics.{ℕ, suc, Bool, true, false, List, [], length, get_or, replicate, eqb, ltb, below, contains, is_empty}
 use Rattle.definitions.specs.Syntax.{Region}
 use Rattle.lists.specs.Members.{here, here_or_there, none_in_nil}
 use Rattle.lists.specs.Keep.{contains_keep}
@@ -32,6 +32,9 @@ use Rattle.row_sums.specs.Sums.{work_part, list_at}
 use Rattle.search.specs.Lowest.{Upward}
 use Rattle.search.specs.Walks.{AllPadded}
 use Rattle.search.specs.Trees.{AsksStart, GivesStart, NextTree, AsksTree, GivesTree, PreparedForest, AsksForest, GivesForest}
+use Rattle.bucket_words.specs.declared.PatientBucket.{PatientBucket}
+use Rattle.bucket_words.specs.declared.TableTerm.{TableTerm}
+use Rattle.kept_places.specs.declared.Moves.{Moves}
 
 -- A word without patients from v on has those that it says.
 word_members : (w v : ℕ) → v ≤ 32 → ((q : ℕ) → v ≤ q → in_set w q ≡ false) → contains (members w) ≡ in_set w
@@ -62,14 +65,14 @@ first_nobody r E m some gone = record {
 }
 
 -- Where the loop stands.
-pub record Listed (store patients terms roots : List ℕ) (v m size : ℕ) (now : List ℕ) (n k : ℕ) : Type 0 where
+pub record Listed (store : List ℕ) (patients : List PatientBucket) (terms : List TableTerm) (roots : List ℕ) (v m size : ℕ) (now : List ℕ) (n k : ℕ) : Type 0 where
   pub count : n ≤ m
   pub long : length now ≡ size
   pub upto : k ≤ v
   pub padded : AllPadded v n (work_part 0 now)
   pub first : (r : Region) → PreparedForest r store patients terms roots v m → First row_order m (RowOf r (trees_below r v k) (no_beds r)) (list_at v n 0 now)
 
-module _ {store patients terms moves roots : List ℕ} {v m : ℕ} {work : List ℕ} (asks : AsksForest store patients terms moves roots v m work) where
+module _ {store : List ℕ} {patients : List PatientBucket} {terms : List TableTerm} {moves : Moves} {roots : List ℕ} {v m : ℕ} {work : List ℕ} (asks : AsksForest store patients terms moves roots v m work) where
   accepted : Accepted asks.region
   accepted = asks.forest.prepared.accepted
 
@@ -179,14 +182,14 @@ module _ {store patients terms moves roots : List ℕ} {v m : ℕ} {work : List 
       listed_tree gives = next_tree_lem gives.count gives.long gives.padded (λ r forest. gives.first r _ _ (next_tree r forest))
 
       -- Nobody has k for a root.
-      pub listed_none : length (members w) ≡ 0 → Listed store patients terms roots v m size now n (k + 1)
+      pub listed_none : is_empty (members w) ≡ true → Listed store patients terms roots v m size now n (k + 1)
       listed_none empty =
           next_tree_lem listed.count refl listed.padded (λ r forest.
           subst⁻¹ (λ D. First row_order m (RowOf r D (no_beds r)) (list_at v n 0 now)) (fun_ext (λ q. gone (split r forest q) (nobody r forest q))) (listed.first r forest))
         where
-          none_in : (l : List ℕ) → length l ≡ 0 → (q : ℕ) → contains l q ≡ false
+          none_in : (l : List ℕ) → is_empty l ≡ true → (q : ℕ) → contains l q ≡ false
           none_in [] e q = refl
-          none_in (x ∷ l) e q = absurd (omega arith)
+          none_in (x ∷ l) e q = absurd (true≢false (sym e))
 
           nobody : (r : Region) → PreparedForest r store patients terms roots v m → (q : ℕ) → in_set w q ≡ false
           nobody r forest q = sym (ap (λ F. F q) (same r forest)) ∙ none_in (members w) empty q
@@ -196,8 +199,8 @@ module _ {store patients terms moves roots : List ℕ} {v m : ℕ} {work : List 
           gone second e = absurd (true≢false e)
           gone neither e = refl
 
--- A held region's words and roots.
-pub forest : (h : Code.Region) (store : List ℕ) {patients terms roots : List ℕ}
+-- A held region's buckets and roots.
+pub forest : (h : Code.Region) (store : List ℕ) {patients : List PatientBucket} {terms : List TableTerm} {roots : List ℕ}
     → Prepared (said h store) store patients terms → RootNumbers (said h store) roots → PreparedForest (said h store) store patients terms roots h.v h.m
 unfolding said
 forest h store prepared root_numbers = record { prepared = prepared; root_numbers = root_numbers; counted = sym (patients_said_lem h store); wanted = refl }

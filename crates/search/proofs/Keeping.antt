@@ -24,9 +24,10 @@ use Rattle.buckets.specs.Terms.{highest, place_at, Numbered}
 use Rattle.buckets.specs.Highest.{in_bucket, highest_in, none_higher}
 use Rattle.search.specs.Lowest.{Upward}
 use Rattle.search.specs.Walks.{PlacesKept}
+use Rattle.bucket_words.specs.declared.TableTerm.{TableTerm}
 
 -- Where nobody has a bed, each place is 0.
-pub kept_start : (terms : List ℕ) → Kept terms (replicate 32 0) (replicate 64 0)
+pub kept_start : (terms : List TableTerm) → Kept terms (replicate 32 0) (replicate 64 0)
 unfolding kept_at
 kept_start terms = record { long = refl; each = λ k h. zero_bed 64 k ∙ sym (nothing k) }
   where
@@ -36,7 +37,7 @@ kept_start terms = record { long = refl; each = λ k h. zero_bed 64 k ∙ sym (n
     nothing : (k : ℕ) → kept_at terms k (replicate 32 0) ≡ 0
     nothing k = omega (arith, slot k 0, slot k 1, slot k 2)
 
-module _ {terms places : List ℕ} (beds : List ℕ) (s : ℕ) where
+module _ {terms : List TableTerm} {places : List ℕ} (beds : List ℕ) (s : ℕ) where
   -- Bed 0 counts for one who has none, and another bed comes in the place of the one before.
   pub kept_none : bed_of beds s ≡ 0 → Kept terms beds places → Kept terms (set beds s 0) places
   kept_none none kept = subst (λ l. Kept terms l places) (sym (ap (set beds s) (sym none) ∙ set-get_or beds s 0)) kept
@@ -47,7 +48,7 @@ module _ {terms places : List ℕ} (beds : List ℕ) (s : ℕ) where
   pub kept_left : (a : ℕ) → bed_of beds s ≡ 0 → Kept terms (set (set beds s a) s 0) places → Kept terms beds places
   kept_left a none kept = subst (λ l. Kept terms l places) (set-set beds s a 0 ∙ ap (set beds s) (sym none) ∙ set-get_or beds s 0) kept
 
-module _ {r : Region} {store terms : List ℕ} (accepted : Accepted r) (numbered : Numbered r (λ t. true) store terms) {beds places : List ℕ} (kept : Kept terms beds places)
+module _ {r : Region} {store : List ℕ} {terms : List TableTerm} (accepted : Accepted r) (numbered : Numbered r (λ t. true) store terms) {beds places : List ℕ} (kept : Kept terms beds places)
     (long : length r.patients ≤ length beds) where
   right : (k : ℕ) → k < length r.tables → TableRight r (table_at r k)
   right k h = table_right r accepted (get_d_in r.tables k _ h)

@@ -8,7 +8,7 @@ use native.Mathlib.Omega.{arith}
 use lib.Seq.{get_or-take}
 use lib.ListN.{get_or-eq_default}
 use Rattle.std.specs.Prelude.{◌+◌, ◌*◌, ◌<◌, ◌||◌, ◌∷◌, ◌++◌}
-use Rattle.definitions.specs.Basics.{ℕ, zero, suc, Bool, true, false, some, List, [], map, length, take, replicate, sum, eqb, any, contains}
+use Rattle.definitions.specs.Basics.{ℕ, zero, suc, Bool, true, false, List, [], map, length, take, replicate, sum, eqb, any, contains}
 use Rattle.definitions.specs.Syntax.{Region}
 use Rattle.definitions.specs.Plans.{Plan, Row, bed_of}
 use mathlib.Core.Logic.{inl, inr}
@@ -47,6 +47,9 @@ use Rattle.search.specs.Walks.{Branching, left_in, head_row, SumsFit, Heads, Bra
 use Rattle.search.specs.Trees.{LeastSummed, AsksStart, GivesStart, NextTree, AsksTree, GivesTree}
 use Rattle.search.proofs.Keeping.{kept_start, kept_places_lem}
 use Rattle.search.proofs.Padded.{unpadded_keeps, row_padded, row_unpadded, sum_padded, injective_back, first_unpadded}
+use Rattle.bucket_words.specs.declared.PatientBucket.{PatientBucket}
+use Rattle.bucket_words.specs.declared.TableTerm.{TableTerm}
+use Rattle.kept_places.specs.declared.Moves.{Moves}
 
 pub take_zeros : (v n : ℕ) → v ≤ n → take {A = ℕ} v (replicate n 0) ≡ replicate v 0
 take_zeros zero n h = refl
@@ -82,14 +85,14 @@ started v work new x asks packed stored = record {
 -- ---- the head of a walk over a whole set
 
 -- Nobody of the set is placed.
-pub record Fresh (set : ℕ) (patients : List ℕ) (head : Branching) : Type 0 where
+pub record Fresh (set : ℕ) (patients : List PatientBucket) (head : Branching) : Type 0 where
   pub left : head.left.0 ≡ set
   pub beds : head.plan.beds ≡ replicate 32 0
   pub len : head.plan.len ≡ 0
   pub cost : head.cost ≡ 0
   pub bound : LeastSummed patients (members set) head.bound
 
-pub sums_fit_start : {set : ℕ} {patients : List ℕ} {head : Branching} → Fresh set patients head → SumsFit head
+pub sums_fit_start : {set : ℕ} {patients : List PatientBucket} {head : Branching} → Fresh set patients head → SumsFit head
 sums_fit_start {set} {head} fresh =
     record {
       beds = ap length fresh.beds;
@@ -99,7 +102,7 @@ sums_fit_start {set} {head} fresh =
       bound = fresh.bound.most;
     }
 
-module _ {r : Region} {D E : Patients} {store patients terms : List ℕ} {v m n : ℕ} {work : List ℕ} {set : ℕ} (next_tree : NextTree r D E store patients terms v m n work set) (few : v ≤ 32) where
+module _ {r : Region} {D E : Patients} {store : List ℕ} {patients : List PatientBucket} {terms : List TableTerm} {v m n : ℕ} {work : List ℕ} {set : ℕ} (next_tree : NextTree r D E store patients terms v m n work set) (few : v ≤ 32) where
   zeros_fit : Fitting r (replicate 32 0)
   zeros_fit s h = omega (arith, zero_bed 32 s, beds_some r next_tree.prepared.accepted s h)
 
@@ -178,7 +181,7 @@ sum_fits r accepted {D} {E} {F} split placed v x y p q one two = record {
 
 -- ---- one more tree
 
-module _ {store patients terms moves : List ℕ} {v m n : ℕ} {work : List ℕ} {set : ℕ} (asks : AsksTree store patients terms moves v m n work set) {head : Branching} (fresh : Fresh set patients head) where
+module _ {store : List ℕ} {patients : List PatientBucket} {terms : List TableTerm} {moves : Moves} {v m n : ℕ} {work : List ℕ} {set : ℕ} (asks : AsksTree store patients terms moves v m n work set) {head : Branching} (fresh : Fresh set patients head) where
   pub asks_walk : Asks store patients terms moves v 0 m (work_part 1 work) (replicate 64 0) head
   asks_walk =
       record {

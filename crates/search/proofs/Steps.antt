@@ -6,7 +6,7 @@ use lib.ListN.{set, length-set}
 use lib.Seq.{take-set-lt, get_or-set_same}
 use borrow.Author.Tests.{eq-eqb}
 use Rattle.std.specs.Prelude.{◌+◌, ◌<◌, ◌&&◌, ◌||◌, ◌∷◌}
-use Rattle.definitions.specs.Basics.{ℕ, true, not, Option, none, List, map, length, get_or, take, sum, eqb, is_empty, contains, ltb, every_two, replicate}
+use Rattle.definitions.specs.Basics.{ℕ, true, not, Option, none, List, map, length, get_or, take, sum, eqb, is_empty, contains, ltb, every_two}
 use Rattle.definitions.specs.Syntax.{Region, patient_at}
 use Rattle.definitions.specs.Plans.{bed_of, cost_over}
 use Rattle.theorems.specs.Accepted.{most_total}
@@ -26,9 +26,11 @@ use Rattle.pricing.specs.declared.Plan as Code
 use Rattle.search.specs.Decided.{decided_at, permitted_cost, forbidden_before, forbidden_from}
 use Rattle.search.specs.Lowest.{list_split, list_lowest, bucket_decided, upward_rest, bound_members}
 use Rattle.search.specs.Walks.{Branching, remaining, left_in, head_row, SumsFit, Heads, AsksNext, Below, Decides, GivesRest}
-use Rattle.search.specs.declared.walk.Rest.{Rest}
+use Rattle.patient_set.specs.declared.PatientSet.{PatientSet}
+use Rattle.bucket_words.specs.declared.PatientBucket.{PatientBucket}
+use Rattle.bucket_words.specs.declared.TableTerm.{TableTerm}
 
-module _ {r : Region} {store patients terms : List ℕ} {v : ℕ} {head : Branching} (heads : Heads r store patients terms v head) {s : ℕ} {others : List ℕ} (lowest : remaining head ≡ s ∷ others) where
+module _ {r : Region} {store : List ℕ} {patients : List PatientBucket} {terms : List TableTerm} {v : ℕ} {head : Branching} (heads : Heads r store patients terms v head) {s : ℕ} {others : List ℕ} (lowest : remaining head ≡ s ∷ others) where
   here : left_in head s ≡ true
   here = ap (λ l. contains l s) lowest ∙ ap (λ b. b || contains others s) (eq-eqb s s refl)
 
@@ -86,7 +88,7 @@ module _ {r : Region} {store patients terms : List ℕ} {v : ℕ} {head : Branch
 
   -- What the costs of the patient's beds ask for.
   pub asks_beds : SumsFit head → {places : List ℕ} → Kept terms head.plan.beds places → {first end : ℕ} → first ≡ first_bed_at patients s → end ≡ bed_end_at patients s
-      → Price.Asks store patients terms places s first end (replicate 16 0)
+      → Price.Asks store patients terms places s first end
   asks_beds sums_fit kept firsts ends =
       record {
         region = r;
@@ -99,11 +101,10 @@ module _ {r : Region} {store patients terms : List ℕ} {v : ℕ} {head : Branch
         firsts = firsts;
         ends = ends;
         long = inside_beds sums_fit;
-        zeros = refl;
       }
 
 -- What is asked for on the way to the head below a bed.
-module _ {store patients terms : List ℕ} {head : Branching} {s bed : ℕ} (asks : AsksNext store patients terms head s bed) where
+module _ {store : List ℕ} {patients : List PatientBucket} {terms : List TableTerm} {head : Branching} {s bed : ℕ} (asks : AsksNext store patients terms head s bed) where
   pub asks_few : s < 32
   asks_few = few asks.heads asks.lowest
 
@@ -125,7 +126,7 @@ pub rest_left : (w s one rest : ℕ) (others : List ℕ) → members w ≡ s ∷
 rest_left w s one rest others e is minus = lowest_and_rest w s one rest (ap is_empty e) (sym (ap (first 32) e)) is minus
 
 -- The head below a bed.
-module _ {patients : List ℕ} {head below : Branching} {s bed c : ℕ} (is : Below patients head s bed c below) where
+module _ {patients : List PatientBucket} {head below : Branching} {s bed c : ℕ} (is : Below patients head s bed c below) where
   pub sums_fit_below : bed < 16 → SumsFit head → SumsFit below
   sums_fit_below small sums_fit =
       record {
@@ -136,7 +137,7 @@ module _ {patients : List ℕ} {head below : Branching} {s bed c : ℕ} (is : Be
         bound = omega (arith, is.bound, sums_fit.bound);
       }
 
-  module _ {r : Region} {store terms : List ℕ} {v : ℕ} (heads : Heads r store patients terms v head) where
+  module _ {r : Region} {store : List ℕ} {terms : List TableTerm} {v : ℕ} (heads : Heads r store patients terms v head) where
     pub below_split : Splits (left_in head) (only s) (left_in below)
     below_split = split heads is.left
 
@@ -161,18 +162,18 @@ module _ {patients : List ℕ} {head below : Branching} {s bed c : ℕ} (is : Be
         }
 
 -- The bound of a head is a lower bound of what the rest costs.
-pub bound_holds : {r : Region} {store patients terms : List ℕ} {v : ℕ} {head : Branching} → Heads r store patients terms v head
+pub bound_holds : {r : Region} {store : List ℕ} {patients : List PatientBucket} {terms : List TableTerm} {v : ℕ} {head : Branching} → Heads r store patients terms v head
     → LowerBound r (left_in head) head.plan.beds head.bound
 bound_holds {r} {head} heads =
     rw heads.bound (bound_members r (remaining head) (left_in head) (λ q. refl) (rising head.left.0) heads.upward head.plan.beds)
 
 -- The head below a bed, put together from the longer plan.
-pub below_head : {patients : List ℕ} {head : Branching} {s bed c : ℕ} {rest : Rest} (longer : Code.Plan) (others : List ℕ) → remaining head ≡ s ∷ others
+pub below_head : {patients : List PatientBucket} {head : Branching} {s bed c : ℕ} {rest : PatientSet × ℕ} (longer : Code.Plan) (others : List ℕ) → remaining head ≡ s ∷ others
     → GivesRest patients (remaining head) head.bound s rest → longer.beds ≡ set head.plan.beds s bed → longer.len ≡ head.plan.len + 1 → c ≤ most_total
-    → Below patients head s bed c (record { left = rest.left; plan = record { beds = longer.beds; len = longer.len }; cost = head.cost + c; bound = rest.bound })
+    → Below patients head s bed c (record { left = rest.0; plan = record { beds = longer.beds; len = longer.len }; cost = head.cost + c; bound = rest.1 })
 below_head longer others lowest rest beds len most = record { left = rest.left others lowest; beds = beds; len = len; cost = refl; most = most; bound = rest.bound }
 
 -- The same of the plan that the bed would make.
-pub below_bed : {patients : List ℕ} {head : Branching} {s bed c : ℕ} {rest : Rest} (others : List ℕ) → remaining head ≡ s ∷ others → GivesRest patients (remaining head) head.bound s rest → c ≤ most_total
-    → Below patients head s bed c (record { left = rest.left; plan = record { beds = set head.plan.beds s bed; len = head.plan.len + 1 }; cost = head.cost + c; bound = rest.bound })
+pub below_bed : {patients : List PatientBucket} {head : Branching} {s bed c : ℕ} {rest : PatientSet × ℕ} (others : List ℕ) → remaining head ≡ s ∷ others → GivesRest patients (remaining head) head.bound s rest → c ≤ most_total
+    → Below patients head s bed c (record { left = rest.0; plan = record { beds = set head.plan.beds s bed; len = head.plan.len + 1 }; cost = head.cost + c; bound = rest.1 })
 below_bed {head} {s} {bed} others lowest rest most = below_head (record { beds = set head.plan.beds s bed; len = head.plan.len + 1 }) others lowest rest refl refl most

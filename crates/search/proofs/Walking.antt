@@ -37,6 +37,9 @@ use Rattle.search.specs.Walks.{Branching, remaining, left_in, head_row, SumsFit,
 use Rattle.search.proofs.Steps.{known, few, without_bed, inside_beds, not_before_first, not_from_end, split, decided, asks_few, asks_room, below_split, row_below, sums_fit_below, heads_below, bound_holds}
 use Rattle.search.proofs.Keeping.{kept_none, kept_again, kept_left, kept_places_lem}
 use Rattle.search.proofs.Padded.{row_padded, row_unpadded, inserted_unpadded, inserted_padded}
+use Rattle.bucket_words.specs.declared.PatientBucket.{PatientBucket}
+use Rattle.bucket_words.specs.declared.TableTerm.{TableTerm}
+use Rattle.kept_places.specs.declared.Moves.{Moves}
 
 -- A row that is not before another.
 not_before_lem : (v w : Row) → is_before (compare_rows v w) ≡ false → row_order.Lt v w → ⊥
@@ -48,7 +51,7 @@ not_before_lem v w e h = go (row_order.view v w) e
     go (after k) f = row_order.irrefl {x = v} (row_order.trans {x = v} {y = w} {z = v} h k)
 
 -- Where the loop stands: the list has grown by the rows whose bed for s is below the next one.
-pub record Sofar (store patients terms : List ℕ) (v n m : ℕ) (area : List ℕ) (head : Branching) (s first end : ℕ) (now places : List ℕ) (found counted bed : ℕ) : Type 0 where
+pub record Sofar (store : List ℕ) (patients : List PatientBucket) (terms : List TableTerm) (v n m : ℕ) (area : List ℕ) (head : Branching) (s first end : ℕ) (now places : List ℕ) (found counted bed : ℕ) : Type 0 where
   pub others : List ℕ
   pub lowest : remaining head ≡ s ∷ others
   pub firsts : first ≡ first_bed_at patients s
@@ -64,7 +67,7 @@ pub record Sofar (store patients terms : List ℕ) (v n m : ℕ) (area : List �
   pub grown : (r : Region) → Heads r store patients terms v head → Ready row_order m (rows_in v n area) (BranchOf r v head)
       → Grown row_order m (rows_in v n area) (BranchBelow r (left_in head) head.plan.beds (head_row v head) s bed) (rows_in v found now)
 
-module _ {store patients terms moves : List ℕ} {v n m : ℕ} {area lent : List ℕ} {head : Branching} where
+module _ {store : List ℕ} {patients : List PatientBucket} {terms : List TableTerm} {moves : Moves} {v n m : ℕ} {area lent : List ℕ} {head : Branching} where
   -- Nobody is left: the row of the head is inserted.
   pub walk_end : Asks store patients terms moves v n m area lent head → {found : ℕ} {now : List ℕ} (x : Code.Row) → is_empty (remaining head) ≡ true
       → row_of x ≡ packed_row v head.cost head.plan.beds → Inserted n m x area now found → Gives store patients terms v n m area head now lent found

@@ -4,7 +4,7 @@ use Rattle.std.proofs.Math.Path.{ap}
 use Rattle.std.proofs.Common.{ap₂, ◌∙◌, arith, le-leb, lt-ltb, le-ltb, ◌<◌, ◌&&◌, ◌∷◌}
 use Rattle.std.proofs.Math.Bool.{and-false}
 use Rattle.std.proofs.lemmas.Bool.{lt-leb}
-use Rattle.definitions.specs.Basics.{ℕ, Bool, not, cond, Option, none, some, List, [], length, leb, ltb, any, keep}
+use Rattle.definitions.specs.Basics.{ℕ, Bool, not, cond, none, some, List, [], length, leb, ltb, any, keep}
 use Rattle.definitions.specs.Syntax.{Table, Region, patient_numbers, patient_at}
 use Rattle.definitions.specs.Plans.{Plan, bed_of, cost_over}
 use Rattle.lists.specs.Keep.{keep_same}

@@ -19,9 +19,12 @@ use Rattle.forest.specs.Trees.{RootNumbers}
 use Rattle.row_sums.specs.Sums.{work_part, list_at}
 use Rattle.search.specs.Lowest.{Upward}
 use Rattle.search.specs.Walks.{AllPadded}
+use Rattle.bucket_words.specs.declared.PatientBucket.{PatientBucket}
+use Rattle.bucket_words.specs.declared.TableTerm.{TableTerm}
+use Rattle.kept_places.specs.declared.Moves.{Moves}
 
--- The sum of the least numbers of some patients' buckets, a word each.
-pub record LeastSummed (patients : List ℕ) (l : List ℕ) (n : ℕ) : Type 0 where
+-- The sum of the least numbers of some patients' buckets, each in 32 bits.
+pub record LeastSummed (patients : List PatientBucket) (l : List ℕ) (n : ℕ) : Type 0 where
   pub is : n ≡ sum (map (least_at patients) l)
   pub most : n ≤ 137_438_953_472
 
@@ -39,7 +42,7 @@ pub record GivesStart (v : ℕ) (work after : List ℕ) : Type 0 where
 -- ---- one more tree
 
 -- The list so far holds the first rows of E, and D is E with the patients of the set, which no table joins to E.
-pub record NextTree (r : Region) (D E : Patients) (store patients terms : List ℕ) (v m n : ℕ) (work : List ℕ) (set : ℕ) : Type 0 where
+pub record NextTree (r : Region) (D E : Patients) (store : List ℕ) (patients : List PatientBucket) (terms : List TableTerm) (v m n : ℕ) (work : List ℕ) (set : ℕ) : Type 0 where
   pub prepared : Prepared r store patients terms
   pub counted : v ≡ length r.patients
   pub known : (s : ℕ) → contains (members set) s ≡ true → s < length r.patients
@@ -48,10 +51,10 @@ pub record NextTree (r : Region) (D E : Patients) (store patients terms : List �
   pub apart : Apart r E (contains (members set))
   pub first : First row_order m (RowOf r E (no_beds r)) (list_at v n 0 work)
 
-pub record AsksTree (store patients terms moves : List ℕ) (v m n : ℕ) (work : List ℕ) (set : ℕ) : Type 0 where
+pub record AsksTree (store : List ℕ) (patients : List PatientBucket) (terms : List TableTerm) (moves : Moves) (v m n : ℕ) (work : List ℕ) (set : ℕ) : Type 0 where
   pub region : Region
   pub numbered : Numbered region (λ t. true) store terms
-  pub linked : Linked terms 32 moves
+  pub linked : Linked terms 0 moves
   pub D : Patients
   pub E : Patients
   pub next_tree : NextTree region D E store patients terms v m n work set
@@ -62,7 +65,7 @@ pub record AsksTree (store patients terms moves : List ℕ) (v m n : ℕ) (work 
   pub long : 1_152 ≤ length work
   pub padded : AllPadded v n (work_part 0 work)
 
-pub record GivesTree (store patients terms : List ℕ) (v m n : ℕ) (work : List ℕ) (set : ℕ) (after : List ℕ) (k : ℕ) : Type 0 where
+pub record GivesTree (store : List ℕ) (patients : List PatientBucket) (terms : List TableTerm) (v m n : ℕ) (work : List ℕ) (set : ℕ) (after : List ℕ) (k : ℕ) : Type 0 where
   pub count : k ≤ m
   pub long : length after ≡ length work
   pub padded : AllPadded v k (work_part 0 after)
@@ -70,21 +73,21 @@ pub record GivesTree (store patients terms : List ℕ) (v m n : ℕ) (work : Lis
 
 -- ---- all trees
 
--- The words and roots of a region.
-pub record PreparedForest (r : Region) (store patients terms roots : List ℕ) (v m : ℕ) : Type 0 where
+-- The buckets and roots of a region.
+pub record PreparedForest (r : Region) (store : List ℕ) (patients : List PatientBucket) (terms : List TableTerm) (roots : List ℕ) (v m : ℕ) : Type 0 where
   pub prepared : Prepared r store patients terms
   pub root_numbers : RootNumbers r roots
   pub counted : v ≡ length r.patients
   pub wanted : m ≡ r.plans_wanted
 
-pub record AsksForest (store patients terms moves roots : List ℕ) (v m : ℕ) (work : List ℕ) : Type 0 where
+pub record AsksForest (store : List ℕ) (patients : List PatientBucket) (terms : List TableTerm) (moves : Moves) (roots : List ℕ) (v m : ℕ) (work : List ℕ) : Type 0 where
   pub region : Region
   pub numbered : Numbered region (λ t. true) store terms
-  pub linked : Linked terms 32 moves
+  pub linked : Linked terms 0 moves
   pub forest : PreparedForest region store patients terms roots v m
   pub long : 1_152 ≤ length work
 
-pub record GivesForest (store patients terms roots : List ℕ) (v m : ℕ) (work after : List ℕ) (n : ℕ) : Type 0 where
+pub record GivesForest (store : List ℕ) (patients : List PatientBucket) (terms : List TableTerm) (roots : List ℕ) (v m : ℕ) (work after : List ℕ) (n : ℕ) : Type 0 where
   pub count : n ≤ m
   pub long : length after ≡ length work
   pub list : (r : Region) → PreparedForest r store patients terms roots v m → list_at v n 0 after ≡ list_of r

@@ -23,7 +23,9 @@ use Rattle.row_list.specs.Rows.{whole_rows, row_in, rows_in, Room}
 use Rattle.search.specs.Decided.{decided_at}
 use Rattle.search.specs.Lowest.{Upward}
 use Rattle.search.specs.declared.walk.Head.{Head}
-use Rattle.search.specs.declared.walk.Rest.{Rest}
+use Rattle.bucket_words.specs.declared.PatientBucket.{PatientBucket}
+use Rattle.bucket_words.specs.declared.TableTerm.{TableTerm}
+use Rattle.kept_places.specs.declared.Moves.{Moves}
 
 -- A branch: who is left, the plan so far, its cost, and a lower bound of what the rest costs. The head of one, with its beds.
 pub record Branching : Type 0 where
@@ -54,7 +56,7 @@ pub record SumsFit (head : Branching) : Type 0 where
   pub bound : head.bound ≤ 137_438_953_472
 
 -- A head of a branch in a region: its bound is the sum of the least numbers of the buckets of those who are left.
-pub record Heads (r : Region) (store patients terms : List ℕ) (v : ℕ) (head : Branching) : Type 0 where
+pub record Heads (r : Region) (store : List ℕ) (patients : List PatientBucket) (terms : List TableTerm) (v : ℕ) (head : Branching) : Type 0 where
   pub prepared : Prepared r store patients terms
   pub counted : v ≡ length r.patients
   pub few : v ≤ 32
@@ -69,7 +71,7 @@ BranchOf r v head = Branch r (left_in head) head.plan.beds (head_row v head)
 
 -- ---- one more bed
 
-pub record AsksNext (store patients terms : List ℕ) (head : Branching) (s bed : ℕ) : Type 0 where
+pub record AsksNext (store : List ℕ) (patients : List PatientBucket) (terms : List TableTerm) (head : Branching) (s bed : ℕ) : Type 0 where
   pub region : Region
   pub v : ℕ
   pub heads : Heads region store patients terms v head
@@ -79,7 +81,7 @@ pub record AsksNext (store patients terms : List ℕ) (head : Branching) (s bed 
   pub fits : bed < (patient_at region s).bed_count
 
 -- The head below a bed that costs c.
-pub record Below (patients : List ℕ) (head : Branching) (s bed c : ℕ) (below : Branching) : Type 0 where
+pub record Below (patients : List PatientBucket) (head : Branching) (s bed c : ℕ) (below : Branching) : Type 0 where
   pub left : remaining head ≡ s ∷ remaining below
   pub beds : below.plan.beds ≡ set head.plan.beds s bed
   pub len : below.plan.len ≡ head.plan.len + 1
@@ -88,18 +90,18 @@ pub record Below (patients : List ℕ) (head : Branching) (s bed c : ℕ) (below
   pub bound : below.bound ≡ head.bound - least_at patients s
 
 -- What the bed decides costs so much, or is forbidden, in every region that the head is one of.
-abbrev pub Decides : List ℕ → List ℕ → List ℕ → Branching → ℕ → ℕ → Option ℕ → Type 0
+abbrev pub Decides : List ℕ → List PatientBucket → List TableTerm → Branching → ℕ → ℕ → Option ℕ → Type 0
 Decides store patients terms head s bed cost =
     (r : Region) (v : ℕ) → Heads r store patients terms v head → bed < (patient_at r s).bed_count → cost_over (decided_at r s) r (set head.plan.beds s bed) ≡ cost
 
 -- What is left without the lowest patient.
-pub record AsksRest (patients : List ℕ) (bound s : ℕ) : Type 0 where
+pub record AsksRest (patients : List PatientBucket) (bound s : ℕ) : Type 0 where
   pub few : s < 32
   pub least : least_at patients s ≤ bound
 
-pub record GivesRest (patients before : List ℕ) (least s : ℕ) (rest : Rest) : Type 0 where
-  pub left : (others : List ℕ) → before ≡ s ∷ others → before ≡ s ∷ members rest.left.0
-  pub bound : rest.bound ≡ least - least_at patients s
+pub record GivesRest (patients : List PatientBucket) (before : List ℕ) (least s : ℕ) (rest : PatientSet × ℕ) : Type 0 where
+  pub left : (others : List ℕ) → before ≡ s ∷ others → before ≡ s ∷ members rest.0.0
+  pub bound : rest.1 ≡ least - least_at patients s
 
 -- The first n rows of a list have bed 0 from patient v on.
 abbrev pub AllPadded : ℕ → ℕ → List ℕ → Type 0
@@ -128,19 +130,19 @@ pub record PlacesKept (r : Region) (left : Patients) (beds : Plan) (places : Lis
   pub place : (k : ℕ) → k < length r.tables → holds left (table_at r k) ≡ true → get_or places k 0 ≡ place_in r beds (table_at r k)
   pub every : (k s : ℕ) → k < length r.tables → highest s (table_at r k) ≡ true → get_or places k 0 + bed_of beds s ≡ place_in r beds (table_at r k)
 
-pub record Asks (store patients terms moves : List ℕ) (v n m : ℕ) (area places : List ℕ) (head : Branching) : Type 0 where
+pub record Asks (store : List ℕ) (patients : List PatientBucket) (terms : List TableTerm) (moves : Moves) (v n m : ℕ) (area places : List ℕ) (head : Branching) : Type 0 where
   pub region : Region
   pub heads : Heads region store patients terms v head
   pub numbered : Numbered region (λ t. true) store terms
   pub sums_fit : SumsFit head
   pub room : Room n m area
   pub padded : AllPadded v n area
-  pub linked : Linked terms 32 moves
+  pub linked : Linked terms 0 moves
   pub kept : Kept terms head.plan.beds places
   pub places_kept : PlacesKept region (left_in head) head.plan.beds places
 
 -- The list grows by the rows of the branch, and the places are kept for the beds of its head again.
-pub record Gives (store patients terms : List ℕ) (v n m : ℕ) (area : List ℕ) (head : Branching) (after after_places : List ℕ) (found : ℕ) : Type 0 where
+pub record Gives (store : List ℕ) (patients : List PatientBucket) (terms : List TableTerm) (v n m : ℕ) (area : List ℕ) (head : Branching) (after after_places : List ℕ) (found : ℕ) : Type 0 where
   pub count : found ≤ m
   pub kept : Kept terms head.plan.beds after_places
   pub long : length after ≡ length area

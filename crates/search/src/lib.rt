@@ -6,11 +6,11 @@ pub mod walk;
 ghost use Rattle.patient_set.specs.Sets.{members};
 ghost use Rattle.search.specs.Trees.{LeastSummed, AsksStart, GivesStart, AsksTree, GivesTree, AsksForest, GivesForest, AsksRegion, GivesRegion};
 
-use bucket_words::least_cost;
+use bucket_words::Buckets;
 use buckets::prepare;
 use forest::{root_numbers, tree};
 use held_region::Region;
-use kept_places::moves_of;
+use kept_places::{Moves, moves_of};
 use packed_rows::pack;
 use patient_set::PatientSet;
 use pricing::Plan;
@@ -19,15 +19,12 @@ use row_sums::{SECOND, THIRD, combine};
 use walk::{Head, walk};
 
 // The sum of the least numbers of the buckets of a set.
-fn least_sum(patients: &[u32; 160], set: PatientSet) -> u64
-    ensures { LeastSummed patients.now (members set.0) result }
+fn least_sum(buckets: &Buckets, set: PatientSet) -> u64
+    ensures { LeastSummed buckets.now.patients (members set.0) result }
 {
-    let mut rest = set;
     let mut n: u64 = 0;
-    while 0 < rest.size() {
-        let s = rest.lowest() as usize;
-        n += least_cost(patients, s) as u64;
-        rest = rest.minus(PatientSet::one(s));
+    for s in set.iter() {
+        n += buckets.least_cost(s) as u64;
     }
     n
 }
@@ -37,39 +34,36 @@ fn start_list(work: &mut [u32], v: usize)
     requires { AsksStart v work.old }
     ensures { GivesStart v work.old work.new }
 {
-    let beds = [0u8; 32];
-    let row = pack(0, &beds, v);
+    let row = pack(0, &[0u8; 32], v);
     set_row(&mut work[0..SECOND], 0, row);
 }
 
 // The list with one more tree: a walk lists the tree's rows, and the two lists are combined.
 fn add_tree(
     work: &mut [u32],
-    patients: &[u32; 160],
-    terms: &[u32; 640],
-    moves: &[u16; 608],
+    buckets: &Buckets,
+    moves: &Moves,
     entries: &[u32; 4096],
     v: usize,
     m: usize,
     n: usize,
     set: PatientSet,
 ) -> usize
-    requires { AsksTree entries.now patients.now terms.now moves.now v m n work.old set.0 }
-    ensures { GivesTree entries.now patients.now terms.now v m n work.old set.0 work.new result }
+    requires { AsksTree entries.now buckets.now.patients buckets.now.terms moves.now v m n work.old set.0 }
+    ensures { GivesTree entries.now buckets.now.patients buckets.now.terms v m n work.old set.0 work.new result }
 {
     let plan = Plan::new();
     let head = Head {
         left: set,
         placed: plan.len,
         cost: 0,
-        bound: least_sum(patients, set),
+        bound: least_sum(buckets, set),
     };
     let mut places = [0u32; 64];
     let found = walk(
         &mut work[SECOND..THIRD],
         &mut places,
-        patients,
-        terms,
+        buckets,
         moves,
         entries,
         &plan.beds,
@@ -84,26 +78,23 @@ fn add_tree(
 // The list of all trees, one after the other.
 fn list_trees(
     work: &mut [u32],
-    patients: &[u32; 160],
-    terms: &[u32; 640],
-    moves: &[u16; 608],
+    buckets: &Buckets,
+    moves: &Moves,
     entries: &[u32; 4096],
     roots: &[u32; 32],
     v: usize,
     m: usize,
 ) -> usize
-    requires { AsksForest entries.now patients.now terms.now moves.now roots.now v m work.old }
-    ensures { GivesForest entries.now patients.now terms.now roots.now v m work.old work.new result }
+    requires { AsksForest entries.now buckets.now.patients buckets.now.terms moves.now roots.now v m work.old }
+    ensures { GivesForest entries.now buckets.now.patients buckets.now.terms roots.now v m work.old work.new result }
 {
     start_list(work, v);
     let mut n: usize = 1;
-    let mut k: usize = 0;
-    while k < v {
+    for k in 0..v {
         let set = tree(roots, v, k);
-        if 0 < set.size() {
-            n = add_tree(work, patients, terms, moves, entries, v, m, n, set);
+        if !set.is_empty() {
+            n = add_tree(work, buckets, moves, entries, v, m, n, set);
         }
-        k += 1;
     }
     n
 }
@@ -115,16 +106,6 @@ pub fn list_region(work: &mut [u32], region: Region, store: &[u32; 4096]) -> usi
 {
     let buckets = prepare(region, store);
     let roots = root_numbers(region);
-    let patients = buckets.patients;
-    let moves = moves_of(&buckets.terms, region.t);
-    list_trees(
-        work,
-        &patients,
-        &buckets.terms,
-        &moves,
-        store,
-        &roots,
-        region.v,
-        region.m,
-    )
+    let moves = moves_of(&buckets, region.t);
+    list_trees(work, &buckets, &moves, store, &roots, region.v, region.m)
 }

@@ -3,12 +3,12 @@ ghost use Rattle.std.specs.Prelude.{◌≡◌, set};
 ghost use Rattle.patient_set.specs.Sets.{members};
 ghost use Rattle.search.specs.Walks.{branch_at, AsksRest, GivesRest, is_past, AsksCut, Asks, Gives};
 
-use bucket_words::{bed_end, first_bed, least_cost};
-use kept_places::move_places;
+use bucket_words::Buckets;
+use kept_places::{Moves, move_places};
 use packed_rows::pack;
 use patient_set::PatientSet;
+use pricing::Plan;
 use pricing::beds::{bed_cost, bed_costs};
-use pricing::{Cost, Plan};
 use row_list::{cost_at, insert, is_past};
 
 // The head of a branch: who is left, how many are placed, the cost so far, and a lower bound of what the rest costs.
@@ -20,22 +20,13 @@ pub struct Head {
     pub bound: u64,
 }
 
-// What is left of a head without its lowest patient.
-#[derive(Clone, Copy)]
-pub struct Rest {
-    pub left: PatientSet,
-    pub bound: u64,
-}
-
-// The others, and the bound without the lowest patient's bucket.
-fn rest_of(patients: &[u32; 160], left: PatientSet, bound: u64, s: usize) -> Rest
-    requires { AsksRest patients.now bound s }
-    ensures { GivesRest patients.now (members left.0) bound s result }
+// What is left of a head without its lowest patient: the others, and the bound without the patient's bucket.
+fn rest_of(buckets: &Buckets, left: PatientSet, bound: u64, s: usize) -> (PatientSet, u64)
+    requires { AsksRest buckets.now.patients bound s }
+    ensures { GivesRest buckets.now.patients (members left.0) bound s result }
 {
-    Rest {
-        left: left.minus(PatientSet::one(s)),
-        bound: bound - least_cost(patients, s) as u64,
-    }
+    let others = left.minus(PatientSet::one(s));
+    (others, bound - buckets.least_cost(s) as u64)
 }
 
 // Is the list full, and a row of this cost, with the plan so far and one more bed, not before its last? Only at equal costs the beds are looked at.
@@ -72,9 +63,8 @@ fn is_cut(
 pub fn walk(
     list: &mut [u32],
     places: &mut [u32; 64],
-    patients: &[u32; 160],
-    terms: &[u32; 640],
-    moves: &[u16; 608],
+    buckets: &Buckets,
+    moves: &Moves,
     entries: &[u32; 4096],
     beds: &[u8; 32],
     v: usize,
@@ -82,8 +72,8 @@ pub fn walk(
     m: usize,
     head: Head,
 ) -> usize
-    requires { Asks entries.now patients.now terms.now moves.now v n m list.old places.old (branch_at head beds.now) }
-    ensures { Gives entries.now patients.now terms.now v n m list.old (branch_at head beds.now) list.new places.new result }
+    requires { Asks entries.now buckets.now.patients buckets.now.terms moves.now v n m list.old places.old (branch_at head beds.now) }
+    ensures { Gives entries.now buckets.now.patients buckets.now.terms v n m list.old (branch_at head beds.now) list.new places.new result }
 {
     let left = head.left;
     if left.is_empty() {
@@ -91,13 +81,10 @@ pub fn walk(
         return insert(list, n, m, row);
     }
     let s = left.lowest() as usize;
-    let first = first_bed(patients, s);
-    let end = bed_end(patients, s);
-    let rest = rest_of(patients, left, head.bound, s);
-    let others = rest.left;
-    let bound = rest.bound;
-    let mut sums = [0u64; 16];
-    bed_costs(&mut sums, patients, terms, entries, places, s, first, end);
+    let first = buckets.first_bed(s);
+    let end = buckets.bed_end(s);
+    let (others, bound) = rest_of(buckets, left, head.bound, s);
+    let sums = bed_costs(buckets, entries, places, s, first, end);
     let plan = Plan {
         beds: *beds,
         len: head.placed,
@@ -105,11 +92,9 @@ pub fn walk(
     let mut found = n;
     // The bed of s that the places count.
     let mut counted = 0;
-    let mut bed = first;
-    while bed < end {
-        let cost = bed_cost(&sums, bed);
-        if let Cost::Of(n) = cost {
-            let sum = head.cost + n;
+    for bed in first..end {
+        if let Some(cost) = bed_cost(&sums, bed) {
+            let sum = head.cost + cost;
             let least = sum + bound;
             if !is_cut(list, plan, v, found, m, least, s, bed as u8) {
                 let longer = plan.place(s, bed as u8);
@@ -124,8 +109,7 @@ pub fn walk(
                 found = walk(
                     list,
                     places,
-                    patients,
-                    terms,
+                    buckets,
                     moves,
                     entries,
                     &longer.beds,
@@ -136,7 +120,6 @@ pub fn walk(
                 );
             }
         }
-        bed += 1;
     }
     move_places(places, moves, s, counted, 0);
     found

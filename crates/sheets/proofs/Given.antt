@@ -12,8 +12,10 @@ use Rattle.buckets.specs.Counting.{counts_for}
 use Rattle.row_list.specs.Rows.{rows_in}
 use Rattle.sheets.specs.Steps.{Listed, AsksList, GivesList}
 use Rattle.sheets.specs.Sheets.{Given, Asks, Gives}
+use Rattle.bucket_words.specs.declared.PatientBucket.{PatientBucket}
+use Rattle.bucket_words.specs.declared.TableTerm.{TableTerm}
 
-module _ (h : Region) (store : List ℕ) (n set : ℕ) (work patients terms : List ℕ)
+module _ (h : Region) (store : List ℕ) (n set : ℕ) (work : List ℕ) (patients : List PatientBucket) (terms : List TableTerm)
     (accepted : Accepted (said h store)) (prepared : Prepared (with_tables (said h store) (counts_for set)) store patients terms) where
   given_listed : (clinic : ℕ) → Given h store clinic n set work → Listed (said h store) clinic store patients terms h.v n set work
   given_listed clinic g =

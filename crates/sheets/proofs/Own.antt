@@ -32,6 +32,8 @@ use Rattle.packed_rows.specs.declared.Row.{Row}
 use Rattle.packed_rows.specs.Packed.{row_of, packable}
 use Rattle.packed_rows.specs.Packing.{packed_row, pack_padded, pack_unpadded}
 use Rattle.sheets.specs.Steps.{PartTaken, Priced, Own, GivesOwn}
+use Rattle.bucket_words.specs.declared.PatientBucket.{PatientBucket}
+use Rattle.bucket_words.specs.declared.TableTerm.{TableTerm}
 
 -- A row of the list fits, and so do beds that begin with its beds.
 pub listed_fits : (r : Region) (w : Said.Row) (beds : List ℕ) → Allowed r w → take (length r.patients) beds ≡ w.beds → Fitting r beds
@@ -40,7 +42,7 @@ listed_fits r w beds a e s h =
     let fits : bed_of w.beds s < (patient_at r s).bed_count = inside ((fits_beds r (λ q. true) w.beds (λ q l. refl)).1 a.fits) s h refl in
     omega arith
 
-module _ {r : Region} {clinic : ℕ} {store patients terms : List ℕ} {v set : ℕ} (own : Own r clinic store patients terms v set) where
+module _ {r : Region} {clinic : ℕ} {store : List ℕ} {patients : List PatientBucket} {terms : List TableTerm} {v set : ℕ} (own : Own r clinic store patients terms v set) where
   -- The region with only the own tables has the same patients, so its price may be asked.
   with_fits : (beds : List ℕ) → Fitting r beds → Fitting (with_tables r (counts_for set)) beds
   unfolding patient_at
@@ -87,7 +89,7 @@ module _ {r : Region} {clinic : ℕ} {store patients terms : List ℕ} {v set : 
       ∙ ap (λ tables. option_get_or (cost_over tables r (take v beds)) 0) tables_own
 
 -- The row that is packed.
-pub own_made : {store patients terms : List ℕ} {v : ℕ} (row : Row) (set : ℕ) (result : Row) (beds taken : List ℕ) (k first : ℕ)
+pub own_made : {store : List ℕ} {patients : List PatientBucket} {terms : List TableTerm} {v : ℕ} (row : Row) (set : ℕ) (result : Row) (beds taken : List ℕ) (k first : ℕ)
     → beds ≡ (row_of row).beds → length taken ≡ 32 → k ≡ length (members set) → Priced store patients terms v beds first → PartTaken beds (members set) taken
     → row_of result ≡ record { cost = first; beds = packable k taken } → GivesOwn store patients terms v row set result
 unfolding own_row

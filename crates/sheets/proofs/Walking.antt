@@ -26,9 +26,11 @@ use Rattle.row_sums.specs.Areas.{replaced, replaced_long, part_new, part_before,
 use Rattle.sheets.specs.Steps.{AsksOwn, GivesOwn, Room, with_new, Kept, Listed, AsksList, GivesList}
 use Rattle.sheets.proofs.Own.{listed_fits}
 use Rattle.sheets.proofs.Keeping.{sheet_from, from_next, from_done, new_padded, new_unpadded}
+use Rattle.bucket_words.specs.declared.PatientBucket.{PatientBucket}
+use Rattle.bucket_words.specs.declared.TableTerm.{TableTerm}
 
 -- At row i of the list: the rows kept so far, and the first occurrences of the own rows that are left, are the sheet.
-pub record Walked (store patients terms : List ℕ) (v n set : ℕ) (first : List ℕ) (i : ℕ) (work : List ℕ) (kept : ℕ) : Type 0 where
+pub record Walked (store : List ℕ) (patients : List PatientBucket) (terms : List TableTerm) (v n set : ℕ) (first : List ℕ) (i : ℕ) (work : List ℕ) (kept : ℕ) : Type 0 where
   pub most : i ≤ n
   pub count : kept ≤ i
   pub long : length work ≡ length first
@@ -37,7 +39,7 @@ pub record Walked (store patients terms : List ℕ) (v n set : ℕ) (first : Lis
   pub sheet : (r : Region) (clinic : ℕ) → Listed r clinic store patients terms v n set first
       → sheet_from (list_at (length (members set)) kept 1 work) (map (own_row r clinic) (drop i (list_of r))) ≡ sheet_of r clinic
 
-module _ (store patients terms : List ℕ) (v n set : ℕ) (first : List ℕ) where
+module _ (store : List ℕ) (patients : List PatientBucket) (terms : List TableTerm) (v n set : ℕ) (first : List ℕ) where
   abbrev size : ℕ
   size = length (members set)
 

@@ -11,11 +11,12 @@ ghost use Rattle.row_list.specs.Rows.{whole_rows};
 ghost use Rattle.sheets.specs.Steps.{PartTaken, Priced, AsksOwn, GivesOwn, Room, Kept, AsksList, GivesList};
 ghost use Rattle.sheets.specs.Sheets.{Asks, Gives};
 
+use bucket_words::Buckets;
 use buckets::prepare_for;
 use held_region::Region;
 use packed_rows::{Row, beds_of, pack, same_beds};
 use patient_set::PatientSet;
-use pricing::{Cost, Plan, tables_cost};
+use pricing::{Plan, tables_cost};
 use row_list::{row_at, set_row};
 use row_sums::{SECOND, THIRD};
 
@@ -24,50 +25,30 @@ fn clinic_beds(beds: [u8; 32], clinic: PatientSet) -> [u8; 32]
     ensures { PartTaken beds (members clinic.0) result }
 {
     let mut taken = [0u8; 32];
-    let mut rest = clinic;
     let mut j: usize = 0;
-    while 0 < rest.size() {
-        let s = rest.lowest() as usize;
+    for s in clinic.iter() {
         taken[j] = beds[s];
-        rest = rest.minus(PatientSet::one(s));
         j += 1;
     }
     taken
 }
 
 // What the tables cost for a plan, 0 where one of them forbids it.
-fn price(
-    patients: &[u32; 160],
-    terms: &[u32; 640],
-    entries: &[u32; 4096],
-    v: usize,
-    beds: [u8; 32],
-) -> u64
-    requires { AsksAll entries.now patients.now terms.now v beds }
-    ensures { Priced entries.now patients.now terms.now v beds result }
+fn price(buckets: &Buckets, entries: &[u32; 4096], v: usize, beds: [u8; 32]) -> u64
+    requires { AsksAll entries.now buckets.now.patients buckets.now.terms v beds }
+    ensures { Priced entries.now buckets.now.patients buckets.now.terms v beds result }
 {
     let plan = Plan { beds: beds, len: v };
-    let cost = tables_cost(patients, terms, entries, v, plan);
-    match cost {
-        Cost::Forbidden => 0,
-        Cost::Of(n) => n,
-    }
+    tables_cost(buckets, entries, v, plan).unwrap_or(0)
 }
 
 // What the sheet holds of a row of the list: the clinic's own cost, and its part of the beds.
-fn own_row(
-    patients: &[u32; 160],
-    terms: &[u32; 640],
-    entries: &[u32; 4096],
-    v: usize,
-    row: Row,
-    clinic: PatientSet,
-) -> Row
-    requires { AsksOwn entries.now patients.now terms.now v row clinic.0 }
-    ensures { GivesOwn entries.now patients.now terms.now v row clinic.0 result }
+fn own_row(buckets: &Buckets, entries: &[u32; 4096], v: usize, row: Row, clinic: PatientSet) -> Row
+    requires { AsksOwn entries.now buckets.now.patients buckets.now.terms v row clinic.0 }
+    ensures { GivesOwn entries.now buckets.now.patients buckets.now.terms v row clinic.0 result }
 {
     let beds = beds_of(row);
-    let cost = price(patients, terms, entries, v, beds);
+    let cost = price(buckets, entries, v, beds);
     let taken = clinic_beds(beds, clinic);
     let k = clinic.size() as usize;
     pack(cost, &taken, k)
@@ -78,13 +59,11 @@ fn has_come_before(sheet: &[u32], n: usize, row: Row) -> bool
     requires { n * 6 ≤ length sheet.now }
     ensures { result ≡ any (same_beds (row_of row)) (whole_rows n sheet.now) }
 {
-    let mut i: usize = 0;
-    while i < n {
+    for i in 0..n {
         let kept = row_at(sheet, i);
         if same_beds(row, kept) {
             return true;
         }
-        i += 1;
     }
     false
 }
@@ -97,31 +76,27 @@ fn keep_new(sheet: &mut [u32], n: usize, row: Row) -> usize
     if has_come_before(sheet, n, row) {
         return n;
     }
-    let next = n + 1;
     set_row(sheet, n, row);
-    next
+    n + 1
 }
 
 // Walks the n rows of the list, and keeps the clinic's own rows in the second part of the work area.
 fn keep_rows(
     work: &mut [u32],
-    patients: &[u32; 160],
-    terms: &[u32; 640],
+    buckets: &Buckets,
     entries: &[u32; 4096],
     v: usize,
     n: usize,
     clinic: PatientSet,
 ) -> usize
-    requires { AsksList entries.now patients.now terms.now v n clinic.0 work.old }
-    ensures { GivesList entries.now patients.now terms.now v n clinic.0 work.old work.new result }
+    requires { AsksList entries.now buckets.now.patients buckets.now.terms v n clinic.0 work.old }
+    ensures { GivesList entries.now buckets.now.patients buckets.now.terms v n clinic.0 work.old work.new result }
 {
     let mut count: usize = 0;
-    let mut i: usize = 0;
-    while i < n {
+    for i in 0..n {
         let row = row_at(&work[0..SECOND], i);
-        let own = own_row(patients, terms, entries, v, row, clinic);
+        let own = own_row(buckets, entries, v, row, clinic);
         count = keep_new(&mut work[SECOND..THIRD], count, own);
-        i += 1;
     }
     count
 }
@@ -138,7 +113,5 @@ pub fn sheet_rows(
     ensures { Gives region store.now n clinic.0 work.old work.new result }
 {
     let buckets = prepare_for(region, store, clinic);
-    let patients = buckets.patients;
-    let terms = buckets.terms;
-    keep_rows(work, &patients, &terms, store, region.v, n, clinic)
+    keep_rows(work, &buckets, store, region.v, n, clinic)
 }

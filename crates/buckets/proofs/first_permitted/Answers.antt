@@ -1,10 +1,13 @@
-use mathlib.Core.Path.{sym, ap}
+use mathlib.Core.Path.{◌≡◌, refl, ◌∙◌}
+use Prim.Native.Nat.{ℕ}
+use Rattle.std.specs.Prelude as Code
 use Rattle.held_region.specs.Meaning.{optional}
 use Rattle.buckets.specs.Permitted.{first_of}
 use Rattle.buckets.proofs.first_permitted.Goals as goal
 
-pub returns-in-Hyphen : goal.returns-in-Hyphen
-returns-in-Hyphen c = sym (ap (λ o. first_of (optional o)) c.in-Hyphen.is)
+first_or : (fixed : Code.Option ℕ) → Code.unwrap_or fixed 0 ≡ first_of (optional fixed)
+first_or Code.None = refl
+first_or (Code.Some bed) = refl
 
-pub returns-in-Number : goal.returns-in-Number
-returns-in-Number c = sym (ap (λ o. first_of (optional o)) c.in-Number.is)
+pub returns : goal.returns
+returns c = c.unwrap_or.ensures ∙ first_or c.args.fixed

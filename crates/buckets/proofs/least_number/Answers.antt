@@ -1,5 +1,5 @@
 use mathlib.Core.Path.{refl, ap, ◌∙◌}
-use Prim.Native.Nat.{◌+◌, ◌-◌}
+use Prim.Native.Nat.{◌+◌}
 use Rattle.buckets.specs.Least.{lowest, codes_in, code_lower, code_kept, codes_done, none_found, number_found}
 use Rattle.buckets.proofs.least_number.Goals as goal
 

@@ -3,7 +3,4 @@ use Rattle.buckets.proofs.Filling.{Filling}
 use Rattle.buckets.proofs.prepare_for.Given as goal
 
 abbrev pub invariant-loop-i : goal.invariant-loop-i
-invariant-loop-i l = Filling l.region l.store (counts_for l.of.0) l.i l.start l.patients l.terms
-
-abbrev pub decreases-loop-i : goal.decreases-loop-i
-decreases-loop-i l = l.i
+invariant-loop-i l = Filling l.region l.store (counts_for l.of.0) l.i l.start l.buckets.patients l.buckets.terms

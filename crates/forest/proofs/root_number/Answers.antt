@@ -4,8 +4,8 @@ use Rattle.held_region.specs.Meaning.{optional}
 use Rattle.forest.specs.Trees.{root_from}
 use Rattle.forest.proofs.root_number.Goals as goal
 
-pub bounds-roots-above : goal.bounds-roots-above
-bounds-roots-above c = omega (arith, c.requires.1 _ (ap optional c.in-Number.is))
+pub bounds-roots-p : goal.bounds-roots-p
+bounds-roots-p c = omega (arith, c.requires.1 _ (ap optional c.in-Some.is))
 
-pub returns-in-Number : goal.returns-in-Number
-returns-in-Number c = sym (ap (λ p. root_from c.args.roots c.args.s (optional p)) c.in-Number.is)
+pub returns-in-Some : goal.returns-in-Some
+returns-in-Some c = sym (ap (λ p. root_from c.args.roots.now c.args.s (optional p)) c.in-Some.is)

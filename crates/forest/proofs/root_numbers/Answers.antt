@@ -1,5 +1,4 @@
 use mathlib.Core.Path.{refl}
-use Prim.Native.Nat.{◌-◌}
 use native.Mathlib.Omega.{arith}
 use lib.ListN.{length-set}
 use Rattle.held_region.specs.Asked.{patients_said_lem}
@@ -9,16 +8,16 @@ use Rattle.forest.proofs.root_numbers.Goals as goal
 pub loop-s-init : goal.loop-s-init
 loop-s-init c = (refl, λ store s l. absurd (omega arith))
 
-pub offset_bounds-patients-s : goal.offset_bounds-patients-s
-offset_bounds-patients-s c = omega (arith, c.requires.places.patients)
+pub offset_bounds-region-s : goal.offset_bounds-region-s
+offset_bounds-region-s c = omega (arith, c.requires.places.patients)
 
-pub bounds-patients-s : goal.bounds-patients-s
-bounds-patients-s c = omega (arith, c.requires.places.patients)
+pub bounds-region-s : goal.bounds-region-s
+bounds-region-s c = omega (arith, c.requires.places.patients)
 
 pub root_number-root-requires : goal.root_number-root-requires
 root_number-root-requires c =
     let first = c.requires in
-    (omega (arith, first.places.patients), parent_known _ first _ c.loop-s-test.true)
+    (omega (arith, first.places.patients), parent_known _ first _ (omega arith))
 
 pub offset_bounds-roots-s : goal.offset_bounds-roots-s
 offset_bounds-roots-s c = omega (arith, c.requires.places.patients)
@@ -26,16 +25,13 @@ offset_bounds-roots-s c = omega (arith, c.requires.places.patients)
 pub bounds-roots-s : goal.bounds-roots-s
 bounds-roots-s c = omega (arith, c.requires.places.patients)
 
-pub overflow_add-s : goal.overflow_add-s
-overflow_add-s c = omega (arith, c.requires.places.patients)
-
 pub loop-s-preserved : goal.loop-s-preserved
 loop-s-preserved c =
     let loop = c in
     let first = loop.requires in
     let room = first.places.patients in
     let inv = loop.loop-s.invariant in
-    (simp length-set inv.0, root_numbers_more _ first _ c.loop-s-test.true _ _ (omega (arith, room)) c.root_number-root.ensures inv.1)
+    (simp length-set inv.0, root_numbers_more _ first _ (omega arith) _ _ (omega (arith, room)) c.root_number-root.ensures inv.1)
 
 pub returns : goal.returns
 returns c =

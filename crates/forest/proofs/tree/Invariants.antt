@@ -1,12 +1,9 @@
 use mathlib.Core.Path.{◌≡◌}
-use Prim.Native.Nat.{ℕ, ◌-◌, ◌≤◌}
+use Prim.Native.Nat.{ℕ}
 use Rattle.std.specs.Prelude.{◌&&◌}
 use Rattle.definitions.specs.Basics.{eqb, ltb, get_or}
 use Rattle.patient_set.specs.Sets.{in_set}
 use Rattle.forest.proofs.tree.Given as goal
 
 abbrev pub invariant-loop-s : goal.invariant-loop-s
-invariant-loop-s l = (l.s ≤ l.v) × ((q : ℕ) → in_set l.set.0 q ≡ (ltb q l.s && eqb (get_or l.roots q 0) l.k))
-
-abbrev pub decreases-loop-s : goal.decreases-loop-s
-decreases-loop-s l = l.v - l.s
+invariant-loop-s l = (q : ℕ) → in_set l.set.0 q ≡ (ltb q l.s && eqb (get_or l.roots q 0) l.k)

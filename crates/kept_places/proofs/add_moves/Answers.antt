@@ -10,7 +10,7 @@ add_move-requires c =
     let l = c.loop-j in
     let known = pre.known (l.j - 1) (omega arith) in
     let near = pre.near (l.j - 1) (omega arith) in
-    asks_add pre.few (omega arith) (omega arith) l.invariant.1 known c.member.ensures c.low_stride-by.ensures near
+    asks_add pre.few (omega arith) (omega arith) l.invariant known c.member.ensures c.low_stride-by.ensures near
 
 pub loop-j-preserved-then-by-gt0 : goal.loop-j-preserved-then-by-gt0
 loop-j-preserved-then-by-gt0 c =
@@ -19,15 +19,15 @@ loop-j-preserved-then-by-gt0 c =
     let known = pre.known (l.j - 1) (omega arith) in
     let by = c.low_stride-by.ensures in
     let some = c.if-by-gt0.true in
-    (omega arith, linked_more pre.few (omega arith) (omega arith) l.invariant.1 known c.member.ensures by some c.add_move.ensures)
+    linked_more pre.few (omega arith) (omega arith) l.invariant known c.member.ensures by some c.add_move.ensures
 
 pub loop-j-preserved : goal.loop-j-preserved
 loop-j-preserved c =
     let pre = c.requires in
     let l = c.loop-j in
-    (omega arith, linked_still pre.few (omega arith) (omega arith) l.invariant.1 (omega (arith, c.low_stride-by.ensures, c.if-by-gt0.false)))
+    linked_still pre.few (omega arith) (omega arith) l.invariant (omega (arith, c.low_stride-by.ensures, c.if-by-gt0.false))
 
 pub returns : goal.returns
 returns c =
     let none : c.loop-j.j ≡ 0 = omega arith in
-    rw none at c.loop-j.invariant.1
+    rw none at c.loop-j.invariant

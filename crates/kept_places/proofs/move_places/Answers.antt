@@ -1,6 +1,5 @@
 use native.Mathlib.Omega.{arith}
 use mathlib.Core.Path.{refl}
-use Prim.Native.Nat.{◌-◌}
 use Rattle.kept_places.proofs.Moving.{Makes, halfway_start, halfway_makes, halfway_next, halfway_done}
 use Rattle.kept_places.proofs.move_places.Goals as goal
 use Rattle.kept_places.proofs.move_places.Goals.{In-loop-at}
@@ -18,9 +17,6 @@ loop-at-init c = halfway_start c.requires.few c.requires.kept.long
 
 pub overflow_cast-k : goal.overflow_cast-k
 overflow_cast-k c = omega (arith, step (goal.at.overflow_cast-k c).In-loop-at)
-
-pub bounds-moves-at-in-loop-at : goal.bounds-moves-at-in-loop-at
-bounds-moves-at-in-loop-at c = omega (arith, step (goal.at.bounds-moves-at-in-loop-at c).In-loop-at)
 
 pub overflow_cast-by : goal.overflow_cast-by
 overflow_cast-by c = omega (arith, step (goal.at.overflow_cast-by c).In-loop-at)
@@ -54,9 +50,6 @@ offset_bounds-places-k-in-loop-at c = omega (arith, step (goal.at.offset_bounds-
 
 pub bounds-places-k-in-loop-at : goal.bounds-places-k-in-loop-at
 bounds-places-k-in-loop-at c = omega (arith, step (goal.at.bounds-places-k-in-loop-at c).In-loop-at)
-
-pub bounds-moves-at-in-loop-at-2 : goal.bounds-moves-at-in-loop-at-2
-bounds-moves-at-in-loop-at-2 c = omega (arith, step (goal.at.bounds-moves-at-in-loop-at-2 c).In-loop-at)
 
 pub overflow_cast-at-in-loop-at : goal.overflow_cast-at-in-loop-at
 overflow_cast-at-in-loop-at c = omega (arith, step (goal.at.overflow_cast-at-in-loop-at c).In-loop-at)

@@ -1,5 +1,4 @@
 use mathlib.Core.Path.{sym, ap, ◌∙◌}
-use Prim.Native.Nat.{◌-◌}
 use lib.ListN.{get_or}
 use native.Mathlib.Omega.{arith}
 use Rattle.pricing.proofs.Chains.{goes_start, goes_done, goes_reads, goes_inside, goes_forbidden, goes_later, goes_small, goes_next}

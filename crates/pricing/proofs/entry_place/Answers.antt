@@ -1,4 +1,4 @@
-use Prim.Native.Nat.{◌-◌}
+use mathlib.Core.Path.{refl}
 use native.Mathlib.Omega.{arith}
 use Rattle.pricing.proofs.Sums.{placing_start, bed_most, placing_next, placing_done}
 use Rattle.pricing.proofs.entry_place.Goals as goal
@@ -7,25 +7,22 @@ pub loop-j-init : goal.loop-j-init
 loop-j-init c = placing_start c.requires c.entry_start-place.ensures
 
 pub bounds-beds-s : goal.bounds-beds-s
-bounds-beds-s c = omega (arith, c.requires.known _ c.loop-j-test.true, c.member-s.ensures)
+bounds-beds-s c = omega (arith, c.requires.known c.loop-j.j (omega arith), c.member-s.ensures)
 
 pub overflow_mul-place : goal.overflow_mul-place
 overflow_mul-place c =
     let turn = c in
-    let wide = c.wide.ensures in
-    omega (arith, bed_most turn.requires turn.loop-j.invariant turn.loop-j-test.true c.member-s.ensures wide.0 wide.1 c.stride.ensures)
+    omega (arith, bed_most turn.requires turn.loop-j.invariant (omega arith) c.member-s.ensures refl (omega arith) c.stride.ensures)
 
 pub overflow_add-place : goal.overflow_add-place
 overflow_add-place c =
     let turn = c in
-    let wide = c.wide.ensures in
-    omega (arith, turn.loop-j.invariant.most, bed_most turn.requires turn.loop-j.invariant turn.loop-j-test.true c.member-s.ensures wide.0 wide.1 c.stride.ensures)
+    omega (arith, turn.loop-j.invariant.most, bed_most turn.requires turn.loop-j.invariant (omega arith) c.member-s.ensures refl (omega arith) c.stride.ensures)
 
 pub loop-j-preserved : goal.loop-j-preserved
 loop-j-preserved c =
     let turn = c in
-    let wide = c.wide.ensures in
-    placing_next turn.requires turn.loop-j.invariant turn.loop-j-test.true c.member-s.ensures wide.0 wide.1 c.stride.ensures
+    placing_next turn.requires turn.loop-j.invariant (omega arith) c.member-s.ensures refl (omega arith) c.stride.ensures
 
 pub returns : goal.returns
-returns c = placing_done c.requires c.loop-j-test.false c.loop-j.invariant
+returns c = placing_done c.requires (omega arith) c.loop-j.invariant

@@ -1,4 +1,3 @@
-use Prim.Native.Nat.{◌-◌}
 use native.Mathlib.Omega.{arith}
 use lib.ListN.{length-set}
 use Rattle.pricing.proofs.Placed.{begun_more, begun_done}
@@ -9,8 +8,8 @@ loop-s-preserved c =
     let inv = c.loop-s.invariant in
     let beds = c.args.beds.now in
     let e = c.place-plan.ensures.0 in
-    let more = begun_more beds _ _ (omega (arith, c.loop-s-test.true)) inv.1 (simp length-set inv.1.long) in
+    let more = begun_more beds _ _ (omega arith) inv.1 (simp length-set inv.1.long) in
     (omega (arith, c.place-plan.ensures.1, inv.0), rw e more)
 
 pub returns : goal.returns
-returns c = begun_done _ _ _ c.loop-s-test.false c.requires c.loop-s.invariant.1
+returns c = begun_done _ _ _ (omega arith) c.requires c.loop-s.invariant.1

@@ -1,4 +1,3 @@
-use Prim.Native.Nat.{◌-◌}
 use native.Mathlib.Omega.{arith}
 use Rattle.pricing.proofs.Totals.{adds_start, adds_done, adds_forbidden, adds_small, adds_next, asks_one}
 use Rattle.pricing.proofs.tables_cost.Goals as goal
@@ -6,17 +5,17 @@ use Rattle.pricing.proofs.tables_cost.Goals as goal
 pub loop-s-init : goal.loop-s-init
 loop-s-init c = adds_start
 
-pub bucket_cost-cost-requires : goal.bucket_cost-cost-requires
-bucket_cost-cost-requires c = asks_one c.requires c.loop-s-test.true
+pub bucket_cost-requires : goal.bucket_cost-requires
+bucket_cost-requires c = asks_one c.requires (omega arith)
 
-pub returns-in-Forbidden : goal.returns-in-Forbidden
-returns-in-Forbidden c = adds_forbidden c.loop-s.invariant c.loop-s-test.true c.bucket_cost-cost.ensures c.in-Forbidden.is
+pub returns-in_err-sum : goal.returns-in_err-sum
+returns-in_err-sum c = rw c.from_residual.ensures (adds_forbidden c.loop-s.invariant (omega arith) c.bucket_cost.ensures c.in_err-sum.was)
 
 pub overflow_add-sum : goal.overflow_add-sum
-overflow_add-sum c = omega (arith, adds_small c.loop-s.invariant c.loop-s-test.true c.bucket_cost-cost.ensures _ c.in-Of.is, c.loop-s.invariant.few)
+overflow_add-sum c = omega (arith, adds_small c.loop-s.invariant (omega arith) c.bucket_cost.ensures _ c.in_ok-sum.was, c.loop-s.invariant.few)
 
 pub loop-s-preserved : goal.loop-s-preserved
-loop-s-preserved c = adds_next c.loop-s.invariant c.loop-s-test.true c.bucket_cost-cost.ensures _ c.in-Of.is
+loop-s-preserved c = adds_next c.loop-s.invariant (omega arith) c.bucket_cost.ensures _ c.in_ok-sum.was
 
 pub returns : goal.returns
-returns c = adds_done c.loop-s.invariant c.loop-s-test.false
+returns c = adds_done c.loop-s.invariant (omega arith)

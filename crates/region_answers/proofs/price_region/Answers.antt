@@ -21,28 +21,28 @@ plan_of-placed-requires c =
     let made = asked in
     plan_short _ _ made.args.plan.now made.requires made.prepare-buckets.ensures.prepared asked.plan_fits.ensures (c.if-not-plan_fits.false)
 
-pub total-cost-requires : goal.total-cost-requires
-total-cost-requires c =
+pub total-requires : goal.total-requires
+total-requires c =
     let placed = c in
     let asked = placed in
     let made = asked in
     asks_all _ _ made.args.plan.now made.requires made.prepare-buckets.ensures.prepared asked.plan_fits.ensures (placed.if-not-plan_fits.false)
     placed.plan_of-placed.result.beds placed.plan_of-placed.ensures
 
-pub returns-in-Forbidden : goal.returns-in-Forbidden
-returns-in-Forbidden c =
+pub returns-in-None : goal.returns-in-None
+returns-in-None c =
     let all = c in
     let placed = all in
     let asked = placed in
     let made = asked in
     fit_priced _ _ made.args.plan.now made.requires made.prepare-buckets.ensures.prepared asked.plan_fits.ensures (placed.if-not-plan_fits.false)
-    placed.plan_of-placed.result.beds placed.plan_of-placed.ensures all.total-cost.result all.total-cost.ensures Forbidden (ap (λ cost. priced 0 (cost_in cost)) c.in-Forbidden.is)
+    placed.plan_of-placed.result.beds placed.plan_of-placed.ensures all.total.result all.total.ensures Forbidden (ap (λ cost. priced 0 (cost_in cost)) c.in-None.is)
 
-pub returns-in-Of : goal.returns-in-Of
-returns-in-Of c =
+pub returns-in-Some : goal.returns-in-Some
+returns-in-Some c =
     let all = c in
     let placed = all in
     let asked = placed in
     let made = asked in
     fit_priced _ _ made.args.plan.now made.requires made.prepare-buckets.ensures.prepared asked.plan_fits.ensures (placed.if-not-plan_fits.false)
-    placed.plan_of-placed.result.beds placed.plan_of-placed.ensures all.total-cost.result all.total-cost.ensures (Allowed c.in-Of.n) (ap (λ cost. priced 0 (cost_in cost)) c.in-Of.is)
+    placed.plan_of-placed.result.beds placed.plan_of-placed.ensures all.total.result all.total.ensures (Allowed c.in-Some.cost) (ap (λ cost. priced 0 (cost_in cost)) c.in-Some.is)

@@ -1,5 +1,4 @@
 use mathlib.Core.Path.{◌≡◌}
-use Prim.Native.Nat.{◌-◌}
 use lib.ListN.{drop}
 use Rattle.definitions.specs.Basics.{any}
 use Rattle.definitions.specs.Sheets.{same_beds}
@@ -9,6 +8,3 @@ use Rattle.sheets.proofs.has_come_before.Given as goal
 
 abbrev pub invariant-loop-i : goal.invariant-loop-i
 invariant-loop-i l = any (same_beds (row_of l.row)) (drop l.i (whole_rows l.n l.sheet)) ≡ any (same_beds (row_of l.row)) (whole_rows l.n l.sheet)
-
-abbrev pub decreases-loop-i : goal.decreases-loop-i
-decreases-loop-i l = l.n - l.i

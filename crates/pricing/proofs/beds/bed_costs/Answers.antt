@@ -1,6 +1,6 @@
 use native.Mathlib.Omega.{arith}
 use mathlib.Core.Path.{ap}
-use Prim.Native.Nat.{◌+◌, ◌-◌}
+use Prim.Native.Nat.{◌+◌}
 use lib.ListN.{get_or}
 use Rattle.pricing.proofs.BedSums.{sums_start, sums_near, sums_entries, sums_later, sums_next, sums_done}
 use Rattle.pricing.proofs.beds.bed_costs.Goals as goal

@@ -1,4 +1,3 @@
-use Prim.Native.Nat.{◌-◌}
 use lib.ListN.{length}
 use Rattle.patient_set.specs.Sets.{members}
 use Rattle.search.specs.Walks.{branch_at}
@@ -6,10 +5,7 @@ use Rattle.search.proofs.Walking.{Sofar}
 use Rattle.search.proofs.walk.+walk.Given as goal
 
 abbrev pub invariant-loop-bed : goal.invariant-loop-bed
-invariant-loop-bed l = Sofar l.entries l.patients l.terms l.v l.n l.m l.initial.list (branch_at l.head l.beds) l.s l.first l.end l.list l.places l.found l.counted l.bed
-
-abbrev pub decreases-loop-bed : goal.decreases-loop-bed
-decreases-loop-bed l = l.end - l.bed
+invariant-loop-bed l = Sofar l.entries l.buckets.patients l.buckets.terms l.v l.n l.m l.initial.list (branch_at l.head l.beds) l.s l.first l.end l.list l.places l.found l.counted l.bed
 
 -- How many patients are left.
 abbrev pub decreases-walk : goal.decreases-walk
