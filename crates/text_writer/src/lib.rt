@@ -21,21 +21,9 @@ pub fn write_text(out: &mut [u8], at: usize, text: &[u8]) -> usize
     requires { Room text.now at out.old }
     ensures { Wrote text.now at out.old out.new result }
 {
-    let mut next = at;
-    let mut k: usize = 0;
-    while k < text.len() {
-        next = write_byte(out, next, text[k]);
-        k += 1;
-    }
-    next
-}
-
-// The byte of a digit.
-fn digit(n: u64) -> u8
-    requires { n < 10 }
-    ensures { result ≡ 48 + n }
-{
-    48 + n as u8
+    let end = at + text.len();
+    out[at..end].copy_from_slice(text);
+    end
 }
 
 // A number in decimal digits: those before the last are the digits of a tenth of it.
@@ -43,11 +31,12 @@ pub fn write_number(out: &mut [u8], at: usize, n: u64) -> usize
     requires { Room (decimal n) at out.old }
     ensures { Wrote (decimal n) at out.old out.new result }
 {
-    if n < 10 {
-        return write_byte(out, at, digit(n));
-    }
-    let last = write_number(out, at, n / 10);
-    write_byte(out, last, digit(n % 10))
+    let last = if n < 10 {
+        at
+    } else {
+        write_number(out, at, n / 10)
+    };
+    write_byte(out, last, b'0' + (n % 10) as u8)
 }
 
 // The space that stands before part i in brackets; before the first there is none.
@@ -61,25 +50,15 @@ pub fn write_gap(out: &mut [u8], at: usize, i: usize) -> usize
     write_byte(out, at, b' ')
 }
 
-// Number i of those lent, of which it is then known that it fits.
-fn number_at(numbers: &[u8], i: usize) -> u64
-    requires { i < length numbers.now }
-    ensures { result ≡ get_or numbers.now i 0 }
-{
-    numbers[i] as u64
-}
-
 // Numbers in brackets, single spaces between them.
 pub fn write_numbers(out: &mut [u8], at: usize, numbers: &[u8]) -> usize
     requires { Room (bracketed (map decimal numbers.now)) at out.old }
     ensures { Wrote (bracketed (map decimal numbers.now)) at out.old out.new result }
 {
     let mut next = write_byte(out, at, b'(');
-    let mut i: usize = 0;
-    while i < numbers.len() {
+    for (i, number) in numbers.iter().enumerate() {
         next = write_gap(out, next, i);
-        next = write_number(out, next, number_at(numbers, i));
-        i += 1;
+        next = write_number(out, next, u64::from(*number));
     }
     write_byte(out, next, b')')
 }
