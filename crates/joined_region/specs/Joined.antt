@@ -1,12 +1,12 @@
 -- What is held of the joined region: the patients and the tables of both, and the entries of both in one store.
 use Rattle.std.specs.Prelude.{◌≡◌, ◌≤◌, set}
 use Rattle.std.proofs.Math.Path.{refl, sym, ap, ap₂}
-use Rattle.std.proofs.Common.{subst, ◌∙◌, arith, length-take-le, get_or-take, get_or-append-add, ◌+◌, ◌-◌, ◌<◌, ◌&&◌, ◌++◌}
+use Rattle.std.proofs.Common.{subst, ◌∙◌, arith, ◌+◌, ◌-◌, ◌<◌, ◌&&◌, ◌++◌}
 use Rattle.std.proofs.lemmas.Simd.{map-map}
-use Rattle.std.proofs.Math.ListN.{length-append, get_or-append}
+use Rattle.std.proofs.Math.ListN.{length-append}
 use Rattle.std.proofs.lemmas.List.{length-map}
 use Rattle.definitions.specs.Basics.{ℕ, zero, suc, min, Bool, true, not, Option, none, some, List, [], map, length, get_or, take, eqb, below, every}
-use Rattle.definitions.specs.Limits.{Field, patient_count, table_count, entry_count, limits, within}
+use Rattle.definitions.specs.Limits.{patient_count, table_count, entry_count, limits, within}
 use Rattle.definitions.specs.Syntax as Said
 use Rattle.definitions.specs.Syntax.{patient_at}
 use Rattle.definitions.specs.Questions.{entries_of, clinic_present}
@@ -215,20 +215,6 @@ module _ (first second : Region) where
       let place : first.t + (i - first.t) ≡ i = omega arith in
       let is = sym (second_table_lem store other (i - first.t) (omega arith)) ∙ ap (table_at (joined_region (said first store) (said second other))) place in
       filled_more t (joined_so_far store other) room (subst (SameTable t) is (same_second other (i - first.t) t moved))
-
--- ---- one more entry
-
-module _ (store other : List ℕ) (at : ℕ) (room : at ≤ length store) where
-  pub entries_first : EntriesJoined store at other at store
-  entries_first = record {
-    each = λ k l. sym (get_or-append (take at store) other 0 k (omega (arith, length-take-le at store room)) ∙ get_or-take at store k 0 l);
-  }
-
-  pub entries_more : {k : ℕ} {after : List ℕ} → EntriesJoined store at other k after → at ≤ k → k < length after
-      → EntriesJoined store at other (k + 1) (set after k (get_or other (k - at) 0))
-  entries_more {k} joined_so_far from inside =
-      let place : length (take at store) + (k - at) ≡ k = omega (arith, length-take-le at store room) in
-      filled_more _ joined_so_far inside (sym (get_or-append-add (take at store) other (k - at) 0) ∙ ap (λ n. get_or (take at store ++ other) n 0) place)
 
 -- ---- members that are moved
 

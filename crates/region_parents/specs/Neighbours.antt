@@ -2,11 +2,10 @@
 use Rattle.std.specs.Prelude.{◌≡◌, refl, ◌≤◌, set, replicate}
 use Rattle.std.proofs.Common.{sym, ap, ap₂, subst, ◌∙◌, arith, get_or-set_same, get_or-set_other, le-ltb, lt-ltb, eq-eqb, ne_eqb, ◌+◌, ◌-◌, ◌<◌, ◌^◌, ◌&&◌, ◌||◌, ◌∷◌}
 use Rattle.std.proofs.Math.Bool.{and-true, and-false, or_comm, or-false}
-use Rattle.std.proofs.lemmas.Bool.{false≢true}
 use Rattle.std.proofs.lemmas.Simd.{map-map}
 use Rattle.std.proofs.Math.Decide.{ℕ_discrete}
 use Rattle.std.proofs.lemmas.List.{get_or-replicate}
-use Rattle.definitions.specs.Basics.{ℕ, Bool, true, false, List, [], map, length, get_or, ltb, is_empty, below, any, contains}
+use Rattle.definitions.specs.Basics.{ℕ, Bool, true, false, List, [], map, length, get_or, ltb, below, any, contains}
 use Rattle.definitions.specs.Parents.{shared_tables, earlier_neighbours}
 use Rattle.lists.specs.Below.{same_keep}
 use Rattle.lists.specs.Loops.{places_from, places_all, places_next, places_done}
@@ -79,13 +78,13 @@ earlier_members {groups} {near} w s old l is =
 
 -- ---- the walk over the set, the lowest first: what the sets say, and what they still will
 
-abbrev pub Walked : List PatientSet → ℕ → ℕ → List PatientSet → Type 0
-Walked before w rest near = (s : ℕ) → s < 32 → (q : ℕ) → (set_in near s q || contains (members rest) s && in_set w q) ≡ (set_in before s q || in_set w s && in_set w q)
+abbrev pub Walked : List PatientSet → ℕ → List ℕ → List PatientSet → Type 0
+Walked before w rest near = (s : ℕ) → s < 32 → (q : ℕ) → (set_in near s q || contains rest s && in_set w q) ≡ (set_in before s q || in_set w s && in_set w q)
 
-pub walked_none : (near : List PatientSet) (w : ℕ) → w < 2 ^ 32 → Walked near w w near
-walked_none near w h s l q = ap (λ b. set_in near s q || b && in_set w q) (member w s h)
+pub walked_none : (near : List PatientSet) (w : ℕ) (rest : List ℕ) → w < 2 ^ 32 → rest ≡ members w → Walked near w rest near
+walked_none near w rest h all s l q = ap (λ b. set_in near s q || b && in_set w q) (ap (λ m. contains m s) all ∙ member w s h)
 
-pub walked_more : (before near : List PatientSet) (w low : ℕ) (rest more : ℕ) (new : PatientSet) → Walked before w rest near → members rest ≡ low ∷ members more → low < length near
+pub walked_more : (before near : List PatientSet) (w low : ℕ) (rest more : List ℕ) (new : PatientSet) → Walked before w rest near → rest ≡ low ∷ more → low < length near
     → ((q : ℕ) → in_set new.0 q ≡ (set_in near low q || in_set w q)) → Walked before w more (set near low new)
 walked_more before near w low rest more new so_far split room is s l q = go (ℕ_discrete s low)
   where
@@ -95,21 +94,17 @@ walked_more before near w low rest more new so_far split room is s l q = go (ℕ
     both_in false false true = refl
     both_in false false false = refl
 
-    go : Dec (s ≡ low) → (set_in (set near low new) s q || contains (members more) s && in_set w q) ≡ (set_in before s q || in_set w s && in_set w q)
+    go : Dec (s ≡ low) → (set_in (set near low new) s q || contains more s && in_set w q) ≡ (set_in before s q || in_set w s && in_set w q)
     go (yes e) =
-        ap (λ x. in_set x.0 q || contains (members more) s && in_set w q) (ap (λ k. get_or (set near low new) k (record { 0 = 0 })) e ∙ get_or-set_same near low new (record { 0 = 0 }) room)
-        ∙ ap (λ b. b || contains (members more) s && in_set w q) (is q) ∙ both_in (set_in near low q) (in_set w q) (contains (members more) s)
+        ap (λ x. in_set x.0 q || contains more s && in_set w q) (ap (λ k. get_or (set near low new) k (record { 0 = 0 })) e ∙ get_or-set_same near low new (record { 0 = 0 }) room)
+        ∙ ap (λ b. b || contains more s && in_set w q) (is q) ∙ both_in (set_in near low q) (in_set w q) (contains more s)
         ∙ sym (ap (λ k. set_in near k q || in_set w q) e)
-        ∙ sym (ap (λ b. set_in near s q || (b || contains (members more) s) && in_set w q) (eq-eqb s low e))
+        ∙ sym (ap (λ b. set_in near s q || (b || contains more s) && in_set w q) (eq-eqb s low e))
         ∙ sym (ap (λ m. set_in near s q || contains m s && in_set w q) split) ∙ so_far s l q
     go (no e) =
-        ap (λ x. in_set x.0 q || contains (members more) s && in_set w q) (get_or-set_other near low s new (record { 0 = 0 }) e)
-        ∙ sym (ap (λ b. set_in near s q || (b || contains (members more) s) && in_set w q) (ne_eqb s low e))
+        ap (λ x. in_set x.0 q || contains more s && in_set w q) (get_or-set_other near low s new (record { 0 = 0 }) e)
+        ∙ sym (ap (λ b. set_in near s q || (b || contains more s) && in_set w q) (ne_eqb s low e))
         ∙ sym (ap (λ m. set_in near s q || contains m s && in_set w q) split) ∙ so_far s l q
 
-pub walked_all : (before near : List PatientSet) (w rest : ℕ) → Walked before w rest near → is_empty (members rest) ≡ true → length near ≡ 32 → Gathered before w near
-walked_all before near w rest so_far done wide = record { wide = wide; are = λ s l q. sym (or-false (set_in near s q)) ∙ sym (ap (λ b. set_in near s q || b && in_set w q) (none (members rest) s done)) ∙ so_far s l q }
-  where
-    none : (l : List ℕ) (s : ℕ) → is_empty l ≡ true → contains l s ≡ false
-    none [] s e = refl
-    none (x ∷ l) s e = absurd (false≢true e)
+pub walked_all : (before near : List PatientSet) (w : ℕ) (rest : List ℕ) → Walked before w rest near → rest ≡ [] → length near ≡ 32 → Gathered before w near
+walked_all before near w rest so_far done wide = record { wide = wide; are = λ s l q. sym (or-false (set_in near s q)) ∙ sym (ap (λ l. set_in near s q || contains l s && in_set w q) done) ∙ so_far s l q }

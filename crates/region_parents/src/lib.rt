@@ -3,9 +3,9 @@
 
 ghost use Rattle.std.specs.Prelude.{◌≡◌, ℕ, length};
 ghost use Rattle.definitions.specs.Basics.{List};
-ghost use Rattle.definitions.specs.Parents.{last, parents_made, with_parent, with_parents};
+ghost use Rattle.definitions.specs.Parents.{last, parents_made, with_parents};
 ghost use Rattle.patient_set.specs.Sets.{members};
-ghost use Rattle.held_region.specs.Meaning.{optional, patient_of, said};
+ghost use Rattle.held_region.specs.Meaning.{optional, said};
 ghost use Rattle.held_region.specs.Sound.{Sound};
 ghost use Rattle.region_parents.specs.Neighbours.{Near, Gathered, tables_held};
 ghost use Rattle.region_parents.specs.Making.{PatientsMade};
@@ -13,22 +13,14 @@ ghost use Rattle.region_parents.specs.Making.{PatientsMade};
 use held_region::{NO_PATIENT, Patient, Region};
 use patient_set::PatientSet;
 use region_sets::member_set;
-use scanner::Optional;
 
 // All of a set become neighbours of each other.
-fn gather(before: [PatientSet; 32], group: PatientSet) -> [PatientSet; 32]
-    requires { length before ≡ 32 }
-    ensures { Gathered before group.0 result }
+fn gather(near: &mut [PatientSet; 32], group: PatientSet)
+    ensures { Gathered near.old group.0 near.new }
 {
-    let mut near = before;
-    let mut rest = group;
-    while 0 < rest.size() {
-        let s = rest.lowest() as usize;
-        let others = near[s];
-        near[s] = others.join(group);
-        rest = rest.minus(PatientSet::one(s));
+    for s in group.iter() {
+        near[s] = near[s].join(group);
     }
-    near
 }
 
 // The neighbours of each patient: who shares a table with it.
@@ -36,40 +28,21 @@ fn sharing(region: Region) -> [PatientSet; 32]
     requires { Sound region }
     ensures { Near (tables_held region) result }
 {
-    let nobody = PatientSet::EMPTY;
-    let mut near = [nobody; 32];
-    let mut i = region.t;
-    while 0 < i {
-        i -= 1;
-        let table = region.tables[i];
-        let group = member_set(table);
-        let more = gather(near, group);
-        near = more;
+    let mut near = [PatientSet::EMPTY; 32];
+    for i in (0..region.t).rev() {
+        gather(&mut near, member_set(region.tables[i]));
     }
     near
 }
 
 // The highest-numbered of a patient's earlier neighbours.
-fn parent_among(earlier: PatientSet) -> Optional
+fn parent_among(earlier: PatientSet) -> Option<u32>
     ensures { optional result ≡ last (members earlier.0) }
 {
     if earlier.is_empty() {
-        return Optional::Hyphen;
+        return None;
     }
-    Optional::Number(earlier.highest())
-}
-
-// The same patient with another parent.
-fn with_parent(patient: Patient, parent: Optional) -> Patient
-    ensures { patient_of result ≡ with_parent (patient_of patient) (optional parent) }
-{
-    let fixed = patient.fixed;
-    Patient {
-        clinic: patient.clinic,
-        beds: patient.beds,
-        parent: parent,
-        fixed: fixed,
-    }
+    Some(earlier.highest())
 }
 
 // From the last patient to the first: its parent is made, then its earlier neighbours become neighbours of each other.
@@ -79,16 +52,14 @@ fn make_patients(region: Region, shared: [PatientSet; 32]) -> [Patient; 32]
 {
     let mut patients = [NO_PATIENT; 32];
     let mut near = shared;
-    let mut s = region.v;
-    while 0 < s {
-        s -= 1;
+    for s in (0..region.v).rev() {
         let all = near[s];
         let earlier = all.meet(PatientSet::below(s));
-        let parent = parent_among(earlier);
-        let patient = region.patients[s];
-        patients[s] = with_parent(patient, parent);
-        let more = gather(near, earlier);
-        near = more;
+        patients[s] = Patient {
+            parent: parent_among(earlier),
+            ..region.patients[s]
+        };
+        gather(&mut near, earlier);
     }
     patients
 }
@@ -98,14 +69,8 @@ pub fn make_parents(region: Region) -> Region
     requires { Sound region }
     ensures { (store : List ℕ) → said result store ≡ with_parents (said region store) (parents_made (said region store)) }
 {
-    let shared = sharing(region);
-    let patients = make_patients(region, shared);
-    let tables = region.tables;
     Region {
-        v: region.v,
-        t: region.t,
-        m: region.m,
-        patients: patients,
-        tables: tables,
+        patients: make_patients(region, sharing(region)),
+        ..region
     }
 }

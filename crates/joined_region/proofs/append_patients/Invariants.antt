@@ -1,5 +1,5 @@
 use mathlib.Core.Path.{◌≡◌}
-use Prim.Native.Nat.{◌+◌, ◌-◌, ◌≤◌}
+use Prim.Native.Nat.{◌+◌, ◌≤◌}
 use lib.ListN.{length}
 use Rattle.joined_region.specs.Joined.{PatientsJoined}
 use Rattle.joined_region.proofs.append_patients.Given as goal
@@ -7,11 +7,5 @@ use Rattle.joined_region.proofs.append_patients.Given as goal
 abbrev pub invariant-loop-s : goal.invariant-loop-s
 invariant-loop-s l = (length l.patients ≡ 32) × (l.s ≤ l.first.v) × PatientsJoined l.first l.second l.s l.patients
 
-abbrev pub decreases-loop-s : goal.decreases-loop-s
-decreases-loop-s l = l.first.v - l.s
-
 abbrev pub invariant-loop-s-2 : goal.invariant-loop-s-2
 invariant-loop-s-2 l = (length l.patients ≡ 32) × (l.first.v ≤ l.s) × (l.s ≤ l.first.v + l.second.v) × PatientsJoined l.first l.second l.s l.patients
-
-abbrev pub decreases-loop-s-2 : goal.decreases-loop-s-2
-decreases-loop-s-2 l = l.first.v + l.second.v - l.s

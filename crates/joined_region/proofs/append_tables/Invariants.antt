@@ -1,5 +1,5 @@
 use mathlib.Core.Path.{◌≡◌}
-use Prim.Native.Nat.{◌+◌, ◌-◌, ◌≤◌}
+use Prim.Native.Nat.{◌+◌, ◌≤◌}
 use lib.ListN.{length}
 use Rattle.joined_region.specs.Joined.{TablesJoined}
 use Rattle.joined_region.proofs.append_tables.Given as goal
@@ -7,11 +7,5 @@ use Rattle.joined_region.proofs.append_tables.Given as goal
 abbrev pub invariant-loop-i : goal.invariant-loop-i
 invariant-loop-i l = (length l.tables ≡ 64) × (l.i ≤ l.first.t) × TablesJoined l.first l.second l.i l.tables
 
-abbrev pub decreases-loop-i : goal.decreases-loop-i
-decreases-loop-i l = l.first.t - l.i
-
 abbrev pub invariant-loop-i-2 : goal.invariant-loop-i-2
 invariant-loop-i-2 l = (length l.tables ≡ 64) × (l.first.t ≤ l.i) × (l.i ≤ l.first.t + l.second.t) × TablesJoined l.first l.second l.i l.tables
-
-abbrev pub decreases-loop-i-2 : goal.decreases-loop-i-2
-decreases-loop-i-2 l = l.first.t + l.second.t - l.i

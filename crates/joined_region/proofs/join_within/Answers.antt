@@ -13,12 +13,9 @@ returns-then-not-within c =
 
 pub returns-then-not-within-2 : goal.returns-then-not-within-2
 returns-then-not-within-2 c =
-    let patients = c in
-    λ store other. sym (within_asked _ _ store other (answered_yes patients.within.ensures (ap not patients.if-not-within.false)) (answered_no c.within-2.ensures (ap not c.if-not-within-2.true)) refl)
+    λ store other. sym (within_asked _ _ store other (answered_yes c.within.ensures (ap not c.if-not-within.false)) (answered_no c.within-2.ensures (ap not c.if-not-within-2.true)) refl)
 
 pub returns : goal.returns
 returns c =
-    let tables = c in
-    let patients = tables in
     let entries = c.within-3.ensures ∙ ap₂ (λ a b. within entry_count (a + b)) c.entry_total.ensures c.entry_total-2.ensures in
-    λ store other. sym (within_asked _ _ store other (answered_yes patients.within.ensures (ap not patients.if-not-within.false)) (answered_yes tables.within-2.ensures (ap not tables.if-not-within-2.false)) (sym entries))
+    λ store other. sym (within_asked _ _ store other (answered_yes c.within.ensures (ap not c.if-not-within.false)) (answered_yes c.within-2.ensures (ap not c.if-not-within-2.false)) (sym entries))

@@ -1,24 +1,11 @@
-use mathlib.Core.Path.{ap}
-use native.Mathlib.Omega.{arith}
-use borrow.Author.Tests.{eq-eqb, ne_eqb}
-use Prim.Native.Nat.{◌-◌}
-use Rattle.definitions.specs.Basics.{not}
-use Rattle.lists.specs.Loops.{ask_all, ask_yes, ask_no, ask_done}
-use Rattle.joined_region.specs.Joined.{lacks_asked}
+use Rattle.std.proofs.Common.{rules, tests, refl, arith, ◌∙◌, sym}
+use Rattle.std.proofs.lemmas.Iterator.{YieldsList-from_range}
+use Rattle.std.proofs.lemmas.Iterator.Search.{all_from_yields_List}
+use Rattle.joined_region.specs.Joined.{other_clinic, lacks_asked}
+use Rattle.entry_questions.specs.Passing.{all_below}
 use Rattle.joined_region.proofs.lacks_clinic.Goals as goal
 
-pub loop-s-init : goal.loop-s-init
-loop-s-init c = λ store. ask_all _ _ (lacks_asked _ store _)
-
-pub returns-then-patient-clinic : goal.returns-then-patient-clinic
-returns-then-patient-clinic c =
-    let turn = c in
-    λ store. ask_no _ _ _ c.loop-s-test.true (ap not (eq-eqb _ _ c.if-patient-clinic.true)) (turn.loop-s.invariant store)
-
-pub loop-s-preserved : goal.loop-s-preserved
-loop-s-preserved c =
-    let turn = c in
-    λ store. ask_yes _ _ _ c.loop-s-test.true (ap not (ne_eqb _ _ c.if-patient-clinic.false)) (turn.loop-s.invariant store)
-
 pub returns : goal.returns
-returns c = λ store. ask_done _ _ _ (omega arith) (c.loop-s.invariant store)
+returns c =
+    λ store. all_from_yields_List (other_clinic c.args.region c.args.clinic) _ _ _ c.all.ensures.ran (YieldsList-from_range 0 c.args.region.v c.args.region.v refl (omega arith)) (λ x b q k. search (rules, tests))
+    ∙ all_below (other_clinic c.args.region c.args.clinic) c.args.region.v ∙ sym (lacks_asked _ store _)

@@ -1,6 +1,6 @@
-use mathlib.Core.Path.{ap}
+use Rattle.std.proofs.Common.{rules, ap}
 use Rattle.held_region.specs.Meaning.{optional}
 use Rattle.joined_region.proofs.patient_after.Goals as goal
 
-pub returns : goal.returns
-returns c = ap (λ o. record { clinic = c.args.patient.clinic; bed_count = c.args.patient.beds; parent = o; fixed_bed = optional c.args.patient.fixed }) c.parent_after-parent.ensures
+pub map-requires : goal.map-requires
+map-requires c = λ q e. let small = c.requires q (ap optional e) in search rules

@@ -1,6 +1,5 @@
 use borrow.Author.Rules.{rules}
 use mathlib.Core.Path.{refl}
-use Prim.Native.Nat.{◌-◌}
 use native.Mathlib.Omega.{arith}
 use Rattle.lists.specs.Filling.{filled_none, filled_more, filled_all}
 use Rattle.joined_region.specs.Joined.{table_moved}
@@ -11,13 +10,11 @@ loop-j-init c = (search rules, omega arith, filled_none)
 
 pub overflow_add-first : goal.overflow_add-first
 overflow_add-first c =
-    let start = c in
-    omega (arith, start.requires.small c.loop-j.j c.loop-j-test.true)
+    omega (arith, c.requires.small c.loop-j.j c.loop-j-test.true)
 
 pub loop-j-preserved : goal.loop-j-preserved
 loop-j-preserved c =
-    let turn = c in
-    (search rules, omega arith, filled_more _ turn.loop-j.invariant.2 (omega arith) refl)
+    (search rules, omega arith, filled_more _ c.loop-j.invariant.2 (omega arith) refl)
 
 pub returns : goal.returns
 returns c =

@@ -1,54 +1,31 @@
-use borrow.Author.Rules.{rules}
-use native.Mathlib.Omega.{arith}
+use Rattle.std.proofs.Common.{rules, arith, ap, ◌∙◌}
 use lib.ListN.{length-set}
-use Rattle.patient_set.specs.Laws.{size_some, size_none, lowest_patient, lowest_and_rest, rest_smaller}
+use Rattle.patient_set.specs.Sets.{left_in}
+use Rattle.patient_set.specs.Laws.{coming_patient}
 use Rattle.region_parents.specs.Neighbours.{walked_none, walked_more, walked_all}
 use Rattle.region_parents.proofs.gather.Goals as goal
 
-pub loop-group-init : goal.loop-group-init
-loop-group-init c = (c.requires, walked_none c.args.before c.args.group.0 (search rules))
+pub loop-s-init : goal.loop-s-init
+loop-s-init c = (c.told-near, walked_none c.args.near.now c.args.group.0 _ (search rules) (ap left_in c.into_iter-s-iterator.ensures.into_iter_gives ∙ c.iter-s-items.ensures))
 
 pub offset_bounds-near-s : goal.offset_bounds-near-s
-offset_bounds-near-s c =
-    let low = c in
-    omega (arith, low.lowest-s.ensures, low.loop-group.invariant.0, lowest_patient _ (size_some _ low.size.ensures low.loop-group-test.true))
+offset_bounds-near-s c = omega (arith, coming_patient _ _ _ c.in-Some.ensures.steps)
 
 pub bounds-near-s : goal.bounds-near-s
-bounds-near-s c =
-    let low = c in
-    omega (arith, low.lowest-s.ensures, low.loop-group.invariant.0, lowest_patient _ (size_some _ low.size.ensures low.loop-group-test.true))
+bounds-near-s c = coming_patient _ _ _ c.in-Some.ensures.steps
 
-pub offset_bounds-near-s-in-loop-group : goal.offset_bounds-near-s-in-loop-group
-offset_bounds-near-s-in-loop-group c =
-    let low = c in
-    omega (arith, low.lowest-s.ensures, low.loop-group.invariant.0, lowest_patient _ (size_some _ low.size.ensures low.loop-group-test.true))
+pub offset_bounds-near-s-in-loop-s : goal.offset_bounds-near-s-in-loop-s
+offset_bounds-near-s-in-loop-s c = omega (arith, coming_patient _ _ _ c.in-Some.ensures.steps)
 
-pub bounds-near-s-in-loop-group : goal.bounds-near-s-in-loop-group
-bounds-near-s-in-loop-group c =
-    let low = c in
-    omega (arith, low.lowest-s.ensures, low.loop-group.invariant.0, lowest_patient _ (size_some _ low.size.ensures low.loop-group-test.true))
+pub bounds-near-s-in-loop-s : goal.bounds-near-s-in-loop-s
+bounds-near-s-in-loop-s c = coming_patient _ _ _ c.in-Some.ensures.steps
 
-pub one-requires : goal.one-requires
-one-requires c =
-    let low = c in
-    omega (arith, low.lowest-s.ensures, low.loop-group.invariant.0, lowest_patient _ (size_some _ low.size.ensures low.loop-group-test.true))
-
-pub loop-group-smaller : goal.loop-group-smaller
-loop-group-smaller c =
-    let low = c in
-    rest_smaller _ _ _ _ (size_some _ low.size.ensures low.loop-group-test.true) low.lowest-s.ensures c.one.ensures c.minus-rest.ensures
-
-pub loop-group-preserved : goal.loop-group-preserved
-loop-group-preserved c =
-    let low = c in
-    let turn = low in
-    let some = size_some _ low.size.ensures low.loop-group-test.true in (
-      simp length-set turn.loop-group.invariant.0,
-      walked_more turn.args.before turn.loop-group.near _ low.lowest-s.result _ _ _ turn.loop-group.invariant.1 (lowest_and_rest _ _ _ _ some low.lowest-s.ensures c.one.ensures c.minus-rest.ensures)
-          (omega (arith, low.lowest-s.ensures, turn.loop-group.invariant.0, lowest_patient _ some)) c.join.ensures,
+pub loop-s-preserved : goal.loop-s-preserved
+loop-s-preserved c =
+    let next = c.in-Some.ensures.steps in (
+      simp length-set c.loop-s.invariant.0,
+      walked_more c.args.near.now c.loop-s.near _ c.in-Some.s _ _ _ c.loop-s.invariant.1 next (omega (arith, c.loop-s.invariant.0, coming_patient _ _ _ next)) c.join.ensures,
     )
 
 pub returns : goal.returns
-returns c =
-    let turn = c in
-    walked_all _ _ _ _ turn.loop-group.invariant.1 (size_none _ c.size.ensures c.loop-group-test.false) turn.loop-group.invariant.0
+returns c = walked_all _ _ _ _ c.loop-s.invariant.1 c.in-None.ensures.steps.0 c.loop-s.invariant.0

@@ -1,5 +1,5 @@
 use borrow.Author.Rules.{rules}
-use mathlib.Core.Path.{ap, ◌∙◌}
+use mathlib.Core.Path.{refl, ap, ◌∙◌}
 use Prim.Native.Nat.{◌-◌}
 use native.Mathlib.Omega.{arith}
 use Rattle.std.specs.Prelude.{◌&&◌}
@@ -17,38 +17,30 @@ pub bounds-near-s : goal.bounds-near-s
 bounds-near-s c = omega (arith, c.loop-s.invariant.0, c.requires.0.places.patients, c.loop-s.invariant.1.near.wide)
 
 pub below-requires : goal.below-requires
-below-requires c = let turn = c in omega (arith, turn.loop-s.invariant.0, turn.requires.0.places.patients)
+below-requires c = let turn = c in omega (arith, c.loop-s.invariant.0, c.requires.0.places.patients)
 
 pub offset_bounds-region-s : goal.offset_bounds-region-s
-offset_bounds-region-s c = let turn = c in omega (arith, turn.loop-s.invariant.0, turn.requires.0.places.patients)
+offset_bounds-region-s c = let turn = c in omega (arith, c.loop-s.invariant.0, c.requires.0.places.patients)
 
 pub bounds-region-s : goal.bounds-region-s
-bounds-region-s c = let turn = c in omega (arith, turn.loop-s.invariant.0, turn.requires.0.places.patients)
+bounds-region-s c = let turn = c in omega (arith, c.loop-s.invariant.0, c.requires.0.places.patients)
 
 pub offset_bounds-patients-s : goal.offset_bounds-patients-s
-offset_bounds-patients-s c = let turn = c in omega (arith, turn.loop-s.invariant.0, turn.requires.0.places.patients)
+offset_bounds-patients-s c = let turn = c in omega (arith, c.loop-s.invariant.0, c.requires.0.places.patients)
 
 pub bounds-patients-s : goal.bounds-patients-s
 bounds-patients-s c =
-    let turn = c in
-    omega (arith, turn.loop-s.invariant.0, turn.requires.0.places.patients, turn.loop-s.invariant.1.wide)
-
-pub gather-more-requires : goal.gather-more-requires
-gather-more-requires c = c.loop-s.invariant.1.near.wide
+    omega (arith, c.loop-s.invariant.0, c.requires.0.places.patients, c.loop-s.invariant.1.wide)
 
 pub loop-s-smaller : goal.loop-s-smaller
 loop-s-smaller c = omega (arith, c.loop-s-test.true)
 
 pub loop-s-preserved : goal.loop-s-preserved
-loop-s-preserved c =
-    let among = c in
-    let met = among in
-    let test = met in
-    let turn = test in (
-      omega (arith, turn.loop-s.invariant.0),
-      underway_next turn.loop-s.s turn.loop-s.invariant.1 test.loop-s-test.true (omega (arith, turn.loop-s.invariant.0, turn.requires.0.places.patients)) met.meet-earlier.result.0 (search rules)
-          (λ q. met.meet-earlier.ensures q ∙ ap (λ b. set_in turn.loop-s.near (turn.loop-s.s - 1) q && b) (met.below.ensures q)) _ _ c.with_parent.ensures among.parent_among-parent.ensures c.gather-more.ensures,
-    )
+loop-s-preserved c = (
+  omega (arith, c.loop-s.invariant.0),
+  underway_next c.loop-s.s c.loop-s.invariant.1 c.loop-s-test.true (omega (arith, c.loop-s.invariant.0, c.requires.0.places.patients)) c.meet-earlier.result.0 (search rules)
+      (λ q. c.meet-earlier.ensures q ∙ ap (λ b. set_in c.loop-s.near (c.loop-s.s - 1) q && b) (c.below.ensures q)) _ _ refl c.parent_among.ensures c.gather.ensures,
+)
 
 pub returns : goal.returns
 returns c = underway_all c.loop-s.invariant.1 c.loop-s-test.false
