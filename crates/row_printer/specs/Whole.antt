@@ -2,9 +2,9 @@
 use Rattle.std.specs.Prelude.{◌≡◌, refl, ◌≤◌}
 use Rattle.std.proofs.Common.{inl, inr, le_trans, mul-le-mul_right, arith, leb-true, length-append, ◌<◌, ◌∷◌}
 use Rattle.std.proofs.lemmas.List.{length-map}
-use Rattle.definitions.specs.Basics.{ℕ, zero, suc, true, List, [], map, flat_map, length, get_or}
+use Rattle.definitions.specs.Basics.{ℕ, zero, suc, List, [], map, flat_map, length, get_or}
 use Rattle.definitions.specs.Basics.{leb, sum, text, below}
-use Rattle.definitions.specs.Limits.{clinic, bed_count, limits}
+use Rattle.definitions.specs.Limits.{limits}
 use Rattle.definitions.specs.Syntax.{Patient, Region, patient_numbers, patient_at, patients_of}
 use Rattle.definitions.specs.Spelling.{decimal}
 use Rattle.definitions.specs.Plans.{Plan, Row, bed_of, list_of}

@@ -35,10 +35,8 @@ fn print_rows(out: &mut [u8], at: usize, list: &[u32], v: usize, n: usize) -> us
 {
     let end = write_number(out, at, n as u64);
     let mut next = write_text(out, end, b")\n");
-    let mut i: usize = 0;
-    while i < n {
+    for i in 0..n {
         next = print_row(out, next, row_at(list, i), v);
-        i += 1;
     }
     next
 }

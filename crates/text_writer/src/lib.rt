@@ -31,7 +31,8 @@ pub fn write_number(out: &mut [u8], at: usize, n: u64) -> usize
     requires { Room (decimal n) at out.old }
     ensures { Wrote (decimal n) at out.old out.new result }
 {
-    let last = if n < 10 {
+    let one_digit = n < 10;
+    let last = if one_digit {
         at
     } else {
         write_number(out, at, n / 10)
