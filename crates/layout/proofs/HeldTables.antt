@@ -1,12 +1,13 @@
 -- The tables that are held, one line after the other.
 use mathlib.Core.Path.{◌≡◌, refl, sym, ap, ◌∙◌}
-use mathlib.Core.Bool.{true, false, false≢true}
+use mathlib.Core.Bool.{true, false≢true}
 use native.Mathlib.Omega.{arith}
 use native.Mathlib.Decide.{ℕ_discrete}
 use Prim.Native.Char.{code}
 use Prim.Native.Nat.{◌≤◌}
 use lib.ListN.{set, drop, length-append, length-map, length-set, length-take}
 use Rattle.std.specs.Prelude.{◌+◌, ◌-◌, ◌<◌, ◌∷◌, ◌++◌}
+use Rattle.std.specs.Prelude as Code
 use Rattle.definitions.specs.Basics.{ℕ, none, some, List, is_some, bind, [], map, flat_map, length, take, replicate, text}
 use Rattle.definitions.specs.Syntax as Said
 use Rattle.definitions.specs.Layout.{whole, word, exactly, lines, many, table_line, end_line}
@@ -15,13 +16,12 @@ use Rattle.held_region.specs.declared.Table.{Table}
 use Rattle.held_region.specs.Meaning.{code_of, no_table}
 use Rattle.scanner.specs.Words.{exactly_short, exactly_same, exactly_other}
 use Rattle.line_reader.specs.Answers.{LineEnd}
-use Rattle.table_reader.specs.declared.TableLine.{TableLine}
 use Rattle.held_region.specs.FirstHeld.{held_none, held_more}
 use Rattle.table_reader.specs.Stores.{stored_none}
 use Rattle.held_region.specs.HeldFrom.{no_table_said, HoldsTable}
 use Rattle.table_reader.specs.TableReading.{Holding, Adds, TableThere, TableRead}
 use Rattle.table_reader.proofs.HeldTables.{one_more_lem, adds_none, adds_then}
-use Rattle.layout.specs.Taken.{taken_none, taken_more, taken_other, taken_all}
+use Rattle.layout.specs.Taken.{taken_none, taken_more, taken_other}
 use Rattle.layout.specs.TableLines.{stored_entries, TablesSoFar, TableLines}
 
 -- A list does not begin with two words that differ behind what they have in common.
@@ -81,7 +81,7 @@ module _ {s : List ℕ} {at : ℕ} {before : List ℕ} {first : List Table} {cou
         stored : stored_entries (p.said ++ t.said ∷ []) ≡ stored_entries p.said ++ more
         stored = flat_map_snoc (λ t. map code_of t.entries) p.said t.said
 
-  -- The lines end where one is no table line, or where the file ends.
+  -- The lines end where one is no table line.
   all_said : {after : List ℕ} → many (whole table_line) (lines (drop at s)) ≡ some (p.said, lines (drop i s))
       → ((l : List ℕ) (ls : List (List ℕ)) → lines (drop i s) ≡ l ∷ ls → is_some (whole end_line l) ≡ true → after ≡ store)
       → TableLines s at (record { first = first; count = count; next = i }) before after
@@ -95,11 +95,8 @@ module _ {s : List ℕ} {at : ℕ} {before : List ℕ} {first : List Table} {cou
     stored = λ wide l ls q ends. rw (kept l ls q ends) (store_said p.said p.added wide);
   }
 
-  pub tables_other : {end : ℕ} {after : List ℕ} {r : TableLine} → LineEnd s i end → i < length s → TableRead (take (end - i) (drop i s)) used store after r → r.found ≡ false
+  pub tables_other : {end : ℕ} {after : List ℕ} {r : Code.Option Table} → LineEnd s i end → i < length s → TableRead (take (end - i) (drop i s)) used store after r → r ≡ Code.None
       → TableLines s at (record { first = first; count = count; next = i }) before after
   tables_other {end} e inside t n =
       all_said (taken_other p.taken e inside (t.answer.missing n))
       (λ l ls q ends. let same : take (end - i) (drop i s) ≡ l = cc (e.splits inside) in t.kept (rw same (end_no_cost l ends)))
-
-  pub tables_all : length s ≤ i → TableLines s at (record { first = first; count = count; next = i }) before store
-  tables_all over = all_said (taken_all p.taken over) (λ _ _ _ _. refl)

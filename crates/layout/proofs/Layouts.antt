@@ -7,7 +7,7 @@ use native.Mathlib.Decide.{dec_lt}
 use Prim.Native.Nat.{◌≤◌}
 use lib.ListN.{take, drop, drop_of_length-le, length-drop}
 use Rattle.std.specs.Prelude.{◌-◌, ◌<◌, ◌∷◌, ◌++◌}
-use Rattle.definitions.specs.Basics.{ℕ, zero, suc, true, Option, none, some, bind, List, [], length, is_some}
+use Rattle.definitions.specs.Basics.{ℕ, zero, suc, Option, none, some, bind, List, [], length, is_some}
 use Rattle.definitions.specs.Layout.{whole, lines, region_line, patient_line, table_line, end_line, layout}
 use Rattle.line_reader.specs.Answers.{LineEnd}
 use Rattle.line_reader.specs.Lines.{lines_split}
@@ -73,7 +73,7 @@ module _ {s : List ℕ} {e : ℕ} (first : LineEnd s 0 e) where
       layout_more h = more_lines s split said p.read q.read end_split stated _ _ (lines_split (drop last s) (omega (arith, length-drop last s)))
 
       pub layout_there : length s ≤ last
-          → LaidThere s (record { found = true; v = v; t = t; m = m; patients = ps; tables = ts; sum = n; end = ts.next }) before after
+          → LaidThere s (record { v = v; t = t; m = m; patients = ps; tables = ts; sum = n; end = ts.next }) before after
       layout_there h = record {
         tree = tree_of (v, t, m) p.said q.said n;
         says = laid_out_lem s split said p.read q.read end_split stated none_left;

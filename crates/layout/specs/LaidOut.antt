@@ -3,6 +3,7 @@ use Rattle.std.specs.Prelude.{◌≡◌, refl, take, drop, ◌≤◌}
 use Rattle.std.proofs.Common.{sym, ap, ◌∙◌, take-append-drop, ◌∷◌, ◌++◌}
 use Rattle.std.proofs.lemmas.List.{append_cancel_right}
 use Rattle.std.proofs.Math.Option.{none-ne-some, some-injective}
+use Rattle.std.specs.Prelude as Code
 use Rattle.definitions.specs.Basics.{ℕ, Option, none, some, bind, List, [], length, flatten, drop_last}
 use Rattle.definitions.specs.Syntax as Said
 use Rattle.definitions.specs.Layout.{many, whole, lines, region_line, patient_line, table_line, end_line, region_lines, layout}
@@ -29,8 +30,8 @@ pub record LaidThere (s : List ℕ) (r : Laid) (before after : List ℕ) : Type 
   pub body : flatten (drop_last (lines s)) ≡ take r.end s
   pub within : r.end ≤ length s
 
-abbrev pub LaidOut : List ℕ → Laid → List ℕ → List ℕ → Type 0
-LaidOut s r before after = Found r.found (LaidThere s r before after) (layout s ≡ none)
+abbrev pub LaidOut : List ℕ → Code.Option Laid → List ℕ → List ℕ → Type 0
+LaidOut s r before after = Found r (λ laid. LaidThere s laid before after) (layout s ≡ none)
 
 -- The tree of what the lines say.
 abbrev pub tree_of : ℕ × ℕ × ℕ → List Said.Patient → List Said.Table → ℕ → Said.Region

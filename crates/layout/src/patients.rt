@@ -2,7 +2,7 @@
 ghost use Rattle.layout.specs.Reading.{PatientLines};
 
 use held_region::{NO_PATIENT, Patient};
-use line_reader::{PatientLine, line_end, patient_line};
+use line_reader::{line_end, patient_line};
 
 // The first 32 patients of the lines from a place on, how many there are, and the place after them.
 #[derive(Clone, Copy)]
@@ -12,46 +12,27 @@ pub struct Patients {
     pub next: usize,
 }
 
-pub const NO_PATIENTS: Patients = Patients {
-    first: [NO_PATIENT; 32],
-    count: 0,
-    next: 0,
-};
-
 // A line that is no patient line ends them.
 pub fn read_patients(file: &[u8], at: usize) -> Patients
     ensures { PatientLines file.now at result }
 {
     let mut first = [NO_PATIENT; 32];
-    let mut count: usize = 0;
+    let mut count = 0;
     let mut i = at;
     while i < file.len() {
         let end = line_end(file, i);
-        match patient_line(&file[i..end]) {
-            PatientLine::Is(clinic, beds, parent, fixed) => {
-                if count < 32 {
-                    first[count] = Patient {
-                        clinic: clinic,
-                        beds: beds,
-                        parent: parent,
-                        fixed: fixed,
-                    };
-                }
-                count += 1;
-                i = end;
-            }
-            PatientLine::Other => {
-                return Patients {
-                    first: first,
-                    count: count,
-                    next: i,
-                };
-            }
+        let Some(patient) = patient_line(&file[i..end]) else {
+            break;
+        };
+        if count < 32 {
+            first[count] = patient;
         }
+        count += 1;
+        i = end;
     }
     Patients {
-        first: first,
-        count: count,
+        first,
+        count,
         next: i,
     }
 }

@@ -13,31 +13,19 @@ pub struct Tables {
     pub next: usize,
 }
 
-pub const NO_TABLES: Tables = Tables {
-    first: [NO_TABLE; 64],
-    count: 0,
-    next: 0,
-};
-
 // A line that is no table line ends them. Each entry takes a byte of the file, so `used` cannot overflow.
 pub fn read_tables(file: &[u8], at: usize, store: &mut [u32; 4096]) -> Tables
     ensures { TableLines file.now at result store.old store.new }
 {
     let mut first = [NO_TABLE; 64];
-    let mut count: usize = 0;
-    let mut used: usize = 0;
+    let mut count = 0;
+    let mut used = 0;
     let mut i = at;
     while i < file.len() {
         let end = line_end(file, i);
-        let line = table_line(&file[i..end], store, used);
-        if !line.found {
-            return Tables {
-                first: first,
-                count: count,
-                next: i,
-            };
-        }
-        let table = line.table;
+        let Some(table) = table_line(&file[i..end], store, used) else {
+            break;
+        };
         if count < 64 {
             first[count] = table;
         }
@@ -46,8 +34,8 @@ pub fn read_tables(file: &[u8], at: usize, store: &mut [u32; 4096]) -> Tables
         i = end;
     }
     Tables {
-        first: first,
-        count: count,
+        first,
+        count,
         next: i,
     }
 }
