@@ -10,8 +10,8 @@ ghost use Rattle.file_answers.specs.Answers.{written_outcome};
 ghost use Rattle.text_writer.specs.Wrote.{Room, Wrote};
 ghost use Rattle.writer.specs.Outcomes.{placed_outcome, placing};
 
-use file_answers::Written;
-use held_region::{Judged, Region};
+use file_answers::WriteError;
+use held_region::Region;
 use line_reader::checksum_of;
 use questions::judge;
 use region_lines::forms::write_form;
@@ -31,44 +31,36 @@ fn write_file(text: &mut [u8], region: Region, store: &[u32; 4096]) -> usize
     write_form(text, end, b"end", &[sum])
 }
 
-// The file stands in the output area, or that is too short for it.
-#[derive(Clone, Copy)]
-pub enum Placed {
-    Short,
-    Bytes(usize),
-}
-
-// The file of an accepted region, whole or not at all. It is made in an area of its own, so that its length is known before the output area is touched.
-pub fn place_file(region: Region, store: &[u32; 4096], output: &mut [u8]) -> Placed
+// The file of an accepted region, whole or not at all: its byte count, none where the output area is too short for it. It is made in an area of its own, so that its length is known before the output area is touched.
+pub fn place_file(region: Region, store: &[u32; 4096], output: &mut [u8]) -> Option<usize>
     requires { Accepted (said region store.now) }
     ensures { placed_outcome result output.new ≡ placing (spell (said region store.now)) output.old }
 {
     let mut text = [0u8; FILE_ROOM];
     let n = write_file(&mut text, region, store);
     if output.len() < n {
-        return Placed::Short;
+        return None;
     }
     write_text(output, 0, &text[..n]);
-    Placed::Bytes(n)
+    Some(n)
 }
 
 // The same as write answers it.
-pub fn write_accepted(region: Region, store: &[u32; 4096], output: &mut [u8]) -> Written
+pub fn write_accepted(
+    region: Region,
+    store: &[u32; 4096],
+    output: &mut [u8],
+) -> Result<usize, WriteError>
     requires { Accepted (said region store.now) }
     ensures { written_outcome result output.new ≡ placing (spell (said region store.now)) output.old }
 {
-    match place_file(region, store, output) {
-        Placed::Short => Written::Short,
-        Placed::Bytes(n) => Written::Bytes(n),
-    }
+    place_file(region, store, output).ok_or(WriteError::Short)
 }
 
 // Questions 5 to 10 of a held region, whatever it says, then 15, then the file.
-pub fn write(region: Region, store: &[u32; 4096], output: &mut [u8]) -> Written
+pub fn write(region: Region, store: &[u32; 4096], output: &mut [u8]) -> Result<usize, WriteError>
     ensures { written_outcome result output.new ≡ write_outcome (said region store.now) output.old }
 {
-    match judge(region, store, true) {
-        Judged::Refused(refusal) => Written::Refused(refusal),
-        Judged::Fine => write_accepted(region, store, output),
-    }
+    judge(region, store, true)?;
+    write_accepted(region, store, output)
 }
