@@ -1,13 +1,18 @@
--- Loops over places that write one line, or one code, after the other.
-use native.Mathlib.Omega.{arith}
+-- Loops over places that write one line after the other, and parts of the store.
+use Rattle.std.proofs.Common.{arith, sym, length-drop, drop, take, length, ◌≡◌, ◌-◌}
+use Rattle.std.proofs.lemmas.List.{get_or-drop}
 use Prim.Native.Nat.{◌≤◌}
 use Rattle.std.specs.Prelude.{◌+◌, ◌<◌, ◌∷◌}
-use Rattle.definitions.specs.Basics.{ℕ, List, [], map, get_or, below}
-use Rattle.lists.specs.Below.{length_by_places, at_place}
+use Rattle.definitions.specs.Basics.{ℕ, List, [], map, get_or, below, flatten, text}
+use Rattle.definitions.specs.Spelling.{spell_table}
+use Rattle.lists.specs.Below.{length_by_places, at_place, below_take}
 use Rattle.text_writer.specs.Wrote.{Wrote, Left}
-use Rattle.text_writer.specs.Parts.{gap, from_zero, apart_from, part_left, parts_done, lines_from, line_left, lines_done}
+use Rattle.text_writer.specs.Parts.{lines_from, line_left, lines_done}
+use Rattle.text_writer.specs.Parts.{apart}
+use Rattle.held_region.specs.declared.Table.{Table}
 use Rattle.region_lines.specs.Codes.{spell_code}
-use Rattle.region_lines.specs.Spelled.{codes_from}
+use Rattle.region_lines.specs.Spelled.{codes_from, table_from, table_parts}
+use Rattle.region_lines.specs.Writable.{TableFits, members_taken}
 
 module _ {A : Type 0} (spell : A → List ℕ) (f : ℕ → A) (n i : ℕ) {whole out now : List ℕ} {at place : ℕ}
     (left : Left whole at out (lines_from spell (map f (below n)) i ∷ []) now place) where
@@ -17,13 +22,15 @@ module _ {A : Type 0} (spell : A → List ℕ) (f : ℕ → A) (n i : ℕ) {whol
   pub places_written : n ≤ i → Wrote whole at out now place
   places_written h = lines_done spell (map f (below n)) i left (omega (arith, length_by_places f 0 n))
 
-module _ (store : List ℕ) (start count k : ℕ) {whole out now : List ℕ} {at place : ℕ}
-    (left : Left whole at out (apart_from spell_code from_zero (codes_from store start count) k ∷ []) now place) where
-  pub code_left : k < count
-      → Left whole at out (gap k ∷ spell_code (get_or store (start + k) 0) ∷ apart_from spell_code from_zero (codes_from store start count) (k + 1) ∷ []) now place
-  code_left h =
-      let code : ℕ → ℕ = λ j. get_or store (start + j) 0 in
-      rw (at_place code 0 count k h) at (part_left spell_code from_zero (codes_from store start count) k left 0 (omega (arith, length_by_places code 0 count)))
+-- Entries that stand in the store from a place on are a part of it.
+pub codes_taken : (store : List ℕ) (start count : ℕ) → start + count ≤ length store → take (start + count - start) (drop start store) ≡ codes_from store start count
+codes_taken store start count inside =
+    let size : start + count - start ≡ count = omega arith in
+    rw size (sym (below_take (λ k. get_or store (start + k) 0) (drop start store) count (omega (arith, length-drop start store)) (λ k h. sym (get_or-drop start store k 0))))
 
-  pub codes_written : count ≤ k → Wrote whole at out now place
-  codes_written h = parts_done spell_code from_zero (codes_from store start count) k left (omega (arith, length_by_places (λ j. get_or store (start + j) 0) 0 count))
+-- A table's line, in the parts in which it is written.
+pub written_parts : (store : List ℕ) (start : ℕ) (t : Table) → length store ≡ 4096 → length t.first ≡ 4 → TableFits t start
+    → spell_table (table_from store start t)
+    ≡ flatten (text "(cost (" ∷ apart 0 (map spell_code (take t.members t.first)) ∷ text ") (" ∷ apart 0 (map spell_code (take (start + t.entries - start) (drop start store))) ∷ text "))\n" ∷ [])
+written_parts store start t long four fits =
+    rw (members_taken t (omega (arith, fits.few)), codes_taken store start t.entries (omega (arith, fits.inside))) (table_parts store start t fits.members)

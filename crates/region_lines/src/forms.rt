@@ -26,11 +26,9 @@ pub fn write_codes(out: &mut [u8], at: usize, codes: &[u32], before: usize) -> u
     ensures { Wrote (apart before (map spell_code codes.now)) at out.old out.new result }
 {
     let mut next = at;
-    let mut i: usize = 0;
-    while i < codes.len() {
+    for (i, code) in codes.iter().enumerate() {
         next = write_gap(out, next, before + i);
-        next = write_code(out, next, codes[i]);
-        i += 1;
+        next = write_code(out, next, *code);
     }
     next
 }

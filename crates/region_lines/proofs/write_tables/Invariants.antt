@@ -1,6 +1,5 @@
 use mathlib.Core.Path.{◌≡◌}
 use mathlib.Core.List.{[], ◌∷◌, map}
-use Prim.Native.Nat.{◌-◌}
 use Rattle.definitions.specs.Basics.{below}
 use Rattle.definitions.specs.Spelling.{spell_table}
 use Rattle.held_region.specs.Meaning.{start_in, table_said}
@@ -11,6 +10,3 @@ use Rattle.region_lines.proofs.write_tables.Given as goal
 
 abbrev pub invariant-loop-i : goal.invariant-loop-i
 invariant-loop-i l = (l.start ≡ start_in l.region l.i) × (Left (table_lines l.region l.store) l.at l.initial.out (lines_from spell_table (map (table_said l.region l.store) (below l.region.t)) l.i ∷ []) l.out l.next)
-
-abbrev pub decreases-loop-i : goal.decreases-loop-i
-decreases-loop-i l = l.region.t - l.i

@@ -1,4 +1,3 @@
-use Prim.Native.Nat.{◌-◌}
 use Rattle.text_writer.specs.Wrote.{room_for, then_left}
 use Rattle.text_writer.specs.Parts.{from_part, parts_yet, part_left, parts_done}
 use Rattle.region_lines.specs.Codes.{spell_code}
@@ -9,21 +8,15 @@ loop-i-init c = parts_yet spell_code (from_part _) _
 
 pub write_gap-next-requires : goal.write_gap-next-requires
 write_gap-next-requires c =
-    let l = c in
-    room_for (part_left spell_code (from_part _) _ l.loop-i.i l.loop-i.invariant 0 c.loop-i-test.true) l.requires.1
+    room_for (part_left spell_code (from_part _) _ c.loop-i.i c.loop-i.invariant 0 c.loop-i-test.true) c.requires.1
 
 pub write_code-next-requires : goal.write_code-next-requires
 write_code-next-requires c =
-    let g = c in
-    let l = g in
-    room_for (then_left (part_left spell_code (from_part _) _ l.loop-i.i l.loop-i.invariant 0 g.loop-i-test.true) g.write_gap-next.ensures) l.requires.1
+    room_for (then_left (part_left spell_code (from_part _) _ c.loop-i.i c.loop-i.invariant 0 c.loop-i-test.true) c.write_gap-next.ensures) c.requires.1
 
 pub loop-i-preserved : goal.loop-i-preserved
 loop-i-preserved c =
-    let w = c in
-    let g = w in
-    let l = g in
-    then_left (then_left (part_left spell_code (from_part _) _ l.loop-i.i l.loop-i.invariant 0 g.loop-i-test.true) g.write_gap-next.ensures) w.write_code-next.ensures
+    then_left (then_left (part_left spell_code (from_part _) _ c.loop-i.i c.loop-i.invariant 0 c.loop-i-test.true) c.write_gap-next.ensures) c.write_code-next.ensures
 
 pub returns : goal.returns
 returns c = parts_done spell_code (from_part _) _ c.loop-i.i c.loop-i.invariant c.loop-i-test.false

@@ -7,30 +7,16 @@ use Rattle.region_lines.proofs.forms.write_form.Goals as goal
 
 pub write_text-fields_at-requires : goal.write_text-fields_at-requires
 write_text-fields_at-requires c =
-    let b = c in
-    let s = b in
-    room_for (then_left (none_yet _ (form_apart s.args.word.now (map spell_code s.args.fields.now))) b.write_byte-word_at.ensures) s.requires
+    room_for (then_left (none_yet _ (form_apart c.args.word.now (map spell_code c.args.fields.now))) c.write_byte-word_at.ensures) c.requires
 
 pub write_codes-end-requires : goal.write_codes-end-requires
 write_codes-end-requires c =
-    let w = c in
-    let b = w in
-    let s = b in
-    (search rules, room_for (then_left (then_left (none_yet _ (form_apart s.args.word.now (map spell_code s.args.fields.now))) b.write_byte-word_at.ensures) w.write_text-fields_at.ensures) s.requires)
+    (search rules, room_for (then_left (then_left (none_yet _ (form_apart c.args.word.now (map spell_code c.args.fields.now))) c.write_byte-word_at.ensures) c.write_text-fields_at.ensures) c.requires)
 
 pub write_text-requires : goal.write_text-requires
 write_text-requires c =
-    let f = c in
-    let w = f in
-    let b = w in
-    let s = b in
-    room_for (then_left (then_left (then_left (none_yet _ (form_apart s.args.word.now (map spell_code s.args.fields.now))) b.write_byte-word_at.ensures) w.write_text-fields_at.ensures) f.write_codes-end.ensures) s.requires
+    room_for (then_left (then_left (then_left (none_yet _ (form_apart c.args.word.now (map spell_code c.args.fields.now))) c.write_byte-word_at.ensures) c.write_text-fields_at.ensures) c.write_codes-end.ensures) c.requires
 
 pub returns : goal.returns
 returns c =
-    let e = c in
-    let f = e in
-    let w = f in
-    let b = w in
-    let s = b in
-    none_left (then_left (then_left (then_left (then_left (none_yet _ (form_apart s.args.word.now (map spell_code s.args.fields.now))) b.write_byte-word_at.ensures) w.write_text-fields_at.ensures) f.write_codes-end.ensures) e.write_text.ensures)
+    none_left (then_left (then_left (then_left (then_left (none_yet _ (form_apart c.args.word.now (map spell_code c.args.fields.now))) c.write_byte-word_at.ensures) c.write_text-fields_at.ensures) c.write_codes-end.ensures) c.write_text.ensures)
