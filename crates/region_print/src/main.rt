@@ -4,34 +4,11 @@
 ghost use Rattle.std.specs.Prelude.{◌≡◌, ◌≤◌};
 ghost use Rattle.definitions.specs.Basics.{length, sets};
 ghost use Rattle.definitions.specs.Output.{printed};
-ghost use Rattle.region_print.specs.Inputs.{Within};
 
+use file_input::read_file;
 use printer::print;
 use std::io;
-use std::io::Read;
 use std::process::ExitCode;
-
-// What was read: so many bytes up to the input's end or the area's, or a read failed.
-#[derive(Clone, Copy)]
-enum Input {
-    Failed(io::Error),
-    Bytes(usize),
-}
-
-// Reads until the area is full or the input ends. A pipe gives its bytes in parts.
-fn read_file<R: Read>(input: &mut R, area: &mut [u8]) -> Input
-    ensures { Within result area.new }
-{
-    let mut done: usize = 0;
-    while done < area.len() {
-        match input.read(&mut area[done..]) {
-            Err(error) => return Input::Failed(error),
-            Ok(0) => return Input::Bytes(done),
-            Ok(more) => done += more,
-        }
-    }
-    Input::Bytes(done)
-}
 
 // Prints a file's text, which the area has room for.
 fn print_text<P: Print>(to: &P, file: &[u8], text: &mut [u8]) -> io::Result<()>
@@ -53,10 +30,9 @@ fn main(rt: HostRuntime) -> ExitCode {
     // One byte more than a region file may have, so that a longer one is seen to be too long.
     let mut file = [0u8; 65536];
     let mut text = [0u8; 65536];
-    let input = read_file(&mut rt.stdin(), &mut file);
-    match input {
-        Input::Failed(error) => fail(&rt, "standard input", error),
-        Input::Bytes(n) => match print_text(&rt, &file[..n], &mut text) {
+    match read_file(&mut rt.stdin(), &mut file) {
+        Err(error) => fail(&rt, "standard input", error),
+        Ok(n) => match print_text(&rt, &file[..n], &mut text) {
             Ok(()) => ExitCode::SUCCESS,
             Err(error) => fail(&rt, "standard output", error),
         },

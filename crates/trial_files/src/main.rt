@@ -1,28 +1,11 @@
 // Checks each file that an argument names, and prints its name and check's number.
 #![tactic(auto)]
 
-ghost use Rattle.std.specs.Prelude.{◌≤◌, IfOk, length};
-
 use answers::checked_number;
+use file_input::read_file;
 use planner::check;
 use std::env::{Env, FillError};
-use std::io::Read;
 use std::{fs, io, str};
-
-// Reads until the area is full or the file ends.
-fn read_file<R: Read>(from: &mut R, area: &mut [u8]) -> io::Result<usize>
-    ensures { IfOk result (λ n. n ≤ length area.new) }
-{
-    let mut done: usize = 0;
-    while done < area.len() {
-        match from.read(&mut area[done..]) {
-            Err(error) => return Err(error),
-            Ok(0) => return Ok(done),
-            Ok(more) => done += more,
-        }
-    }
-    Ok(done)
-}
 
 // A file that cannot be opened is said on standard error.
 fn try_file(rt: &HostRuntime, path: &str) -> io::Result<()> {
