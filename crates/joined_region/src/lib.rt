@@ -98,7 +98,7 @@ fn append_tables(first: Region, second: Region) -> [Table; 64]
 
 // The first n numbers of another store, behind the first of this one.
 fn append_entries(store: &mut [u32; 4096], at: usize, other: &[u32; 4096], n: usize)
-    requires { (at + n ≤ 4096) × (length store.old ≡ 4096) }
+    requires { at + n ≤ 4096 }
     ensures { EntriesJoined store.old at other.now (at + n) store.new }
 {
     store[at..at + n].copy_from_slice(&other[..n]);
@@ -111,7 +111,7 @@ pub fn join_regions(
     second: Region,
     other: &[u32; 4096],
 ) -> Region
-    requires { (Fitting first second) × (length store.old ≡ 4096) }
+    requires { Fitting first second }
     ensures { said result store.new ≡ joined_region (said first store.old) (said second other.now) }
 {
     append_entries(store, entry_total(first), other, entry_total(second));

@@ -119,7 +119,6 @@ fn first_tables(tables: &[u8]) -> [Table; 64]
 
 // The first 4,096 entries.
 fn store_entries(entries: &[u8], store: &mut [u32; 4096])
-    requires { length store.old ≡ 4096 }
     ensures { EntriesLent entries.now (min (length entries.now / 8) 4096) store.new }
 {
     for k in 0..(entries.len() / 8).min(4096) {
@@ -135,7 +134,7 @@ pub fn region_lent(
     m: u64,
     store: &mut [u32; 4096],
 ) -> Region
-    requires { (lent_whole patients.now tables.now entries.now ≡ true) × (length store.old ≡ 4096) }
+    requires { lent_whole patients.now tables.now entries.now ≡ true }
     ensures { StandsFor true (said result store.new) (lent_region patients.now tables.now entries.now m) }
 {
     store_entries(entries, store);

@@ -19,7 +19,7 @@ pub struct Row {
 
 // The bed of patient s as it is packed; bed 0 for one who is no patient.
 fn bed_below(beds: &[u8; 32], v: usize, s: usize) -> u32
-    requires { (v ≤ 32) × (length beds.now ≡ 32) × (s < 32) }
+    requires { (v ≤ 32) × (s < 32) }
     ensures { (result ≡ bed_of (packable v beds.now) s) × (result < 16) }
 {
     if s < v { u32::from(beds[s] % 16) } else { 0 }
@@ -27,7 +27,7 @@ fn bed_below(beds: &[u8; 32], v: usize, s: usize) -> u32
 
 // The word of eight patients, from one on.
 fn packed_word(beds: &[u8; 32], v: usize, first: usize) -> u32
-    requires { (v ≤ 32) × (length beds.now ≡ 32) × (first + 8 ≤ 32) }
+    requires { (v ≤ 32) × (first + 8 ≤ 32) }
     ensures { beds_of_word 7 result ≡ beds_from (packable v beds.now) first }
 {
     let mut word = 0;
@@ -39,7 +39,7 @@ fn packed_word(beds: &[u8; 32], v: usize, first: usize) -> u32
 
 // Packs the beds of v patients, with bed 0 for the others of 32.
 pub fn pack(cost: u64, beds: &[u8; 32], v: usize) -> Row
-    requires { (v ≤ 32) × (length beds.now ≡ 32) }
+    requires { v ≤ 32 }
     ensures { row_of result ≡ record { cost = cost; beds = packable v beds.now } }
 {
     let words = [

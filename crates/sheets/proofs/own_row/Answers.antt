@@ -10,7 +10,7 @@ price-cost-requires c =
     own_asks pre.own _ pre.few (rw c.beds_of-beds.ensures pre.fits)
 
 pub pack-requires : goal.pack-requires
-pack-requires c = (omega (arith, c.size-k.ensures, size_most c.args.clinic.0), search rules)
+pack-requires c = omega (arith, c.size-k.ensures, size_most c.args.clinic.0)
 
 pub returns : goal.returns
 returns c = own_made _ _ _ _ _ _ _ c.beds_of-beds.ensures (search rules) c.size-k.ensures c.price-cost.ensures c.clinic_beds-taken.ensures c.pack.ensures
