@@ -7,6 +7,8 @@ use Prim.Native.Nat.{◌≤◌}
 use borrow.Author.Tests.{leb-true, ltb-true, lt-ltb, eqb-true, eq-eqb, ne_eqb}
 use lib.ListN.{length-take}
 use Rattle.std.specs.Prelude.{◌&&◌, ◌∷◌, ◌++◌}
+use Rattle.std.specs.Prelude as Code
+use Rattle.std.specs.Option.{ok_or}
 use Rattle.definitions.specs.Basics.{ℕ, Bool, true, false, not, Option, none, some, List, [], length, take, eqb, leb, ltb, every, none_or, is_some, is_empty, flatten, drop_last}
 use Rattle.definitions.specs.Limits.{file_length, limits, within}
 use Rattle.definitions.specs.Syntax as Said
@@ -25,16 +27,13 @@ use Rattle.held_region.specs.Meaning.{mark, said}
 use Rattle.held_region.specs.declared.Region.{Region}
 use Rattle.held_region.specs.declared.Refusal.{Refusal}
 use Rattle.held_region.specs.declared.Refusal.TheVariants.{TooLong, Layout, Counts, Sum, Limits, Patients, Members, EntryCounts, Entries, Ancestors}
-use Rattle.held_region.specs.declared.Judged.{Judged}
-use Rattle.held_region.specs.declared.Judged.TheVariants.{Fine, Refused}
 use Rattle.held_region.specs.Refusals.{question_of, number_of, asked}
 use Rattle.held_region.specs.HeldFrom.{unmarked, HeldFrom}
 use Rattle.held_region.specs.Faithful.{stands_for}
 use Rattle.reader.proofs.StoredEntries.{stands_held}
 use Rattle.layout.specs.declared.Laid.{Laid}
-use Rattle.reader.specs.declared.Loaded.{Loaded}
 use Rattle.layout.specs.LaidOut.{LaidThere, LaidOut}
-use Rattle.reader.specs.Loading.{FileRead, LoadedFrom, refused_with, region_held}
+use Rattle.reader.specs.Loading.{FileRead, LoadedFrom, region_held}
 
 -- ---- the first four questions
 
@@ -94,30 +93,32 @@ module _ {s : List ℕ} {laid : Laid} {before after : List ℕ} (l : LaidThere s
 
 -- ---- what is read
 
-not_fine : {q : Refusal} {P : Type 0} → Refused q ≡ Fine → P
-not_fine k = absurd (let z : ◌≡◌ {A = ℕ} 0 1 = cc in omega arith)
+refused_with : {s store : List ℕ} {q : Refusal} → question_of q ≡ first_no (asked_of_file s) → FileRead s (Code.Err q) store
+refused_with n = record { number = n; held = λ e. absurd cc; wide = λ e. absurd cc }
 
-refused_with_lem : {s store : List ℕ} {r : Loaded} {q : Refusal} → r ≡ refused_with q → question_of q ≡ first_no (asked_of_file s) → FileRead s r store
-refused_with_lem {s} {store} {r} {q} e n = record {
-  number = ap (λ (x : Loaded). number_of x.answer) e ∙ n;
-  held = λ fine. not_fine (sym (ap (λ (x : Loaded). x.answer) e) ∙ fine);
-  wide = λ fine. not_fine (sym (ap (λ (x : Loaded). x.answer) e) ∙ fine);
-}
+pub too_long : {s store : List ℕ} → short_enough s ≡ false → FileRead s (Code.Err TooLong) store
+too_long {s} h = refused_with (read_too_long s h)
 
-pub too_long : {s store : List ℕ} {r : Loaded} → short_enough s ≡ false → r ≡ refused_with TooLong → FileRead s r store
-too_long {s} h e = refused_with_lem e (read_too_long s h)
+-- What was laid out, where the reading goes on with a result.
+not_laid_out : (o : Code.Option Laid) {q : Refusal} → ok_or o Layout ≡ Code.Err q → (o ≡ Code.None) × (Layout ≡ q)
+not_laid_out Code.None e = (refl, cc)
+not_laid_out (Code.Some laid) e = absurd cc
+
+laid_out_there : (o : Code.Option Laid) {laid : Laid} → ok_or o Layout ≡ Code.Ok laid → o ≡ Code.Some laid
+laid_out_there Code.None e = absurd cc
+laid_out_there (Code.Some laid) e = cc
 
 -- A conjunction fails where one side does.
 left_fails : (a b : ℕ) (c : Bool) → (a ≡ b → ⊥) → (eqb a b && c) ≡ false
 left_fails a b c n = ap (λ x. x && c) (ne_eqb a b n)
 
-module _ {s : List ℕ} (h : short_enough s ≡ true) {laid : Laid} {before after : List ℕ} (l : LaidOut s laid before after) where
-  pub no_layout : {r : Loaded} → laid.found ≡ false → r ≡ refused_with Layout → FileRead s r after
-  no_layout missing e = refused_with_lem e (read_no_layout s h (l.missing missing))
+module _ {s : List ℕ} (h : short_enough s ≡ true) {o : Code.Option Laid} {before after : List ℕ} (l : LaidOut s o before after) where
+  pub no_layout : {q : Refusal} → ok_or o Layout ≡ Code.Err q → FileRead s (Code.Err q) after
+  no_layout e = let (missing, refusal) = not_laid_out o e in rw (← refusal) (refused_with (read_no_layout s h (l.missing missing)))
 
-  module _ (found : laid.found ≡ true) where
-    this : LaidThere s laid before after
-    this = l.there found
+  module _ {laid : Laid} (found : ok_or o Layout ≡ Code.Ok laid) where
+    pub this : LaidThere s laid before after
+    this = l.there laid (laid_out_there o found)
 
     -- What the sum goes over is no longer than the file.
     pub sum_short : length (take laid.end s) ≤ (limits file_length).highest
@@ -128,13 +129,13 @@ module _ {s : List ℕ} (h : short_enough s ≡ true) {laid : Laid} {before afte
     unfolding counts_true
     counts_said p t = join (eq-eqb _ _ (sym this.patients_counted ∙ p ∙ this.patient_count)) (eq-eqb _ _ (sym this.tables_counted ∙ t ∙ this.table_count))
 
-    pub wrong_patients : {r : Loaded} → (laid.patients.count ≡ laid.v → ⊥) → r ≡ refused_with Counts → FileRead s r after
+    pub wrong_patients : (laid.patients.count ≡ laid.v → ⊥) → FileRead s (Code.Err Counts) after
     unfolding counts_true
-    wrong_patients n e = refused_with_lem e (read_counts s h this.says (left_fails _ _ _ (λ k. n (this.patients_counted ∙ k ∙ sym this.patient_count))))
+    wrong_patients n = refused_with (read_counts s h this.says (left_fails _ _ _ (λ k. n (this.patients_counted ∙ k ∙ sym this.patient_count))))
 
-    pub wrong_tables : {r : Loaded} → (laid.tables.count ≡ laid.t → ⊥) → r ≡ refused_with Counts → FileRead s r after
+    pub wrong_tables : (laid.tables.count ≡ laid.t → ⊥) → FileRead s (Code.Err Counts) after
     unfolding counts_true
-    wrong_tables n e = refused_with_lem e (read_counts s h this.says
+    wrong_tables n = refused_with (read_counts s h this.says
         (ap (λ b. eqb (length this.tree.patients) this.tree.patient_count && b) (ne_eqb _ _ (λ k. n (this.tables_counted ∙ k ∙ sym this.table_count)))
         ∙ and-false (eqb (length this.tree.patients) this.tree.patient_count)))
 
@@ -142,18 +143,18 @@ module _ {s : List ℕ} (h : short_enough s ≡ true) {laid : Laid} {before afte
       true_sum : sum ≡ checksum (flatten (drop_last (lines s)))
       true_sum = is ∙ ap checksum (sym this.body)
 
-      pub wrong_sum : {r : Loaded} → (sum ≡ laid.sum → ⊥) → r ≡ refused_with Sum → FileRead s r after
+      pub wrong_sum : (sum ≡ laid.sum → ⊥) → FileRead s (Code.Err Sum) after
       unfolding sum_true
-      wrong_sum n e = refused_with_lem e (read_sum s h this.says (counts_said p t) (ne_eqb _ _ (λ k. n (true_sum ∙ sym k ∙ sym this.stated_sum))))
+      wrong_sum n = refused_with (read_sum s h this.says (counts_said p t) (ne_eqb _ _ (λ k. n (true_sum ∙ sym k ∙ sym this.stated_sum))))
 
-      pub read_fine : {region : Region} → length before ≡ 4096 → sum ≡ laid.sum → region ≡ region_held laid → FileRead s (record { answer = Fine; region = region }) after
+      pub read_fine : length before ≡ 4096 → sum ≡ laid.sum → FileRead s (Code.Ok (region_held laid)) after
       unfolding sum_true
-      read_fine {region} wide same e =
+      read_fine wide same =
           let counted = counts_said p t in
           let summed : sum_true s this.tree ≡ true = eq-eqb _ _ (sym this.stated_sum ∙ sym same ∙ true_sum) in
           record {
             number = read_all s h this.says counted summed;
-            held = λ fine. rw (e, file_says s h this.says) (stands_for (held_from this wide counted summed));
+            held = λ {region} fine. let e : region ≡ region_held laid = cc in rw (e, file_says s h this.says) (stands_for (held_from this wide counted summed));
             wide = λ fine. (this.stored wide).wide;
           }
 
@@ -182,20 +183,23 @@ none_refused [] those all e = refl
 none_refused ((n, true) ∷ these) those all e = none_refused these those (both (ltb 0 n) all).1 e
 none_refused ((n, false) ∷ these) those all e = absurd (omega (arith, ltb-true 0 n (both (ltb 0 n) all).0))
 
-module _ (parents : Bool) {s store : List ℕ} {r : Loaded} (from : FileRead s r store) where
-  pub load_refused : {q : Refusal} {x : Loaded} → r.answer ≡ Refused q → x ≡ refused_with q → LoadedFrom parents s x store
-  load_refused {q} {x} is e = record {
-    number = ap (λ (x : Loaded). number_of x.answer) e ∙ first_refused_lem q (asked_of_file s) (asked parents (region_of s)) (sym (ap number_of is) ∙ from.number);
-    says = λ fine. not_fine (sym (ap (λ (x : Loaded). x.answer) e) ∙ fine);
-    wide = λ fine. not_fine (sym (ap (λ (x : Loaded). x.answer) e) ∙ fine);
-  }
+module _ (parents : Bool) {s store : List ℕ} {r : Code.Result Region Refusal} (from : FileRead s r store) where
+  load_refused_with : {q : Refusal} → question_of q ≡ first_no (asked_of_file s ++ asked parents (region_of s)) → LoadedFrom parents s (Code.Err q) store
+  load_refused_with n = record { number = n; says = λ e. absurd cc; wide = λ e. absurd cc }
 
-  pub load_judged : {answer : Judged} → r.answer ≡ Fine → number_of answer ≡ first_no (asked parents (said r.region store))
-      → LoadedFrom parents s (record { answer = answer; region = r.region }) store
-  load_judged {answer} is judged =
-      let file = from.held is parents in
-      record {
-        number = judged ∙ file.asks ∙ none_refused (asked_of_file s) (asked parents (region_of s)) refl (sym (ap number_of is) ∙ from.number);
-        says = λ fine. file.says (sym (judged ∙ file.asks) ∙ ap number_of fine);
-        wide = λ fine. from.wide is;
-      }
+  pub load_refused : {q : Refusal} → r ≡ Code.Err q → LoadedFrom parents s (Code.Err q) store
+  load_refused {q} is = load_refused_with (first_refused_lem q (asked_of_file s) (asked parents (region_of s)) (sym (ap number_of is) ∙ from.number))
+
+  module _ {region : Region} (is : r ≡ Code.Ok region) (answer : Code.Result (Unit {0}) Refusal) (judged : number_of answer ≡ first_no (asked parents (said region store))) where
+    all_asked : number_of answer ≡ first_no (asked_of_file s ++ asked parents (region_of s))
+    all_asked = judged ∙ (from.held is parents).asks ∙ none_refused (asked_of_file s) (asked parents (region_of s)) refl (sym (ap number_of is) ∙ from.number)
+
+    pub load_no : {q : Refusal} → answer ≡ Code.Err q → LoadedFrom parents s (Code.Err q) store
+    load_no e = load_refused_with (sym (ap number_of e) ∙ all_asked)
+
+    pub load_fine : {u : Unit {0}} → answer ≡ Code.Ok u → LoadedFrom parents s (Code.Ok region) store
+    load_fine fine = record {
+      number = sym (ap number_of fine) ∙ all_asked;
+      says = λ {region = other} e. let same : region ≡ other = cc in rw (← same) ((from.held is parents).says (sym (judged ∙ (from.held is parents).asks) ∙ ap number_of fine));
+      wide = λ e. from.wide is;
+    }
