@@ -5,9 +5,8 @@ ghost use Rattle.std.specs.Prelude.{◌≡◌};
 ghost use Rattle.definitions.specs.Boundary.{write_call};
 ghost use Rattle.lent_writer.specs.Answered.{lent_outcome};
 
-use answers::{checked_number, or_twelve};
+use answers::{Counted, checked_number, or_twelve};
 use byte_areas::store_result;
-use file_answers::{WriteValues, not_written, write_values};
 use held_region::FORBIDDEN;
 use lent_region::{areas_whole, region_lent};
 use questions::judge;
@@ -21,18 +20,18 @@ fn answer_lent(
     m: u64,
     output: &mut [u8],
     room: bool,
-) -> WriteValues
+) -> Counted
     ensures { record { number = result.number; count = result.count; output = output.new } ≡ lent_outcome patients.now tables.now entries.now m output.old room }
 {
     if !areas_whole(patients, tables, entries) {
-        return not_written(2);
+        return Counted::refused(2);
     }
     let mut store = [FORBIDDEN; 4096];
     let region = region_lent(patients, tables, entries, m, &mut store);
     if !room {
-        return not_written(or_twelve(checked_number(judge(region, &store, true))));
+        return Counted::refused(or_twelve(checked_number(judge(region, &store, true))));
     }
-    write_values(write(region, &store, output))
+    Counted::of(write(region, &store, output))
 }
 
 // The result area holds one number: the byte count.

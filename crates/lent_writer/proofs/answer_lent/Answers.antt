@@ -12,7 +12,7 @@ pub returns-then-not-areas_whole : goal.returns-then-not-areas_whole
 returns-then-not-areas_whole c =
     let asked = c in
     let a = asked.args in
-    given_values _ c.not_written.ensures.0 c.not_written.ensures.1
+    given_values _ c.refused.ensures.0 c.refused.ensures.1
     ∙ not_whole a.patients.now a.tables.now a.entries.now a.m a.output.now a.room (answered_no asked.areas_whole.ensures (ap not c.if-not-areas_whole.true))
 
 pub region_lent-region-requires : goal.region_lent-region-requires
@@ -29,7 +29,7 @@ returns-then-not-room c =
     let a = asked.args in
     let whole = answered_yes asked.areas_whole.ensures (ap not held.if-not-areas_whole.false) in
     let number = numbered.or_twelve.ensures ∙ ap or_twelve (checked.checked_number.ensures ∙ judged.judge.ensures) in
-    given_values _ (c.not_written-then-not-room.ensures.0 ∙ number) c.not_written-then-not-room.ensures.1
+    given_values _ (c.refused-then-not-room.ensures.0 ∙ number) c.refused-then-not-room.ensures.1
     ∙ unanswered a.patients.now a.tables.now a.entries.now a.m a.output.now whole _ held.region_lent-region.ensures (said_held _ _)
     ∙ ap (lent_outcome _ _ _ _ _) (sym (short.if-not-room.true))
 
@@ -41,6 +41,6 @@ returns c =
     let asked = held in
     let a = asked.args in
     let whole = answered_yes asked.areas_whole.ensures (ap not held.if-not-areas_whole.false) in
-    given_values _ c.write_values.ensures.0 c.write_values.ensures.1 ∙ wrote.write.ensures
+    given_values _ c.of.ensures.0 c.of.ensures.1 ∙ wrote.write.ensures
     ∙ answered a.patients.now a.tables.now a.entries.now a.m a.output.now whole _ held.region_lent-region.ensures (said_held _ _)
     ∙ ap (lent_outcome _ _ _ _ _) (sym (long.if-not-room.false))
