@@ -1,7 +1,6 @@
 // From the bytes of a file to the held region and its store: questions 1 to 4, then those that what is held answers.
 #![tactic(auto)]
 
-ghost use Rattle.std.specs.Prelude.{length, ◌≡◌};
 ghost use Rattle.reader.specs.Loading.{FileRead, LoadedFrom};
 
 use held_region::{Refusal, Region};
@@ -12,7 +11,6 @@ use questions::judge;
 
 // Questions 1 to 4, each put to the whole file before the next. The entries go to the store, whatever it held, as far as they are read.
 pub fn read(file: &[u8], store: &mut [u32; 4096]) -> Result<Region, Refusal>
-    requires { length store.old ≡ 4096 }
     ensures { FileRead file.now result store.new }
 {
     if !within(Field::FileLength, file.len()) {
@@ -41,7 +39,6 @@ pub fn read(file: &[u8], store: &mut [u32; 4096]) -> Result<Region, Refusal>
 
 // Questions 1 to 10, with or without those of parents.
 pub fn load(file: &[u8], store: &mut [u32; 4096], parents: bool) -> Result<Region, Refusal>
-    requires { length store.old ≡ 4096 }
     ensures { LoadedFrom parents file.now result store.new }
 {
     let region = read(file, store)?;

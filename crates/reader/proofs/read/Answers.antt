@@ -1,4 +1,4 @@
-use mathlib.Core.Path.{sym, ◌∙◌}
+use Rattle.std.proofs.Common.{sym, ◌∙◌, ◌≡◌, length, rules}
 use lib.Seq.{length-take-le}
 use Rattle.std.proofs.lemmas.Result.{err_from_is_err_and}
 use Rattle.definitions.specs.Questions.{short_enough}
@@ -57,4 +57,5 @@ unfolding short_enough
 returns c =
     let short = sym c.within.ensures ∙ c.if-not-within.false in
     let found = sym c.ok_or.ensures.value ∙ c.in_ok-laid.was in
-    read_fine short c.lay_out.ensures found c.if-laid.false c.if-laid-2.false c.checksum_of.ensures c.requires c.if-checksum_of-laid.false
+    let wide : length c.args.store.now ≡ 4096 = search rules in
+    read_fine short c.lay_out.ensures found c.if-laid.false c.if-laid-2.false c.checksum_of.ensures wide c.if-checksum_of-laid.false
