@@ -3,7 +3,7 @@ use mathlib.Core.Path.{◌≡◌, refl, sym, ap, ◌∙◌}
 use Prim.Native.Nat.{◌≤◌}
 use native.Mathlib.Nat.{le_trans, mul-le-mul_right}
 use native.Mathlib.Omega.{arith}
-use Rattle.std.specs.Prelude.{◌∷◌}
+use Rattle.std.specs.Prelude.{Ok, Err, ◌∷◌}
 use Rattle.definitions.specs.Basics.{ℕ, Bool, true, false, List, [], map, length, replicate}
 use Rattle.definitions.specs.Syntax as Said
 use Rattle.definitions.specs.Plans.{Row, list_of}
@@ -21,7 +21,7 @@ use Rattle.row_list.specs.Laws.{rows_take}
 use Rattle.row_sums.specs.Sums.{work_part}
 use Rattle.row_writer.specs.Writing.{long_enough, Writable, RowsWritten}
 use Rattle.search.specs.Trees.{GivesRegion}
-use Rattle.answers.specs.declared.Listed.TheVariants.{Short, Nothing, Rows}
+use Rattle.answers.specs.declared.ListError.TheVariants.{Short, Nothing}
 use Rattle.answers.specs.Answers.{listed_outcome}
 use Rattle.held_region.specs.Counts.{counts_few}
 use Rattle.theorems.specs.PlanAllowed.{no_list}
@@ -54,7 +54,7 @@ module _ (h : Region) (store : List ℕ) (accepted : Accepted (said h store)) {l
   abbrev r : Said.Region
   r = said h store
 
-  pub listed_short : long ≡ false → RegionListed r beds costs work Short beds costs work
+  pub listed_short : long ≡ false → RegionListed r beds costs work (Err Short) beds costs work
   unfolding outcome_of
   listed_short e = asked_outcome _ _ beds costs work (last_asked r (areas_long_enough r beds costs work)) (no_twelve r (question h store beds costs work asked e))
 
@@ -73,7 +73,7 @@ module _ (h : Region) (store : List ℕ) (accepted : Accepted (said h store)) {l
 
     -- No row is written of an empty list.
     pub listed_nothing : n ≡ 0 → {beds_after costs_after after : List ℕ} → RowsWritten h.v n area beds costs beds_after costs_after → after ≡ replicate (length area) 0
-        → RegionListed r beds costs work Nothing beds_after costs_after after
+        → RegionListed r beds costs work (Err Nothing) beds_after costs_after after
     unfolding outcome_of
     listed_nothing None-found {beds_after} {costs_after} rows zeros =
         let count = found_count h store accepted gives in
@@ -81,11 +81,11 @@ module _ (h : Region) (store : List ℕ) (accepted : Accepted (said h store)) {l
         let empty : rows_in h.v n area ≡ [] = found h store accepted gives ∙ no_list r accepted count None-found in
         let same_beds_lem : beds_after ≡ beds = rows.each_bed ∙ ap (λ l. written 0 h.v (λ row. row.beds) l beds) empty in
         let same_costs : costs_after ≡ costs = rows.each_cost ∙ ap (λ l. written 0 1 (λ row. row.cost ∷ []) l costs) empty in
-        (λ i. listed_outcome Nothing (same_beds_lem i) (same_costs i) (cleared h store accepted gives zeros i))
+        (λ i. listed_outcome (Err Nothing) (same_beds_lem i) (same_costs i) (cleared h store accepted gives zeros i))
         ∙ asked_outcome _ _ beds costs work (last_asked r (areas_long_enough r beds costs work)) (no_thirteen r (question h store beds costs work asked yes_twelve) none_allowed_lem)
 
     pub listed_rows_lem : (n ≡ 0 → ⊥) → {beds_after costs_after after : List ℕ} → RowsWritten h.v n area beds costs beds_after costs_after → after ≡ replicate (length area) 0
-        → RegionListed r beds costs work (Rows n) beds_after costs_after after
+        → RegionListed r beds costs work (Ok n) beds_after costs_after after
     unfolding said
     listed_rows_lem some_found rows zeros =
         let allowed = list_some r accepted (found_count h store accepted gives) some_found in

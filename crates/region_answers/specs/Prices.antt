@@ -11,7 +11,8 @@ use Rattle.lists.specs.Below.{every_place}
 use Rattle.theorems.specs.Accepted.{Accepted, patients_counted_lem}
 use Rattle.theorems.specs.Refusals.{after_check, refused_before}
 use Rattle.buckets.specs.Terms.{Fitting}
-use Rattle.answers.specs.declared.Priced.{Priced}
+use Rattle.std.specs.Prelude.{Option, Result}
+use Rattle.answers.specs.declared.PriceError.{PriceError}
 use Rattle.answers.specs.Answers.{not_allowed, priced_outcome}
 
 -- What price gives once questions 1 to 10 are answered yes.
@@ -19,7 +20,7 @@ abbrev pub region_price : Said.Region → Plan → PriceOutcome
 region_price r plan = priced (first_no ((14, plan_fits r plan) ∷ [])) (total r plan)
 
 -- The same of the file that a held region holds.
-abbrev pub RegionPriced : Said.Region → Plan → Priced → Type 0
+abbrev pub RegionPriced : Said.Region → Plan → Result (Option ℕ) PriceError → Type 0
 RegionPriced r plan answer = priced_outcome answer ≡ region_price r plan
 
 -- A plan that fits, as the first beds of a longer list.

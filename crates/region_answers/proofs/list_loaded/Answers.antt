@@ -8,32 +8,27 @@ long_enough-requires c = counts_few _ _ c.requires
 
 pub returns-then-not-long_enough : goal.returns-then-not-long_enough
 returns-then-not-long_enough c =
-    let s = c in
-    let a = s.args in
-    listed_short _ _ s.requires a.beds.now a.costs.now a.work.now c.long_enough.ensures (c.if-not-long_enough.true)
+    let a = c.args in
+    listed_short _ _ c.requires a.beds.now a.costs.now a.work.now c.long_enough.ensures (c.if-not-long_enough.true)
 
 pub list_region-n-requires : goal.list_region-n-requires
 list_region-n-requires c =
-    let s = c in
-    let a = s.args in
-    asks_list _ _ a.beds.now a.costs.now a.work.now c.long_enough.ensures (c.if-not-long_enough.false) s.requires
+    let a = c.args in
+    asks_list _ _ a.beds.now a.costs.now a.work.now c.long_enough.ensures (c.if-not-long_enough.false) c.requires
 
 pub write_rows-requires : goal.write_rows-requires
 write_rows-requires c =
-    let s = c in
-    let a = s.args in
-    writable _ _ s.requires a.beds.now a.costs.now a.work.now c.long_enough.ensures (c.if-not-long_enough.false) c.list_region-n.ensures
+    let a = c.args in
+    writable _ _ c.requires a.beds.now a.costs.now a.work.now c.long_enough.ensures (c.if-not-long_enough.false) c.list_region-n.ensures
 
 pub returns-then-n-eq0 : goal.returns-then-n-eq0
 returns-then-n-eq0 c =
-    let s = c in
-    let a = s.args in
-    listed_nothing _ _ s.requires a.beds.now a.costs.now a.work.now c.long_enough.ensures (c.if-not-long_enough.false) c.list_region-n.ensures c.if-n-eq0.true
+    let a = c.args in
+    listed_nothing _ _ c.requires a.beds.now a.costs.now a.work.now c.long_enough.ensures (c.if-not-long_enough.false) c.list_region-n.ensures c.if-n-eq0.true
     c.write_rows.ensures c.clear.ensures
 
 pub returns : goal.returns
 returns c =
-    let s = c in
-    let a = s.args in
-    listed_rows_lem _ _ s.requires a.beds.now a.costs.now a.work.now c.long_enough.ensures (c.if-not-long_enough.false) c.list_region-n.ensures c.if-n-eq0.false
+    let a = c.args in
+    listed_rows_lem _ _ c.requires a.beds.now a.costs.now a.work.now c.long_enough.ensures (c.if-not-long_enough.false) c.list_region-n.ensures c.if-n-eq0.false
     c.write_rows.ensures c.clear.ensures
