@@ -18,6 +18,7 @@ use Rattle.buckets.specs.Terms.{Prepared, Numbered}
 use Rattle.forest.specs.Trees.{RootNumbers}
 use Rattle.row_sums.specs.Sums.{work_part, list_at}
 use Rattle.search.specs.Lowest.{Upward}
+use Rattle.search.specs.declared.walk.Sources.{Sources}
 use Rattle.search.specs.Walks.{AllPadded}
 use Rattle.bucket_words.specs.declared.PatientBucket.{PatientBucket}
 use Rattle.bucket_words.specs.declared.TableTerm.{TableTerm}
@@ -91,6 +92,20 @@ pub record GivesForest (store : List ℕ) (patients : List PatientBucket) (terms
   pub count : n ≤ m
   pub long : length after ≡ length work
   pub list : (r : Region) → PreparedForest r store patients terms roots v m → list_at v n 0 after ≡ list_of r
+
+-- ---- the same of what the walks read
+
+abbrev pub AsksTreeOf : Sources → ℕ → List ℕ → ℕ → Type 0
+AsksTreeOf sources n work set = AsksTree sources.entries.now sources.buckets.now.patients sources.buckets.now.terms sources.moves.now sources.v sources.m n work set
+
+abbrev pub GivesTreeOf : Sources → ℕ → List ℕ → ℕ → List ℕ → ℕ → Type 0
+GivesTreeOf sources n work set after k = GivesTree sources.entries.now sources.buckets.now.patients sources.buckets.now.terms sources.v sources.m n work set after k
+
+abbrev pub AsksTrees : Sources → List ℕ → List ℕ → Type 0
+AsksTrees sources roots work = AsksForest sources.entries.now sources.buckets.now.patients sources.buckets.now.terms sources.moves.now roots sources.v sources.m work
+
+abbrev pub GivesTrees : Sources → List ℕ → List ℕ → List ℕ → ℕ → Type 0
+GivesTrees sources roots work after n = GivesForest sources.entries.now sources.buckets.now.patients sources.buckets.now.terms roots sources.v sources.m work after n
 
 -- ---- the whole region
 

@@ -23,6 +23,7 @@ use Rattle.row_list.specs.Rows.{whole_rows, row_in, rows_in, Room}
 use Rattle.search.specs.Decided.{decided_at}
 use Rattle.search.specs.Lowest.{Upward}
 use Rattle.search.specs.declared.walk.Head.{Head}
+use Rattle.search.specs.declared.walk.Sources.{Sources}
 use Rattle.bucket_words.specs.declared.PatientBucket.{PatientBucket}
 use Rattle.bucket_words.specs.declared.TableTerm.{TableTerm}
 use Rattle.kept_places.specs.declared.Moves.{Moves}
@@ -149,3 +150,12 @@ pub record Gives (store : List ℕ) (patients : List PatientBucket) (terms : Lis
   pub padded : AllPadded v found after
   pub grown : (r : Region) → Heads r store patients terms v head → Ready row_order m (rows_in v n area) (BranchOf r v head)
       → Grown row_order m (rows_in v n area) (BranchOf r v head) (rows_in v found after)
+
+-- The same of what the walk reads.
+abbrev pub AsksWalk : Sources → ℕ → List ℕ → List ℕ → Branching → Type 0
+AsksWalk sources n area places head =
+    Asks sources.entries.now sources.buckets.now.patients sources.buckets.now.terms sources.moves.now sources.v n sources.m area places head
+
+abbrev pub GivesWalk : Sources → ℕ → List ℕ → Branching → List ℕ → List ℕ → ℕ → Type 0
+GivesWalk sources n area head after after_places found =
+    Gives sources.entries.now sources.buckets.now.patients sources.buckets.now.terms sources.v n sources.m area head after after_places found

@@ -4,19 +4,19 @@
 pub mod walk;
 
 ghost use Rattle.patient_set.specs.Sets.{members};
-ghost use Rattle.search.specs.Trees.{LeastSummed, AsksStart, GivesStart, AsksTree, GivesTree, AsksForest, GivesForest, AsksRegion, GivesRegion};
+ghost use Rattle.search.specs.Trees.{LeastSummed, AsksStart, GivesStart, AsksTreeOf, GivesTreeOf, AsksTrees, GivesTrees, AsksRegion, GivesRegion};
 
 use bucket_words::Buckets;
 use buckets::prepare;
 use forest::{root_numbers, tree};
 use held_region::Region;
-use kept_places::{Moves, moves_of};
+use kept_places::moves_of;
 use packed_rows::pack;
 use patient_set::PatientSet;
 use pricing::Plan;
 use row_list::set_row;
 use row_sums::{SECOND, THIRD, combine};
-use walk::{Head, walk};
+use walk::{Head, Sources, walk};
 
 // The sum of the least numbers of the buckets of a set.
 fn least_sum(buckets: &Buckets, set: PatientSet) -> u64
@@ -39,61 +39,40 @@ fn start_list(work: &mut [u32], v: usize)
 }
 
 // The list with one more tree: a walk lists the tree's rows, and the two lists are combined.
-fn add_tree(
-    work: &mut [u32],
-    buckets: &Buckets,
-    moves: &Moves,
-    entries: &[u32; 4096],
-    v: usize,
-    m: usize,
-    n: usize,
-    set: PatientSet,
-) -> usize
-    requires { AsksTree entries.now buckets.now.patients buckets.now.terms moves.now v m n work.old set.0 }
-    ensures { GivesTree entries.now buckets.now.patients buckets.now.terms v m n work.old set.0 work.new result }
+fn add_tree(work: &mut [u32], sources: &Sources<'_>, n: usize, set: PatientSet) -> usize
+    requires { AsksTreeOf sources.now n work.old set.0 }
+    ensures { GivesTreeOf sources.now n work.old set.0 work.new result }
 {
     let plan = Plan::new();
     let head = Head {
         left: set,
         placed: plan.len,
         cost: 0,
-        bound: least_sum(buckets, set),
+        bound: least_sum(sources.buckets, set),
     };
     let mut places = [0u32; 64];
     let found = walk(
         &mut work[SECOND..THIRD],
         &mut places,
-        buckets,
-        moves,
-        entries,
+        sources,
         &plan.beds,
-        v,
         0,
-        m,
         head,
     );
-    combine(work, m, n, found)
+    combine(work, sources.m, n, found)
 }
 
 // The list of all trees, one after the other.
-fn list_trees(
-    work: &mut [u32],
-    buckets: &Buckets,
-    moves: &Moves,
-    entries: &[u32; 4096],
-    roots: &[u32; 32],
-    v: usize,
-    m: usize,
-) -> usize
-    requires { AsksForest entries.now buckets.now.patients buckets.now.terms moves.now roots.now v m work.old }
-    ensures { GivesForest entries.now buckets.now.patients buckets.now.terms roots.now v m work.old work.new result }
+fn list_trees(work: &mut [u32], sources: &Sources<'_>, roots: &[u32; 32]) -> usize
+    requires { AsksTrees sources.now roots.now work.old }
+    ensures { GivesTrees sources.now roots.now work.old work.new result }
 {
-    start_list(work, v);
+    start_list(work, sources.v);
     let mut n: usize = 1;
-    for k in 0..v {
-        let set = tree(roots, v, k);
+    for k in 0..sources.v {
+        let set = tree(roots, sources.v, k);
         if !set.is_empty() {
-            n = add_tree(work, buckets, moves, entries, v, m, n, set);
+            n = add_tree(work, sources, n, set);
         }
     }
     n
@@ -107,5 +86,12 @@ pub fn list_region(work: &mut [u32], region: Region, store: &[u32; 4096]) -> usi
     let buckets = prepare(region, store);
     let roots = root_numbers(region);
     let moves = moves_of(&buckets, region.t);
-    list_trees(work, &buckets, &moves, store, &roots, region.v, region.m)
+    let sources = Sources {
+        buckets: &buckets,
+        moves: &moves,
+        entries: store,
+        v: region.v,
+        m: region.m,
+    };
+    list_trees(work, &sources, &roots)
 }

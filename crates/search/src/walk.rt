@@ -1,7 +1,7 @@
 // Depth-first branch and bound over the patients of a set, the lowest first, beds rising.
 ghost use Rattle.std.specs.Prelude.{◌≡◌, set};
 ghost use Rattle.patient_set.specs.Sets.{members};
-ghost use Rattle.search.specs.Walks.{branch_at, AsksRest, GivesRest, is_past, AsksCut, Asks, Gives};
+ghost use Rattle.search.specs.Walks.{branch_at, AsksRest, GivesRest, is_past, AsksCut, AsksWalk, GivesWalk};
 
 use bucket_words::Buckets;
 use kept_places::{Moves, move_places};
@@ -10,6 +10,16 @@ use patient_set::PatientSet;
 use pricing::Plan;
 use pricing::beds::{bed_cost, bed_costs};
 use row_list::{cost_at, insert, is_past};
+
+// What a walk reads: the buckets, the moves of the tables' entries and the entries, how many patients there are, and how many rows are kept.
+#[derive(Clone, Copy)]
+pub struct Sources<'a> {
+    pub buckets: &'a Buckets,
+    pub moves: &'a Moves,
+    pub entries: &'a [u32; 4096],
+    pub v: usize,
+    pub m: usize,
+}
 
 // The head of a branch: who is left, how many are placed, the cost so far, and a lower bound of what the rest costs.
 #[derive(Clone, Copy)]
@@ -63,28 +73,26 @@ fn is_cut(
 pub fn walk(
     list: &mut [u32],
     places: &mut [u32; 64],
-    buckets: &Buckets,
-    moves: &Moves,
-    entries: &[u32; 4096],
+    sources: &Sources<'_>,
     beds: &[u8; 32],
-    v: usize,
     n: usize,
-    m: usize,
     head: Head,
 ) -> usize
-    requires { Asks entries.now buckets.now.patients buckets.now.terms moves.now v n m list.old places.old (branch_at head beds.now) }
-    ensures { Gives entries.now buckets.now.patients buckets.now.terms v n m list.old (branch_at head beds.now) list.new places.new result }
+    requires { AsksWalk sources.now n list.old places.old (branch_at head beds.now) }
+    ensures { GivesWalk sources.now n list.old (branch_at head beds.now) list.new places.new result }
 {
+    let v = sources.v;
+    let m = sources.m;
     let left = head.left;
     if left.is_empty() {
         let row = pack(head.cost, beds, v);
         return insert(list, n, m, row);
     }
     let s = left.lowest() as usize;
-    let first = buckets.first_bed(s);
-    let end = buckets.bed_end(s);
-    let (others, bound) = rest_of(buckets, left, head.bound, s);
-    let sums = bed_costs(buckets, entries, places, s, first, end);
+    let first = sources.buckets.first_bed(s);
+    let end = sources.buckets.bed_end(s);
+    let (others, bound) = rest_of(sources.buckets, left, head.bound, s);
+    let sums = bed_costs(sources.buckets, sources.entries, places, s, first, end);
     let plan = Plan {
         beds: *beds,
         len: head.placed,
@@ -104,23 +112,12 @@ pub fn walk(
                     cost: sum,
                     bound: bound,
                 };
-                move_places(places, moves, s, counted, bed);
+                move_places(places, sources.moves, s, counted, bed);
                 counted = bed;
-                found = walk(
-                    list,
-                    places,
-                    buckets,
-                    moves,
-                    entries,
-                    &longer.beds,
-                    v,
-                    found,
-                    m,
-                    below,
-                );
+                found = walk(list, places, sources, &longer.beds, found, below);
             }
         }
     }
-    move_places(places, moves, s, counted, 0);
+    move_places(places, sources.moves, s, counted, 0);
     found
 }

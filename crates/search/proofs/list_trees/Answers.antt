@@ -21,7 +21,7 @@ loop-k-preserved c =
     let pre = c.requires in
     let inv = c.loop-k.invariant in
     let same = c.start_list.ensures.long in
-    let more : c.loop-k.k < c.args.v = omega arith in
+    let more : c.loop-k.k < c.args.sources.now.v = omega arith in
     elim c.if-not-is_empty.branch [
       | goal.then-not-is_empty w ↦ rw (w.work-is, w.n-is) (listed_tree pre inv same more _ c.tree-set.ensures w.add_tree-n.ensures)
       | goal.else-not-is_empty w ↦ rw (w.work-is, w.n-is) (listed_none pre inv same more _ c.tree-set.ensures (sym c.is_empty.ensures ∙ w.if-not-is_empty.false))
