@@ -1,5 +1,5 @@
 -- What is held of the joined region: the patients and the tables of both, and the entries of both in one store.
-use Rattle.std.specs.Prelude.{◌≡◌, ◌≤◌, set}
+use Rattle.std.specs.Prelude.{◌≡◌, ◌≤◌}
 use Rattle.std.proofs.Math.Path.{refl, sym, ap, ap₂}
 use Rattle.std.proofs.Common.{subst, ◌∙◌, arith, ◌+◌, ◌-◌, ◌<◌, ◌&&◌, ◌++◌}
 use Rattle.std.proofs.lemmas.Simd.{map-map}
@@ -12,10 +12,11 @@ use Rattle.definitions.specs.Syntax.{patient_at}
 use Rattle.definitions.specs.Questions.{entries_of, clinic_present}
 use Rattle.definitions.specs.Writer.{with_sum, region_from}
 use Rattle.definitions.specs.Joining.{patient_after, table_after, joined_region, clinics_apart, join_within}
+use Rattle.std.proofs.Math.Decide.{dec_lt}
 use Rattle.lists.specs.Tests.{both}
 use Rattle.lists.specs.Every.{none_passes, every_map}
 use Rattle.lists.specs.Below.{by_places_lem, below_same}
-use Rattle.lists.specs.Filling.{Filled, filled_more}
+use Rattle.lists.specs.Filling.{Filled}
 use Rattle.theorems.specs.Accepted.{Accepted, at_most, parent_below, entries_few}
 use Rattle.joining.specs.Joined.{joined_counted, joined_many, first_patient, second_patient}
 use Rattle.held_region.specs.declared.Patient.{Patient}
@@ -74,6 +75,10 @@ PatientsJoined first second n patients =
 abbrev pub TablesJoined : Region → Region → ℕ → List Table → Type 0
 TablesJoined first second n tables =
     (store other : List ℕ) → Filled (λ i t. SameTable t (table_at (joined_region (said first store) (said second other)) i)) (record { first = []; members = 0; entries = 0 }) n tables
+
+-- What stands past the last table.
+abbrev pub none_there : Table
+none_there = record { first = []; members = 0; entries = 0 }
 
 -- The first numbers of a store and, behind them, those of another: the first n of both are there.
 abbrev pub EntriesJoined : List ℕ → ℕ → List ℕ → ℕ → List ℕ → Type 0
@@ -161,26 +166,29 @@ fitting first second store other a b together =
       members = λ i l. record { few = members_held second sound i l; small = λ j m. omega (arith, member_below second sound i l j m) };
     }
 
--- ---- one more patient, one more table
+-- ---- the patients and the tables of both, by where they stand
 
 module _ (first second : Region) where
-  pub patients_kept_lem : {q : ℕ} {patients : List Patient} → PatientsJoined first second q patients → q < first.v → q < length patients
-      → PatientsJoined first second (q + 1) (set patients q (patient_in first q))
-  patients_kept_lem {q} joined_so_far l room store other =
-      filled_more (patient_in first q) (joined_so_far store other) room
-      (sym (first_patient (said first store) (said second other) q (omega (arith, patients_said_lem first store)) ∙ patient_said_lem first store q l))
+  pub patients_joined : (patients : List Patient) → ((q : ℕ) → q < first.v → get_or patients q no_patient ≡ patient_in first q)
+      → ((k : ℕ) → k < second.v → patient_of (get_or patients (first.v + k) no_patient) ≡ patient_after first.v (patient_of (patient_in second k)))
+      → PatientsJoined first second (first.v + second.v) patients
+  patients_joined patients front behind store other = record { each = λ q l. go q l (dec_lt q first.v) }
+    where
+      r : Said.Region
+      r = said first store
 
-  pub patients_more : {q : ℕ} {patients : List Patient} (p : Patient) → PatientsJoined first second q patients → first.v ≤ q → q < first.v + second.v → q < length patients
-      → patient_of p ≡ patient_after first.v (patient_of (patient_in second (q - first.v))) → PatientsJoined first second (q + 1) (set patients q p)
-  patients_more {q} p joined_so_far from to room is store other =
-      let r = said first store in
-      let s = said second other in
-      let k = q - first.v in
-      let place : length r.patients + k ≡ q = omega (arith, patients_said_lem first store) in
-      let stands = second_patient r s k (omega (arith, patients_said_lem second other)) in
-      filled_more p (joined_so_far store other) room (
-      is ∙ ap₂ (λ v x. patient_after v x) (sym (patients_said_lem first store)) (sym (patient_said_lem second other k (omega arith)))
-      ∙ sym stands ∙ ap (patient_at (joined_region r s)) place)
+      s : Said.Region
+      s = said second other
+
+      go : (q : ℕ) → q < first.v + second.v → Dec (q < first.v) → patient_of (get_or patients q no_patient) ≡ patient_at (joined_region r s) q
+      go q l (yes h) = ap patient_of (front q h) ∙ sym (first_patient r s q (omega (arith, patients_said_lem first store)) ∙ patient_said_lem first store q h)
+      go q l (no h) =
+          let k = q - first.v in
+          let here : first.v + k ≡ q = omega arith in
+          let place : length r.patients + k ≡ q = omega (arith, patients_said_lem first store) in
+          ap (λ n. patient_of (get_or patients n no_patient)) (sym here) ∙ behind k (omega arith)
+          ∙ ap₂ (λ v x. patient_after v x) (sym (patients_said_lem first store)) (sym (patient_said_lem second other k (omega arith)))
+          ∙ sym (second_patient r s k (omega (arith, patients_said_lem second other))) ∙ ap (patient_at (joined_region r s)) place
 
   -- The tables of the joined region by number: those of the first, and those of the second, moved.
   module _ (store other : List ℕ) where
@@ -204,17 +212,17 @@ module _ (first second : Region) where
   same_second : (other : List ℕ) (k : ℕ) (t : Table) → TableMoved first.v (table_in second k) t → SameTable t (table_after first.v (table_said second other k))
   same_second other k t moved = record { members = moved.members; entries = moved.entries ∙ sym (entries_count second other k) }
 
-  pub tables_kept_lem : {i : ℕ} {tables : List Table} → TablesJoined first second i tables → i < first.t → i < length tables
-      → TablesJoined first second (i + 1) (set tables i (table_in first i))
-  tables_kept_lem {i} joined_so_far l room store other =
-      filled_more (table_in first i) (joined_so_far store other) room (subst (SameTable (table_in first i)) (sym (first_table store other i l)) (same_first store i))
-
-  pub tables_more : {i : ℕ} {tables : List Table} (t : Table) → TablesJoined first second i tables → first.t ≤ i → i < first.t + second.t → i < length tables
-      → TableMoved first.v (table_in second (i - first.t)) t → TablesJoined first second (i + 1) (set tables i t)
-  tables_more {i} t joined_so_far from to room moved store other =
-      let place : first.t + (i - first.t) ≡ i = omega arith in
-      let is = sym (second_table_lem store other (i - first.t) (omega arith)) ∙ ap (table_at (joined_region (said first store) (said second other))) place in
-      filled_more t (joined_so_far store other) room (subst (SameTable t) is (same_second other (i - first.t) t moved))
+  pub tables_joined : (tables : List Table) → ((i : ℕ) → i < first.t → get_or tables i none_there ≡ table_in first i)
+      → ((k : ℕ) → k < second.t → TableMoved first.v (table_in second k) (get_or tables (first.t + k) none_there)) → TablesJoined first second (first.t + second.t) tables
+  tables_joined tables front behind store other = record { each = λ i l. go i l (dec_lt i first.t) }
+    where
+      go : (i : ℕ) → i < first.t + second.t → Dec (i < first.t) → SameTable (get_or tables i none_there) (table_at (joined_region (said first store) (said second other)) i)
+      go i l (yes h) = rw (front i h) (subst (SameTable (table_in first i)) (sym (first_table store other i h)) (same_first store i))
+      go i l (no h) =
+          let k = i - first.t in
+          let here : first.t + k ≡ i = omega arith in
+          subst (λ n. SameTable (get_or tables n none_there) (table_at (joined_region (said first store) (said second other)) n)) here
+          (subst (SameTable (get_or tables (first.t + k) none_there)) (sym (second_table_lem store other k (omega arith))) (same_second other k _ (behind k (omega arith))))
 
 -- ---- members that are moved
 

@@ -1,7 +1,7 @@
 // Two held regions joined: whether they have a clinic in common, whether both have their place together, and the region that they make.
 #![tactic(auto)]
 
-ghost use Rattle.std.specs.Prelude.{◌≡◌, ℕ, ◌+◌, ◌≤◌, length};
+ghost use Rattle.std.specs.Prelude.{◌≡◌, ℕ, ◌+◌, ◌<◌, ◌≤◌, length, slice_index_or};
 ghost use Rattle.definitions.specs.Basics.{not, List};
 ghost use Rattle.definitions.specs.Questions.{clinic_present};
 ghost use Rattle.definitions.specs.Joining.{patient_after, joined_region, clinics_apart, join_within};
@@ -66,34 +66,54 @@ fn table_after(table: Table, v: u32) -> Table
     Table { first, ..table }
 }
 
-// The patients of both. The array is a fresh one, whose length is known; of one that comes out of a region it is not.
+// The first n of a kind, behind them the second m, and what is blank in the places that are left.
+fn append<T: Copy, F: Fn(usize) -> T, G: Fn(usize) -> T, const N: usize>(
+    blank: T,
+    n: usize,
+    first: F,
+    m: usize,
+    second: G,
+) -> [T; N]
+    requires room { n + m ≤ N }
+    requires first_asked { (k : ℕ) → k < n → F.pre first k }
+    requires second_asked { (k : ℕ) → k < m → G.pre second k }
+    ensures first_given { (e : T) (k : ℕ) → k < n → F.post first k (slice_index_or result k e) }
+    ensures second_given { (e : T) (k : ℕ) → k < m → G.post second k (slice_index_or result (n + k) e) }
+{
+    let mut both = [blank; N];
+    for k in 0..n {
+        both[k] = first(k);
+    }
+    for k in 0..m {
+        both[n + k] = second(k);
+    }
+    both
+}
+
 fn append_patients(first: Region, second: Region) -> [Patient; 32]
     requires { Fitting first second }
     ensures { PatientsJoined first second (first.v + second.v) result }
 {
-    let mut patients = [NO_PATIENT; 32];
-    for s in 0..first.v {
-        patients[s] = first.patients[s];
-    }
-    for s in first.v..first.v + second.v {
-        patients[s] = patient_after(second.patients[s - first.v], first.v as u32);
-    }
-    patients
+    append(
+        NO_PATIENT,
+        first.v,
+        |s| first.patients[s],
+        second.v,
+        |s| patient_after(second.patients[s], first.v as u32),
+    )
 }
 
-// The tables of both, in the same way.
 fn append_tables(first: Region, second: Region) -> [Table; 64]
     requires { Fitting first second }
     ensures { TablesJoined first second (first.t + second.t) result }
 {
-    let mut tables = [NO_TABLE; 64];
-    for i in 0..first.t {
-        tables[i] = first.tables[i];
-    }
-    for i in first.t..first.t + second.t {
-        tables[i] = table_after(second.tables[i - first.t], first.v as u32);
-    }
-    tables
+    append(
+        NO_TABLE,
+        first.t,
+        |i| first.tables[i],
+        second.t,
+        |i| table_after(second.tables[i], first.v as u32),
+    )
 }
 
 // The first n numbers of another store, behind the first of this one.
