@@ -3,7 +3,7 @@ use mathlib.Core.Path.{◌≡◌, sym, ap, ◌∙◌}
 use Prim.Native.Nat.{◌≤◌}
 use native.Mathlib.Nat.{le_trans, mul-le-mul}
 use native.Mathlib.Omega.{arith}
-use Rattle.std.specs.Prelude.{◌∷◌}
+use Rattle.std.specs.Prelude.{Ok, Err, ◌∷◌}
 use Rattle.definitions.specs.Basics.{ℕ, Bool, true, false, not, List, [], map, length, replicate, is_empty, first_occurrences}
 use Rattle.definitions.specs.Syntax as Said
 use Rattle.definitions.specs.Syntax.{patients_of}
@@ -24,7 +24,7 @@ use Rattle.row_sums.specs.Areas.{part_long}
 use Rattle.row_writer.specs.Writing.{long_enough, Writable, RowsWritten}
 use Rattle.search.specs.Trees.{GivesRegion}
 use Rattle.sheets.specs.Sheets.{Given, Gives}
-use Rattle.answers.specs.declared.Sheeted.TheVariants.{Absent, Short, Nothing, Rows}
+use Rattle.answers.specs.declared.SheetError.TheVariants.{Absent, Short, Nothing}
 use Rattle.answers.specs.Answers.{sheeted_outcome}
 use Rattle.region_answers.specs.Found.{last_asked, no_twelve, no_thirteen, no_refusal, outcome_with, asked_outcome}
 use Rattle.theorems.specs.Clinics.{present_asked}
@@ -86,7 +86,7 @@ module _ (h : Region) (store : List ℕ) (accepted : Accepted (said h store)) (c
   eleven : {answer : Bool} → empty ≡ answer → clinic_present r clinic ≡ not answer
   eleven e = present_asked r clinic ∙ ap (λ m. not (is_empty m)) (sym held) ∙ ap not (sym told ∙ e)
 
-  pub sheeted_absent : empty ≡ true → RegionSheeted r clinic beds costs work Absent beds costs work
+  pub sheeted_absent : empty ≡ true → RegionSheeted r clinic beds costs work (Err Absent) beds costs work
   unfolding outcome_of
   sheeted_absent e = asked_outcome _ _ beds costs work (late_asked r clinic (areas_long_enough r beds costs work)) (no_eleven r clinic (areas_long_enough r beds costs work) (eleven e))
 
@@ -98,7 +98,7 @@ module _ (h : Region) (store : List ℕ) (accepted : Accepted (said h store)) (c
     last e =
         asked_outcome _ _ beds costs work (late_asked r clinic (areas_long_enough r beds costs work)) (yes_eleven r clinic (areas_long_enough r beds costs work) (eleven some_patient) ∙ e)
 
-    pub sheeted_short : long ≡ false → RegionSheeted r clinic beds costs work Short beds costs work
+    pub sheeted_short : long ≡ false → RegionSheeted r clinic beds costs work (Err Short) beds costs work
     unfolding outcome_of
     sheeted_short e = last (no_twelve r (question h store beds costs work asked e))
 
@@ -124,20 +124,20 @@ module _ (h : Region) (store : List ℕ) (accepted : Accepted (said h store)) (c
 
       module _ {k : ℕ} {beds_after costs_after after : List ℕ} (written_sheet : SheetWritten h store n set beds costs area k beds_after costs_after after) where
         -- The sheet as it was written, beside the work area as it was lent.
-        left : sheeted_outcome (Rows k) beds_after costs_after after ≡ outcome_with (length (patients_of r clinic)) (sheet_of r clinic) beds costs work 0
+        left : sheeted_outcome (Ok k) beds_after costs_after after ≡ outcome_with (length (patients_of r clinic)) (sheet_of r clinic) beds costs work 0
         left = written_sheet clinic given ∙ same_zeros (length (patients_of r clinic)) (sheet_of r clinic) beds costs area work gives.long
 
         -- The sheet of an empty list is empty.
-        pub sheeted_nothing : n ≡ 0 → RegionSheeted r clinic beds costs work Nothing beds_after costs_after after
+        pub sheeted_nothing : n ≡ 0 → RegionSheeted r clinic beds costs work (Err Nothing) beds_after costs_after after
         unfolding outcome_of sheet_of
         sheeted_nothing None-found =
             let count = found_count h store accepted gives in
             let nothing : sheet_of r clinic ≡ [] = ap (λ l. first_occurrences same_beds [] (map (own_row r clinic) l)) (no_list r accepted count None-found) in
-            ap (λ (o : ListOutcome). sheeted_outcome Nothing o.beds o.costs o.work)
+            ap (λ (o : ListOutcome). sheeted_outcome (Err Nothing) o.beds o.costs o.work)
             (left ∙ ap (λ sheet. outcome_with (length (patients_of r clinic)) sheet beds costs work 0) nothing)
             ∙ last (no_thirteen r (question h store beds costs work asked yes_twelve) (list_none r accepted count None-found))
 
-        pub sheeted_rows_lem : (n ≡ 0 → ⊥) → RegionSheeted r clinic beds costs work (Rows k) beds_after costs_after after
+        pub sheeted_rows_lem : (n ≡ 0 → ⊥) → RegionSheeted r clinic beds costs work (Ok k) beds_after costs_after after
         sheeted_rows_lem some_found =
             let allowed = list_some r accepted (found_count h store accepted gives) some_found in
             left ∙ last (no_refusal r (question h store beds costs work asked yes_twelve) allowed)

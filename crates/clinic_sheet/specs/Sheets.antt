@@ -1,6 +1,6 @@
 -- What sheet gives of a loaded file.
 use Rattle.std.proofs.Common.{sym, ap, append_assoc, ◌*◌, ◌≡◌, ◌∷◌, ◌++◌}
-use Rattle.std.specs.Prelude.{◌≤◌}
+use Rattle.std.specs.Prelude.{Result, Ok, ◌≤◌}
 use Rattle.definitions.specs.Basics.{ℕ, suc, refl, Bool, true, false, List, [], length}
 use Rattle.definitions.specs.Syntax as Said
 use Rattle.definitions.specs.Syntax.{patients_of}
@@ -11,8 +11,7 @@ use Rattle.theorems.proofs.SheetAreas.{rows_few}
 use Rattle.held_region.specs.declared.Region.{Region}
 use Rattle.held_region.specs.Meaning.{said}
 use Rattle.sheets.specs.Sheets.{Given, Asks}
-use Rattle.answers.specs.declared.Sheeted.{Sheeted}
-use Rattle.answers.specs.declared.Sheeted.TheVariants.{Rows}
+use Rattle.answers.specs.declared.SheetError.{SheetError}
 use Rattle.answers.specs.Answers.{sheeted_outcome}
 use Rattle.region_answers.specs.Found.{last_asked, outcome_with, AsksTwelve, asks_twelve}
 
@@ -31,10 +30,10 @@ pub record AsksSheet (h : Region) (store : List ℕ) (n set : ℕ) (beds costs w
 abbrev pub SheetWritten : Region → List ℕ → ℕ → ℕ → List ℕ → List ℕ → List ℕ → ℕ → List ℕ → List ℕ → List ℕ → Type 0
 SheetWritten h store n set beds costs work k beds_after costs_after work_after =
     (clinic : ℕ) → Given h store clinic n set work
-    → sheeted_outcome (Rows k) beds_after costs_after work_after ≡ outcome_with (length (patients_of (said h store) clinic)) (sheet_of (said h store) clinic) beds costs work 0
+    → sheeted_outcome (Ok k) beds_after costs_after work_after ≡ outcome_with (length (patients_of (said h store) clinic)) (sheet_of (said h store) clinic) beds costs work 0
 
 -- What sheet gives, of what a held region and its store say, once questions 1 to 10 are answered yes.
-abbrev pub RegionSheeted : Said.Region → ℕ → List ℕ → List ℕ → List ℕ → Sheeted → List ℕ → List ℕ → List ℕ → Type 0
+abbrev pub RegionSheeted : Said.Region → ℕ → List ℕ → List ℕ → List ℕ → Result ℕ SheetError → List ℕ → List ℕ → List ℕ → Type 0
 RegionSheeted r clinic beds costs work answer beds_after costs_after work_after =
     sheeted_outcome answer beds_after costs_after work_after
     ≡ outcome_of (found_by (late_asked r clinic (areas_long_enough r beds costs work)) (length (patients_of r clinic)) (sheet_of r clinic)) beds costs work

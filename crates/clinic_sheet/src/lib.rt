@@ -5,7 +5,7 @@ ghost use Rattle.held_region.specs.Meaning.{said};
 ghost use Rattle.theorems.specs.Accepted.{Accepted};
 ghost use Rattle.clinic_sheet.specs.Sheets.{AsksSheet, SheetWritten, RegionSheeted};
 
-use answers::Sheeted;
+use answers::SheetError;
 use held_region::Region;
 use patient_set::PatientSet;
 use region_sets::clinic_patients;
@@ -42,21 +42,21 @@ pub fn sheet_loaded(
     beds: &mut [u8],
     costs: &mut [u32],
     work: &mut [u32],
-) -> Sheeted
+) -> Result<usize, SheetError>
     requires { Accepted (said region store.now) }
     ensures { RegionSheeted (said region store.now) clinic beds.old costs.old work.old result beds.new costs.new work.new }
 {
     let set = clinic_patients(region, clinic);
     if set.is_empty() {
-        return Sheeted::Absent;
+        return Err(SheetError::Absent);
     }
     if !long_enough(region.v, region.m, beds.len(), costs.len(), work.len()) {
-        return Sheeted::Short;
+        return Err(SheetError::Short);
     }
     let n = list_region(work, region, store);
     let rows = write_sheet(region, store, n, set, beds, costs, work);
     if n == 0 {
-        return Sheeted::Nothing;
+        return Err(SheetError::Nothing);
     }
-    Sheeted::Rows(rows)
+    Ok(rows)
 }
