@@ -77,7 +77,7 @@ impl PatientSet {
     pub fn is_empty(self) -> bool
         ensures { result ≡ is_empty (members self.0) }
     {
-        self.0 == PatientSet::EMPTY.0
+        self == PatientSet::EMPTY
     }
 
     // The lowest patient, 32 where there is none.
