@@ -1,5 +1,5 @@
 -- What parents gives back, by the answers to questions 1 to 9 and to 15.
-use Rattle.std.specs.Prelude.{◌≡◌, ◌≤◌}
+use Rattle.std.specs.Prelude.{◌≡◌, ◌≤◌, Result, Ok, Err}
 use Rattle.std.proofs.Math.Path.{sym, ap}
 use Rattle.std.proofs.Common.{◌∙◌, le-leb, ◌<◌, ◌-◌, ◌∷◌}
 use Rattle.std.proofs.lemmas.Bool.{lt-leb}
@@ -13,50 +13,49 @@ use Rattle.theorems.specs.Answers.{says, no_then}
 use Rattle.theorems.specs.Accepted.{Accepted}
 use Rattle.made_parents.specs.Accepted.{PassesNine, asked_nine, made_accepted}
 use Rattle.held_region.specs.declared.Refusal.{Refusal}
-use Rattle.held_region.specs.declared.Judged.TheVariants.{Fine}
+use Rattle.held_region.specs.declared.Region.{Region}
 use Rattle.held_region.specs.Meaning.{said}
 use Rattle.held_region.specs.Refusals.{number_of}
 use Rattle.held_region.specs.Sound.{Sound, has_places}
-use Rattle.file_answers.specs.declared.Written.TheVariants.{Refused}
+use Rattle.file_answers.specs.declared.WriteError.TheVariants.{Refused}
 use Rattle.answers.specs.Answers.{refusal_number}
 use Rattle.file_answers.specs.Answers.{written_outcome}
 use Rattle.answers.specs.Numbers.{refusal_number_lem}
 use Rattle.answers.specs.Rooms.{or_twelve}
 use Rattle.byte_areas.specs.Results.{result_short}
-use Rattle.reader.specs.declared.Loaded.{Loaded}
 use Rattle.reader.specs.Loading.{LoadedFrom, checks_nine}
 use Rattle.writer.specs.Outcomes.{placing, then_placed, refused_with_lem}
 use Rattle.writer.specs.Calls.{called_outcome, with_room, without_room, called}
 
 -- ---- a file that passes questions 1 to 9, but for parents
 
-module _ (file : List ℕ) {store : List ℕ} (loaded : Loaded) (from : LoadedFrom false file loaded store) (fine : loaded.answer ≡ Fine) where
+module _ (file : List ℕ) {store : List ℕ} (loaded : Result Region Refusal) (from : LoadedFrom false file loaded store) {region : Region} (fine : loaded ≡ Ok region) where
   none_refused : first_no (asked_to_make file) ≡ 0
   none_refused = sym (checks_nine from) ∙ ap number_of fine
 
   -- What it says passes them too, ..
-  pub passes_nine : PassesNine (said loaded.region store)
+  pub passes_nine : PassesNine (said region store)
   passes_nine = rw (from.says fine) (asked_nine file ((says (asked_to_make file) tt).accepted.0 none_refused))
 
   -- .. so its tables can be read, ..
-  pub nine_sound : Sound loaded.region
+  pub nine_sound : Sound region
   nine_sound =
       let nine = passes_nine in
-      record { store = store; places = has_places loaded.region store nine.counts_fit; patients = nine.patients_fit; members = nine.members_fit }
+      record { store = store; places = has_places region store nine.counts_fit; patients = nine.patients_fit; members = nine.members_fit }
 
   -- .. with its parents made it is accepted, ..
-  pub nine_accepted : Accepted (with_parents (said loaded.region store) (parents_made (said loaded.region store)))
-  nine_accepted = made_accepted (said loaded.region store) passes_nine
+  pub nine_accepted : Accepted (with_parents (said region store) (parents_made (said region store)))
+  nine_accepted = made_accepted (said region store) passes_nine
 
   -- .. and 15 decides.
-  pub nine_placed : (output : List ℕ) → placing (spell (with_parents (said loaded.region store) (parents_made (said loaded.region store)))) output ≡ parents_outcome file output
+  pub nine_placed : (output : List ℕ) → placing (spell (with_parents (said region store) (parents_made (said region store)))) output ≡ parents_outcome file output
   unfolding parents_outcome parents_file asked_by_parents
   nine_placed output =
       ap (λ r. placing (spell (with_parents r (parents_made r))) output) (from.says fine)
       ∙ sym (then_placed (parents_file file) output (asked_to_make file) ((says (asked_to_make file) tt).accepted.0 none_refused))
 
 -- A no to one of them.
-pub parents_refused : (file output : List ℕ) (refusal : Refusal) → refusal_number refusal ≡ first_no (asked_to_make file) → written_outcome (Refused refusal) output ≡ parents_outcome file output
+pub parents_refused : (file output : List ℕ) (refusal : Refusal) → refusal_number refusal ≡ first_no (asked_to_make file) → written_outcome (Err (Refused refusal)) output ≡ parents_outcome file output
 unfolding parents_outcome asked_by_parents
 parents_refused file output refusal e =
     let no = no_then (asked_to_make file) ((15, room_for_file (parents_file file) output) ∷ []) (refusal_number refusal - 1) (sym e ∙ refusal_number_lem refusal) in

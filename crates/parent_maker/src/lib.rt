@@ -8,28 +8,22 @@ ghost use Rattle.definitions.specs.Boundary.{parents_call};
 ghost use Rattle.file_answers.specs.Answers.{written_outcome};
 ghost use Rattle.answers.specs.Rooms.{or_twelve};
 
-use answers::{checked_number, or_twelve};
+use answers::{Counted, checked_number, or_twelve};
 use byte_areas::store_result;
-use file_answers::{Written, write_values};
-use held_region::{FORBIDDEN, Judged};
+use file_answers::WriteError;
+use held_region::FORBIDDEN;
 use reader::load;
 use region_parents::make_parents;
 use writer::write_accepted;
 
 // Questions 1 to 9, of 6 not the parents' half, then 15, then the file.
-pub fn parents(file: &[u8], output: &mut [u8]) -> Written
+pub fn parents(file: &[u8], output: &mut [u8]) -> Result<usize, WriteError>
     ensures { written_outcome result output.new ≡ parents_outcome file.now output.old }
 {
     let mut store = [FORBIDDEN; 4096];
-    let read = load(file, &mut store, false);
-    let answer = read.answer;
-    match answer {
-        Judged::Refused(refusal) => Written::Refused(refusal),
-        Judged::Fine => {
-            let region = make_parents(read.region);
-            write_accepted(region, &store, output)
-        }
-    }
+    let region = load(file, &mut store, false)?;
+    let made = make_parents(region);
+    write_accepted(made, &store, output)
 }
 
 // The number where the result area is too short for the byte count.
@@ -38,8 +32,7 @@ fn number_without_room(file: &[u8]) -> u64
 {
     let mut store = [FORBIDDEN; 4096];
     let asked = load(file, &mut store, false);
-    let answer = asked.answer;
-    or_twelve(checked_number(answer))
+    or_twelve(checked_number(asked.map(|_| ())))
 }
 
 // The result area holds one number: the byte count.
@@ -49,7 +42,7 @@ pub fn parents_call(file: &[u8], output: &mut [u8], res: &mut [u8]) -> u64
     if res.len() < 8 {
         return number_without_room(file);
     }
-    let written = write_values(parents(file, output));
+    let written = Counted::of(parents(file, output));
     store_result(res, &[written.count as u64]);
     written.number
 }

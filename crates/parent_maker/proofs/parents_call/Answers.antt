@@ -17,4 +17,4 @@ returns c =
     let long = made in
     let s = long in
     call_long_lem s.args.file.now s.args.output.now s.args.res.now long.if-res-lt8.false
-    (given_values _ valued.write_values-written.ensures.0 valued.write_values-written.ensures.1 ∙ made.parents.ensures) stored.store_result.ensures
+    (given_values _ valued.of-written.ensures.0 valued.of-written.ensures.1 ∙ made.parents.ensures) stored.store_result.ensures
