@@ -1,111 +1,108 @@
 // The line of a file over some typed members: question 21, and the search for the line.
 #![tactic(auto)]
 
-ghost use Rattle.std.specs.Prelude.{◌≡◌};
-ghost use Rattle.definitions.specs.Layout.{lines};
+ghost use Rattle.std.specs.Prelude.{◌≡◌, length};
+ghost use Rattle.definitions.specs.Layout.{exactly, lines};
 ghost use Rattle.definitions.specs.Lookup.{typed_right, first_line, line_outcome};
-ghost use Rattle.theorems.specs.Lookup.{begins};
-ghost use Rattle.line_finder.specs.Found.{line_of, no_line};
+ghost use Rattle.theorems.specs.Lookup.{opening, begins};
+ghost use Rattle.scanner.specs.Answers.{ReadAt, passed};
+ghost use Rattle.line_finder.specs.Found.{line_error_number, part_said, line_of};
+ghost use Rattle.line_finder.specs.declared.LineError.TheVariants as Lines;
 
-use answers::checked_number;
-use held_region::FORBIDDEN;
+use answers::Numbered;
+use held_region::{FORBIDDEN, Refusal};
 use line_reader::line_end;
 use reader::load;
-use scanner::{ItemStep, Number, Passed, bytes_at, item_step, number_at, open_at};
+use scanner::bytes_at;
+use table_reader::members_at;
 
-// Question 21: are the typed bytes a list of members, with nothing after it? None of them is held.
-fn typed_right(typed: &[u8]) -> bool
-    ensures { result ≡ typed_right typed.now }
-{
-    let Passed::At(start) = open_at(typed, 0) else {
-        return false;
-    };
-    let mut i = start;
-    loop {
-        let Number::Value(_, end) = number_at(typed, i) else {
-            return false;
-        };
-        match item_step(typed, end) {
-            ItemStep::Next(next) => {
-                i = next;
-            }
-            ItemStep::Closed(next) => {
-                return typed.len() <= next;
-            }
-            ItemStep::Nothing => {
-                return false;
-            }
+// Why no line is looked for. Typed: question 21 is answered no.
+#[derive(Clone, Copy, PartialEq, Eq)]
+pub enum LineError {
+    Refused(Refusal),
+    Typed,
+}
+
+impl From<Refusal> for LineError {
+    ghost from_gives = { λ refusal error. error ≡ Lines.Refused refusal };
+
+    fn from(refused: Refusal) -> LineError {
+        LineError::Refused(refused)
+    }
+}
+
+impl Numbered for LineError {
+    ghost number_in = { line_error_number };
+
+    fn number(self) -> u64 {
+        match self {
+            LineError::Refused(refusal) => refusal.number(),
+            LineError::Typed => 21,
         }
     }
 }
 
-// Does a line begin as the line of a table over the typed members does?
-fn begins_with(line: &[u8], typed: &[u8]) -> bool
-    ensures { result ≡ begins typed.now line.now }
+// Question 21: are the typed bytes a list of members, with nothing after it?
+fn typed_right(typed: &[u8]) -> bool
+    ensures { result ≡ typed_right typed.now }
 {
-    let Passed::At(members) = bytes_at(line, 0, b"(cost ") else {
-        return false;
-    };
-    let Passed::At(end) = bytes_at(line, members, typed) else {
-        return false;
-    };
-    match bytes_at(line, end, b" (") {
-        Passed::At(_) => true,
-        Passed::Nothing => false,
+    match members_at(typed, 0) {
+        Some(list) => typed.len() <= list.next,
+        None => false,
     }
 }
 
-// The number of the question answered no, or 0, and the place and the length of the line, its line end left out.
+// The place after what the line of a table over the typed members begins with.
+fn opening_end(line: &[u8], typed: &[u8]) -> Option<usize>
+    ensures { ReadAt (exactly (opening typed.now)) line.now 0 (passed result) }
+{
+    let members = bytes_at(line, 0, b"(cost ")?;
+    let end = bytes_at(line, members, typed)?;
+    bytes_at(line, end, b" (")
+}
+
+fn begins_with(line: &[u8], typed: &[u8]) -> bool
+    ensures { result ≡ begins typed.now line.now }
+{
+    opening_end(line, typed).is_some()
+}
+
+// The place and the length of a line, its line end left out.
 #[derive(Clone, Copy)]
-pub struct FoundLine {
-    pub number: u64,
+pub struct Part {
     pub start: usize,
     pub size: usize,
 }
 
-// No line: the empty part at the end of a file of this length.
-fn no_line(number: u64, length: usize) -> FoundLine
-    ensures { line_of result ≡ no_line number length }
+// The first line of a file that begins so; where none does, the empty part at the end.
+fn first_line(file: &[u8], typed: &[u8]) -> Part
+    ensures { part_said result ≡ first_line (begins typed.now) 0 (lines file.now) }
 {
-    FoundLine {
-        number: number,
-        start: length,
+    let mut start = 0;
+    while start < file.len() {
+        let end = line_end(file, start);
+        if begins_with(&file[start..end], typed) {
+            return Part {
+                start,
+                size: end - start - 1,
+            };
+        }
+        start = end;
+    }
+    Part {
+        start: file.len(),
         size: 0,
     }
 }
 
-// The first line of a file that begins so.
-fn first_line(file: &[u8], typed: &[u8]) -> FoundLine
-    ensures { line_of result ≡ record { number = 0; part = first_line (begins typed.now) 0 (lines file.now) } }
-{
-    let mut i = 0;
-    while i < file.len() {
-        let end = line_end(file, i);
-        if begins_with(&file[i..end], typed) {
-            return FoundLine {
-                number: 0,
-                start: i,
-                size: end - i - 1,
-            };
-        }
-        i = end;
-    }
-    no_line(0, file.len())
-}
-
 // Questions 1 to 10 and 21, then the line.
-pub fn find_line(file: &[u8], typed: &[u8]) -> FoundLine
-    ensures { line_of result ≡ line_outcome file.now typed.now }
+pub fn find_line(file: &[u8], typed: &[u8]) -> Result<Part, LineError>
+    ensures { line_of (length file.now) result ≡ line_outcome file.now typed.now }
 {
     let mut store = [FORBIDDEN; 4096];
-    let read = load(file, &mut store, true);
-    let answer = read.answer;
-    let number = checked_number(answer);
-    if number != 0 {
-        return no_line(number, file.len());
-    }
+    load(file, &mut store, true)?;
     if !typed_right(typed) {
-        return no_line(21, file.len());
+        return Err(LineError::Typed);
     }
-    first_line(file, typed)
+    Ok(first_line(file, typed))
 }

@@ -160,21 +160,22 @@ module _ {s : List ℕ} (h : short_enough s ≡ true) {o : Code.Option Laid} {be
 
 -- ---- what is loaded
 
+-- No question has the number 0.
+pub asks_one : (q : Refusal) → question_of q ≡ 0 → ⊥
+asks_one TooLong e = omega arith
+asks_one Layout e = omega arith
+asks_one Counts e = omega arith
+asks_one Sum e = omega arith
+asks_one Limits e = omega arith
+asks_one Patients e = omega arith
+asks_one Members e = omega arith
+asks_one EntryCounts e = omega arith
+asks_one Entries e = omega arith
+asks_one Ancestors e = omega arith
+
 -- A refusal by the first four questions is one by all.
 first_refused_lem : (q : Refusal) (these those : Asked) → question_of q ≡ first_no these → question_of q ≡ first_no (these ++ those)
 first_refused_lem q [] those e = absurd (asks_one q e)
-  where
-    asks_one : (q : Refusal) → question_of q ≡ 0 → ⊥
-    asks_one TooLong e = omega arith
-    asks_one Layout e = omega arith
-    asks_one Counts e = omega arith
-    asks_one Sum e = omega arith
-    asks_one Limits e = omega arith
-    asks_one Patients e = omega arith
-    asks_one Members e = omega arith
-    asks_one EntryCounts e = omega arith
-    asks_one Entries e = omega arith
-    asks_one Ancestors e = omega arith
 first_refused_lem q ((n, true) ∷ these) those e = first_refused_lem q these those e
 first_refused_lem q ((n, false) ∷ these) those e = e
 

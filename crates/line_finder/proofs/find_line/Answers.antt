@@ -1,32 +1,27 @@
-use mathlib.Core.Path.{sym, ◌∙◌}
-use Rattle.lists.specs.Tests.{answered_no, answered_yes}
-use Rattle.reader.specs.Loading.{checks}
-use Rattle.line_finder.proofs.Answered.{file_refused, typed_refused, line_there}
-use mathlib.Core.Path.{ap}
+use mathlib.Core.Path.{sym, ap, ◌∙◌}
 use mathlib.Core.Bool.{not}
+use Rattle.std.proofs.lemmas.Result.{err_from_is_err_and}
+use Rattle.definitions.specs.Lookup.{LineOutcome}
+use Rattle.lists.specs.Tests.{answered_no, answered_yes}
+use Rattle.held_region.specs.Refusals.{number_of}
+use Rattle.reader.specs.Loading.{checks}
+use Rattle.reader.specs.Fine.{accepted_fine}
+use Rattle.reader.proofs.Loads.{asks_one}
+use Rattle.line_finder.proofs.Answered.{file_refused, typed_refused, line_there}
 use Rattle.line_finder.proofs.find_line.Goals as goal
 
-pub returns-then-number-ne0 : goal.returns-then-number-ne0
-returns-then-number-ne0 c =
-    let checked = c in
-    let read = checked in
-    let a = read.args in
-    c.no_line.ensures ∙ file_refused a.file.now a.typed.now (checked.checked_number-number.ensures ∙ checks read.load-read.ensures) c.if-number-ne0.true
+pub returns-in_err-load : goal.returns-in_err-load
+returns-in_err-load c =
+    let p = err_from_is_err_and c.from_residual.result c.from_residual.ensures.1 in
+    rw (p.1, p.2) (file_refused _ _ (sym (ap number_of c.in_err-load.was) ∙ checks c.load.ensures) (asks_one _))
 
 pub returns-then-not-typed_right : goal.returns-then-not-typed_right
 returns-then-not-typed_right c =
-    let typed = c in
-    let checked = typed in
-    let read = checked in
-    let a = read.args in
-    let fine = sym (checked.checked_number-number.ensures ∙ checks read.load-read.ensures) ∙ typed.if-number-ne0.false in
-    c.no_line-then-not-typed_right.ensures ∙ typed_refused a.file.now a.typed.now fine (answered_no typed.typed_right.ensures (ap not c.if-not-typed_right.true))
+    let fine = accepted_fine c.args.file.now _ c.load.ensures c.in_ok-load.was in
+    typed_refused _ _ fine (answered_no c.typed_right.ensures (ap not c.if-not-typed_right.true))
 
 pub returns : goal.returns
 returns c =
-    let typed = c in
-    let checked = typed in
-    let read = checked in
-    let a = read.args in
-    let fine = sym (checked.checked_number-number.ensures ∙ checks read.load-read.ensures) ∙ typed.if-number-ne0.false in
-    c.first_line.ensures ∙ line_there a.file.now a.typed.now fine (answered_yes typed.typed_right.ensures (ap not c.if-not-typed_right.false))
+    let fine = accepted_fine c.args.file.now _ c.load.ensures c.in_ok-load.was in
+    ap {B = LineOutcome} (λ part. record { number = 0; part = part }) c.first_line.ensures
+    ∙ line_there _ _ fine (answered_yes c.typed_right.ensures (ap not c.if-not-typed_right.false))
