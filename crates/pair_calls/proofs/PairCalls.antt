@@ -1,5 +1,5 @@
 -- Price, line and join as calls from C, from what the entry gives and what is written of it.
-use mathlib.Core.Path.{◌≡◌, sym, ap, ap₂, ◌∙◌}
+use mathlib.Core.Path.{◌≡◌, refl, sym, ap, ap₂, ◌∙◌}
 use Prim.Native.Nat.{◌≤◌, ◌<◌, ◌-◌}
 use native.Mathlib.Omega.{arith}
 use borrow.Author.Tests.{lt-leb, le-leb}
@@ -14,8 +14,10 @@ use Rattle.definitions.specs.Boundary.{room_for_numbers, result_after, PairCall,
 use Rattle.theorems.specs.Answers.{Numbered}
 use Rattle.theorems.specs.Refusals.{price_number, after_check, refused_before}
 use Rattle.byte_areas.specs.Results.{result_short}
-use Rattle.line_finder.specs.declared.FoundLine.{FoundLine}
-use Rattle.line_finder.specs.Found.{line_of}
+use Rattle.line_finder.specs.declared.LineError.{LineError}
+use Rattle.line_finder.specs.declared.LineError.TheVariants.{Refused, Typed}
+use Rattle.line_finder.specs.Found.{line_error_number}
+use Rattle.answers.specs.Numbers.{refusal_number_lem}
 use Rattle.answers.specs.Rooms.{or_twelve, with_room, without_room}
 
 -- The number of such a call, by the length of its result area.
@@ -65,18 +67,10 @@ module _ (file typed result : List ℕ) where
       ap {B = PairCall} (λ r. record { number = o.number; result = r }) stored
       ∙ ap (λ q. line_call_of q result) (e ∙ ap {B = LineOutcome} (λ n. record { number = n; part = part_unless_refused n file (line_over file typed) }) (sym (long_number (asked_by_line file typed) result h)))
 
--- What the result area holds of a found line, by its number.
-module _ (found : FoundLine) (result : List ℕ) where
-  abbrev left : ℕ → List ℕ
-  left number = result_after (part_numbers number (line_of found).part) result
-
-  pub found_numbers : found.number ≡ 0 → result_after (found.start ∷ found.size ∷ []) result ≡ left found.number
-  found_numbers e = ap left (sym e)
-
-  pub refused_numbers : (found.number ≡ 0 → ⊥) → result_after (0 ∷ 0 ∷ []) result ≡ left found.number
-  refused_numbers some_no =
-      let some : suc (found.number - 1) ≡ found.number = omega arith in
-      ap left some
+-- What the result area holds of a line that is not looked for: zeros, since its number is that of a question.
+pub refused_numbers : (error : LineError) (part : FilePart) (result : List ℕ) → result_after (0 ∷ 0 ∷ []) result ≡ result_after (part_numbers (line_error_number error) part) result
+refused_numbers (Refused refusal) part result = ap (λ number. result_after (part_numbers number part) result) (sym (refusal_number_lem refusal))
+refused_numbers Typed part result = refl
 
 -- ---- join
 

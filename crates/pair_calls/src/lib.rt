@@ -6,7 +6,7 @@ ghost use Rattle.definitions.specs.Questions.{first_no, asked_by_check, check_of
 ghost use Rattle.definitions.specs.Boundary.{price_call, line_call, join_call};
 ghost use Rattle.answers.specs.Rooms.{or_twelve};
 
-use answers::{checked_number, or_twelve, price_values};
+use answers::{Numbered, checked_number, or_twelve, price_values};
 use byte_areas::{PAIR, store_price, store_result};
 use file_answers::join_values;
 use joiner::join;
@@ -17,8 +17,7 @@ use planner::{check, price};
 fn number_without_room(file: &[u8]) -> u64
     ensures { result ≡ or_twelve (check_of file.now) }
 {
-    let answer = check(file);
-    or_twelve(checked_number(answer))
+    or_twelve(checked_number(check(file)))
 }
 
 pub fn price_call(file: &[u8], plan: &[u8], res: &mut [u8]) -> u64
@@ -39,25 +38,26 @@ pub fn line_call(file: &[u8], typed: &[u8], res: &mut [u8]) -> u64
     if res.len() < PAIR {
         return number_without_room(file);
     }
-    let found = find_line(file, typed);
-    if found.number == 0 {
-        store_result(res, &[found.start as u64, found.size as u64]);
-    } else {
-        store_result(res, &[0, 0]);
+    match find_line(file, typed) {
+        Ok(part) => {
+            store_result(res, &[part.start as u64, part.size as u64]);
+            0
+        }
+        Err(error) => {
+            store_result(res, &[0, 0]);
+            error.number()
+        }
     }
-    found.number
 }
 
 // The number of a join whose result area is too short: that of the first file, else that of the second, else 12.
 fn join_without_room(first: &[u8], second: &[u8]) -> u64
     ensures { result ≡ or_twelve (first_no (asked_by_check first.now ++ asked_by_check second.now)) }
 {
-    let answer = check(first);
-    let number = checked_number(answer);
-    if number != 0 {
-        return number;
+    match check(first) {
+        Ok(()) => number_without_room(second),
+        Err(refusal) => refusal.number(),
     }
-    number_without_room(second)
 }
 
 // The byte count, and which file the number is about, on a refusal too.

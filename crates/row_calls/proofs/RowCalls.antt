@@ -21,7 +21,7 @@ use Rattle.lists.specs.Tests.{both}
 use Rattle.theorems.specs.Accepted.{accepted, plans_wanted_lem}
 use Rattle.byte_areas.specs.Room.{cost_room, room_same, room_most}
 use Rattle.byte_areas.specs.Costs.{held_costs, stored_costs}
-use Rattle.answers.specs.declared.RowValues.{RowValues}
+use Rattle.answers.specs.declared.Counted.{Counted}
 use Rattle.region_answers.specs.Found.{found_with, AsksTwelve}
 
 -- The part of 64 places that is lent is as long as the room.
@@ -110,14 +110,14 @@ module _ (file beds costs result : List ℕ) (n : ℕ) (room : n ≡ cost_room (
   own_long : length own ≡ work_size
   own_long = length-replicate {A = ℕ} work_size 0
 
-  module _ {o : ListOutcome} (outcome : o ≡ outcome_of (found (areas_long_enough (region_of file) beds part own)) beds part own) {values : RowValues} (said : (values.number ≡ o.number) × (values.rows ≡ o.rows)) where
+  module _ {o : ListOutcome} (outcome : o ≡ outcome_of (found (areas_long_enough (region_of file) beds part own)) beds part own) {values : Counted} (said : (values.number ≡ o.number) × (values.count ≡ o.rows)) where
     -- There is room to store as many costs as the answer has rows.
-    pub values_room : (values.rows ≤ 64) × (values.rows * 8 ≤ length costs)
+    pub values_room : (values.count ≤ 64) × (values.count * 8 ≤ length costs)
     values_room = rw said.1 (rows_room file beds costs result part own part_long own_long found twelve outcome)
 
     -- The call, from what the entry gives and what is stored of it.
     pub values_called : (rest : List ℕ) {costs_after result_afterwards : List ℕ}
-        → (costs_after ≡ written 0 8 (bytes_of 8) (take values.rows (o.costs ++ rest)) costs) × (result_afterwards ≡ result_after (values.rows ∷ []) result)
+        → (costs_after ≡ written 0 8 (bytes_of 8) (take values.count (o.costs ++ rest)) costs) × (result_afterwards ≡ result_after (values.count ∷ []) result)
         → record { number = values.number; beds = o.beds; costs = costs_after; result = result_afterwards }
         ≡ call_of (found (room_for_rows (region_of file) 8 beds costs && room_for_numbers 1 result)) beds costs result
     values_called rest left =

@@ -4,7 +4,7 @@
 ghost use Rattle.std.specs.Prelude.{◌≡◌};
 ghost use Rattle.definitions.specs.Boundary.{list_call, sheet_call};
 
-use answers::{list_values, sheet_values};
+use answers::Counted;
 use byte_areas::{cost_room, store_rows};
 use planner::{list, sheet};
 use row_writer::WORK;
@@ -15,9 +15,9 @@ pub fn list_call(file: &[u8], beds: &mut [u8], costs: &mut [u8], res: &mut [u8])
     let room = cost_room(costs.len(), res.len());
     let mut held = [0u32; 64];
     let mut work = [0u32; WORK];
-    let answer = list(file, beds, &mut held[0..room], &mut work);
-    let listed = list_values(answer);
-    store_rows(costs, res, &held, listed.rows);
+    let answer = list(file, beds, &mut held[..room], &mut work);
+    let listed = Counted::of(answer);
+    store_rows(costs, res, &held, listed.count);
     listed.number
 }
 
@@ -34,8 +34,8 @@ pub fn sheet_call(
     let room = cost_room(costs.len(), res.len());
     let mut held = [0u32; 64];
     let mut work = [0u32; WORK];
-    let answer = sheet(file, clinic, beds, &mut held[0..room], &mut work);
-    let sheeted = sheet_values(answer);
-    store_rows(costs, res, &held, sheeted.rows);
+    let answer = sheet(file, clinic, beds, &mut held[..room], &mut work);
+    let sheeted = Counted::of(answer);
+    store_rows(costs, res, &held, sheeted.count);
     sheeted.number
 }

@@ -20,7 +20,7 @@ store_rows-requires c =
     let room = c.cost_room-room in
     values_room a.file.now a.beds.now a.costs.now a.res.now room.result room.ensures
     (λ long. list_found a.file.now (entry_asks (asked_by_list a.file.now long))) (list_twelve a.file.now)
-    c.list-answer.ensures c.list_values-listed.ensures
+    c.list-answer.ensures c.of-listed.ensures
 
 pub returns : goal.returns
 unfolding list_outcome
@@ -29,5 +29,5 @@ returns c =
     let room = c.cost_room-room in
     values_called a.file.now a.beds.now a.costs.now a.res.now room.result room.ensures
     (λ long. list_found a.file.now (entry_asks (asked_by_list a.file.now long))) (list_twelve a.file.now)
-    c.list-answer.ensures c.list_values-listed.ensures _ c.store_rows.ensures
+    c.list-answer.ensures c.of-listed.ensures _ c.store_rows.ensures
     ∙ list_call_lem a.file.now a.beds.now a.costs.now a.res.now

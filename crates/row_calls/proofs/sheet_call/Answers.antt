@@ -20,7 +20,7 @@ store_rows-requires c =
     let room = c.cost_room-room in
     values_room a.file.now a.beds.now a.costs.now a.res.now room.result room.ensures
     (λ long. sheet_found a.file.now a.clinic (entry_asks (asked_by_sheet a.file.now a.clinic long))) (sheet_twelve a.file.now a.clinic)
-    c.sheet-answer.ensures c.sheet_values-sheeted.ensures
+    c.sheet-answer.ensures c.of-sheeted.ensures
 
 pub returns : goal.returns
 unfolding sheet_outcome
@@ -29,5 +29,5 @@ returns c =
     let room = c.cost_room-room in
     values_called a.file.now a.beds.now a.costs.now a.res.now room.result room.ensures
     (λ long. sheet_found a.file.now a.clinic (entry_asks (asked_by_sheet a.file.now a.clinic long))) (sheet_twelve a.file.now a.clinic)
-    c.sheet-answer.ensures c.sheet_values-sheeted.ensures _ c.store_rows.ensures
+    c.sheet-answer.ensures c.of-sheeted.ensures _ c.store_rows.ensures
     ∙ sheet_call_lem a.file.now a.beds.now a.costs.now a.res.now a.clinic
