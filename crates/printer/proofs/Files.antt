@@ -3,29 +3,24 @@ use mathlib.Core.Path.{◌≡◌, refl, sym, ap, ◌∙◌}
 use native.Mathlib.Omega.{arith}
 use Prim.Native.Nat.{◌≤◌}
 use borrow.Author.Tests.{le-leb, lt-leb}
-use Rattle.std.specs.Prelude.{◌<◌, ◌∷◌}
+use Rattle.std.specs.Prelude.{Result, Ok, Err, ◌<◌, ◌∷◌}
 use Rattle.definitions.specs.Basics.{ℕ, zero, suc, true, List, [], length, sets, text}
 use Rattle.definitions.specs.Spelling.{decimal, line}
 use Rattle.definitions.specs.Questions.{region_of, asked_by_list, check_of, plan_allowed}
 use Rattle.definitions.specs.Output.{printed_answer, printed}
-use Rattle.held_region.specs.declared.Judged.{Judged}
-use Rattle.held_region.specs.declared.Judged.TheVariants.{Fine, Refused}
+use Rattle.held_region.specs.declared.Region.{Region}
+use Rattle.held_region.specs.declared.Refusal.{Refusal}
 use Rattle.held_region.specs.Refusals.{number_of}
-use Rattle.reader.specs.declared.Loaded.{Loaded}
 use Rattle.reader.specs.Loading.{LoadedFrom, checks}
 use Rattle.theorems.specs.Refusals.{after_check}
 use Rattle.theorems.specs.Refused.{refused_alike}
+use Rattle.answers.specs.Answers.{refusal_number}
 use Rattle.answers.specs.Numbers.{refusal_number_lem}
-use Rattle.reader.specs.Fine.{region_fine}
+use Rattle.reader.specs.Fine.{accepted_fine, region_fine}
 use Rattle.text_writer.specs.Wrote.{Room, Wrote}
 use Rattle.row_printer.specs.Whole.{printed_size}
 use Rattle.printer.specs.Printing.{PrintOutcome, print_outcome}
 use Rattle.printer.specs.Steps.{region_text, AsksText, GivesText}
-
--- Only an accepted file has number 0.
-fine : (answer : Judged) → number_of answer ≡ 0 → answer ≡ Fine
-fine Fine e = refl
-fine (Refused refusal) e = let n = refusal_number_lem refusal in absurd (omega (arith, e, n))
 
 module _ (file out : List ℕ) where
   -- A short area is untouched; in any other the text is written.
@@ -46,7 +41,13 @@ module _ (file out : List ℕ) where
     room = omega (arith, printed_size file, long)
 
     -- Questions 1 to 10.
-    module _ (q : ℕ) (number : q ≡ check_of file) (refused : q ≡ 0 → ⊥) where
+    module _ {loaded : Result Region Refusal} {store : List ℕ} (from : LoadedFrom true file loaded store) {refusal : Refusal} (is : loaded ≡ Err refusal) (q : ℕ) (said : q ≡ refusal_number refusal) where
+      number : q ≡ check_of file
+      number = said ∙ sym (ap number_of is) ∙ checks from
+
+      refused : q ≡ 0 → ⊥
+      refused none = let n = refusal_number_lem refusal in omega (arith, n, said, none)
+
       refused_said : printed file ≡ line (text "refused" ∷ decimal q ∷ [])
       refused_said = go q number refused
         where
@@ -62,23 +63,17 @@ module _ (file out : List ℕ) where
       refused_written wrote = text_written (let same = refused_said in rw same wrote)
 
     -- An accepted file.
-    module _ (loaded : Loaded) (store : List ℕ) (from : LoadedFrom true file loaded store) (q : ℕ) (number : q ≡ number_of loaded.answer) (none_refused : q ≡ 0) where
-      checked : check_of file ≡ 0
-      checked = sym (checks from) ∙ sym number ∙ none_refused
-
-      holds : loaded.answer ≡ Fine
-      holds = fine loaded.answer (sym number ∙ none_refused)
-
+    module _ {loaded : Result Region Refusal} {store : List ℕ} (from : LoadedFrom true file loaded store) {region : Region} (holds : loaded ≡ Ok region) where
       region_said_lem : printed file ≡ region_text (region_of file)
       unfolding printed asked_by_list region_text
-      region_said_lem = ap (λ n. printed_answer n (region_of file)) (after_check file ((12, true) ∷ (13, plan_allowed (region_of file)) ∷ []) checked)
+      region_said_lem = ap (λ n. printed_answer n (region_of file)) (after_check file ((12, true) ∷ (13, plan_allowed (region_of file)) ∷ []) (accepted_fine file loaded from holds))
 
-      pub asks_text : (work : List ℕ) → 1_152 ≤ length work → AsksText loaded.region store out work
+      pub asks_text : (work : List ℕ) → 1_152 ≤ length work → AsksText region store out work
       asks_text work enough = record {
         accepted = region_fine file loaded from holds;
         long = enough;
         room = omega (arith, ap length (region_said_lem ∙ ap region_text (sym (from.says holds))), room);
       }
 
-      pub region_written : {after : List ℕ} {end : ℕ} → GivesText loaded.region store out after end → record { count = end; out = after } ≡ print_outcome file out
+      pub region_written : {after : List ℕ} {end : ℕ} → GivesText region store out after end → record { count = end; out = after } ≡ print_outcome file out
       region_written gives = text_written (let same = region_said_lem ∙ ap region_text (sym (from.says holds)) in rw same gives)

@@ -5,7 +5,6 @@ use native.Mathlib.Omega.{arith}
 use Prim.Native.Nat.{◌≤◌}
 use Rattle.std.specs.Prelude.{◌+◌, ◌<◌, ◌∷◌}
 use Rattle.definitions.specs.Basics.{ℕ, List, [], flatten}
-use Rattle.definitions.specs.Syntax.{Region}
 use Rattle.held_region.specs.declared.Region as Code
 use Rattle.held_region.specs.Meaning.{said}
 use Rattle.text_writer.specs.Wrote.{Left, none_yet, room_for, then_left}

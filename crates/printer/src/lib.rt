@@ -5,7 +5,7 @@ ghost use Rattle.printer.specs.Printing.{print_outcome};
 ghost use Rattle.printer.specs.Steps.{AsksClinic, GivesClinic, AsksSheets, GivesSheets, AsksText, GivesText};
 ghost use Rattle.std.specs.Prelude.{◌≡◌};
 
-use answers::checked_number;
+use answers::Numbered;
 use held_region::{FORBIDDEN, Region};
 use limits::{Field, highest};
 use reader::load;
@@ -57,10 +57,8 @@ fn print_sheets(
 {
     let clinics = highest(Field::Clinic) as u64 + 1;
     let mut next = at;
-    let mut clinic: u64 = 0;
-    while clinic < clinics {
+    for clinic in 0..clinics {
         next = print_clinic(out, next, work, region, store, n, clinic);
-        clinic += 1;
     }
     next
 }
@@ -86,12 +84,11 @@ pub fn print(file: &[u8], out: &mut [u8]) -> usize
         return 0;
     }
     let mut store = [FORBIDDEN; 4096];
-    let read = load(file, &mut store, true);
-    let answer = read.answer;
-    let number = checked_number(answer);
-    if number != 0 {
-        return print_refusal(out, 0, number);
+    match load(file, &mut store, true) {
+        Err(refusal) => print_refusal(out, 0, refusal.number()),
+        Ok(region) => {
+            let mut work = [0; WORK];
+            print_region(out, &mut work, region, &store)
+        }
     }
-    let mut work = [0u32; WORK];
-    print_region(out, &mut work, read.region, &store)
 }

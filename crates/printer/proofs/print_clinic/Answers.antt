@@ -8,38 +8,22 @@ clinic_patients-set-requires c = accepted_sound _ _ c.requires.listed.accepted
 
 pub returns-then-is_empty : goal.returns-then-is_empty
 returns-then-is_empty c =
-    let asked = c in
-    let clinic = asked in
-    let start = clinic in
-    let a = start.args in
-    clinic_absent _ _ a.out.now a.work.now start.requires clinic.clinic_patients-set.result.0 (clinic.clinic_patients-set.ensures _) asked.is_empty.ensures c.if-is_empty.true
+    let a = c.args in
+    clinic_absent _ _ a.out.now a.work.now c.requires c.clinic_patients-set.result.0 (c.clinic_patients-set.ensures _) c.is_empty.ensures c.if-is_empty.true
 
 pub sheet_rows-rows-requires : goal.sheet_rows-rows-requires
 sheet_rows-rows-requires c =
-    let asked = c in
-    let clinic = asked in
-    let start = clinic in
-    let a = start.args in
-    asks_sheet _ _ a.out.now a.work.now start.requires clinic.clinic_patients-set.result.0 (clinic.clinic_patients-set.ensures _) asked.is_empty.ensures
+    let a = c.args in
+    asks_sheet _ _ a.out.now a.work.now c.requires c.clinic_patients-set.result.0 (c.clinic_patients-set.ensures _) c.is_empty.ensures
 
 pub print_sheet-requires : goal.print_sheet-requires
 unfolding work_part
 print_sheet-requires c =
-    let sized = c in
-    let collected = sized in
-    let asked = collected in
-    let clinic = asked in
-    let start = clinic in
-    let a = start.args in
-    printable _ _ a.out.now a.work.now start.requires clinic.clinic_patients-set.result.0 (clinic.clinic_patients-set.ensures _) asked.is_empty.ensures collected.if-is_empty.false collected.sheet_rows-rows.ensures sized.size-k.ensures
+    let a = c.args in
+    printable _ _ a.out.now a.work.now c.requires c.clinic_patients-set.result.0 (c.clinic_patients-set.ensures _) c.is_empty.ensures c.if-is_empty.false c.sheet_rows-rows.ensures c.size-k.ensures
 
 pub returns : goal.returns
 unfolding work_part
 returns c =
-    let sized = c in
-    let collected = sized in
-    let asked = collected in
-    let clinic = asked in
-    let start = clinic in
-    let a = start.args in
-    clinic_printed _ _ a.out.now a.work.now start.requires clinic.clinic_patients-set.result.0 (clinic.clinic_patients-set.ensures _) asked.is_empty.ensures collected.if-is_empty.false collected.sheet_rows-rows.ensures sized.size-k.ensures c.print_sheet.ensures
+    let a = c.args in
+    clinic_printed _ _ a.out.now a.work.now c.requires c.clinic_patients-set.result.0 (c.clinic_patients-set.ensures _) c.is_empty.ensures c.if-is_empty.false c.sheet_rows-rows.ensures c.size-k.ensures c.print_sheet.ensures

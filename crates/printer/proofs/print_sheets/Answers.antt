@@ -1,4 +1,3 @@
-use Prim.Native.Nat.{◌-◌}
 use native.Mathlib.Omega.{arith}
 use Rattle.definitions.specs.Limits.{limits}
 use Rattle.printer.proofs.Sheets.{none_printed, asks_clinic, clinic_more, all_printed}
@@ -13,26 +12,14 @@ loop-clinic-init c = none_printed _ _ _ _
 
 pub print_clinic-next-requires : goal.print_clinic-next-requires
 print_clinic-next-requires c =
-    let turn = c in
-    let l = turn.loop-clinic in
-    let limit = turn in
-    let start = limit in
-    asks_clinic _ _ start.args.out.now start.args.work.now l.clinic l.invariant start.requires
-    (omega (arith, limit.highest.ensures, turn.loop-clinic-test.true))
-
-pub overflow_add-clinic : goal.overflow_add-clinic
-unfolding limits
-overflow_add-clinic c =
-    let turn = c in
-    omega (arith, turn.highest.ensures, turn.loop-clinic-test.true)
+    let l = c.loop-clinic in
+    asks_clinic _ _ c.args.out.now c.args.work.now l.clinic l.invariant c.requires
+    (omega (arith, c.highest.ensures, c.loop-clinic-test.true))
 
 pub loop-clinic-preserved : goal.loop-clinic-preserved
 loop-clinic-preserved c =
-    let printed = c in
-    let turn = printed in
-    let l = turn.loop-clinic in
-    let limit = turn in
-    clinic_more _ _ _ _ l.clinic l.invariant (omega (arith, limit.highest.ensures, turn.loop-clinic-test.true)) printed.print_clinic-next.ensures
+    let l = c.loop-clinic in
+    clinic_more _ _ _ _ l.clinic l.invariant (omega (arith, c.highest.ensures, c.loop-clinic-test.true)) c.print_clinic-next.ensures
 
 pub shape_of-out : goal.shape_of-out
 shape_of-out c =
