@@ -31,16 +31,7 @@ fn pass_eights(s: &[u8], at: usize) -> usize
     ensures { Seeking s.now at result }
 {
     let mut i = at;
-    while i < s.len() {
-        if s.len() - i < 8 {
-            return i;
-        }
-        if !no_end_in_four(s, i) {
-            return i;
-        }
-        if !no_end_in_four(s, i + 4) {
-            return i;
-        }
+    while i < s.len() && s.len() - i >= 8 && no_end_in_four(s, i) && no_end_in_four(s, i + 4) {
         i += 8;
     }
     i
