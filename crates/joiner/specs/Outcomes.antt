@@ -1,5 +1,5 @@
 -- What join gives back, by the answers to the questions of the first file, of the second, and of both.
-use Rattle.std.specs.Prelude.{◌≡◌, refl, ◌-◌}
+use Rattle.std.specs.Prelude.{◌≡◌, refl, ◌-◌, Option, Some, None, Result, Err}
 use Rattle.std.proofs.Math.Path.{sym, ap, ap₂}
 use Rattle.std.proofs.Common.{◌∙◌, append_assoc, arith, ne_eqb, ◌∷◌, ◌++◌}
 use Rattle.definitions.specs.Basics.{ℕ, suc, true, false, cond, List, [], eqb}
@@ -13,12 +13,12 @@ use Rattle.theorems.specs.Answers.{no_then}
 use Rattle.theorems.specs.Refusals.{after_check, refused_before}
 use Rattle.theorems.specs.Writer.{made_with}
 use Rattle.held_region.specs.declared.Refusal.{Refusal}
-use Rattle.file_answers.specs.declared.Joined.TheVariants as Joins
-use Rattle.file_answers.specs.declared.Joined.TheVariants.{RefusedFirst, RefusedSecond, Shared, TooMany}
+use Rattle.std.specs.Option.{ok_or}
+use Rattle.file_answers.specs.declared.JoinError.{JoinError}
+use Rattle.file_answers.specs.declared.JoinError.TheVariants.{FirstRefused, SecondRefused, Shared, TooMany, Short}
 use Rattle.answers.specs.Answers.{refusal_number}
 use Rattle.file_answers.specs.Answers.{joined_outcome}
 use Rattle.answers.specs.Numbers.{refusal_number_lem}
-use Rattle.writer.specs.declared.Placed.{Placed}
 use Rattle.writer.specs.Outcomes.{placed_outcome, placing, then_placed, refused_with_lem}
 
 -- The file of two regions that are joined; what is asked of both.
@@ -53,7 +53,7 @@ not_zero {n} e = ne_eqb n 0 (λ z. omega (arith, e, z))
 
 module _ (f g output : List ℕ) where
   -- The number is the first file's, and so it is about the first file.
-  pub first_refused_lem : (refusal : Refusal) → refusal_number refusal ≡ check_of f → joined_outcome (RefusedFirst refusal) output ≡ join_outcome f g output
+  pub first_refused_lem : (refusal : Refusal) → refusal_number refusal ≡ check_of f → joined_outcome (Err (FirstRefused refusal)) output ≡ join_outcome f g output
   unfolding join_outcome joined_file asked_by_join refused_file write_outcome_of
   first_refused_lem refusal e = ap₂ about which (refused_with_lem (asked ++ later) (joined_file f g) output refusal (number ∙ sym (refusal_number_lem refusal)))
     where
@@ -82,7 +82,7 @@ module _ (f g output : List ℕ) where
       (ap (λ n. cond (eqb n 0) (cond (eqb (check_of g) 0) neither_file second_file) first_file) e))
 
 module _ (r : Region) (g output : List ℕ) where
-  pub second_refused_lem : (refusal : Refusal) → refusal_number refusal ≡ check_of g → joined_outcome (RefusedSecond refusal) output ≡ once_accepted r g output
+  pub second_refused_lem : (refusal : Refusal) → refusal_number refusal ≡ check_of g → joined_outcome (Err (SecondRefused refusal)) output ≡ once_accepted r g output
   unfolding once_accepted
   second_refused_lem refusal e =
       let later = asked_of_both r (region_of g) output in
@@ -95,21 +95,26 @@ module _ (r : Region) (g output : List ℕ) where
   second_accepted e =
       sym (about_both (asked_by_check g ++ asked_of_both r (region_of g) output) (asked_of_both r (region_of g) output) (file_of_both r (region_of g)) output (after_check g (asked_of_both r (region_of g) output) e) (ap (λ n. cond (eqb n 0) neither_file second_file) e))
 
+-- The answer of a file that is placed, or not.
+pub joined_placed : (placed : Option ℕ) {answer : Result ℕ JoinError} {after : List ℕ} → answer ≡ ok_or placed Short → joined_outcome answer after ≡ about neither_file (placed_outcome placed after)
+joined_placed None {answer} {after} is = ap (λ a. joined_outcome a after) is
+joined_placed (Some n) {answer} {after} is = ap (λ a. joined_outcome a after) is
+
 -- Both are accepted: a no to 16, a no to 17, and a yes to both, after which the file is placed.
 module _ (r s : Region) (output : List ℕ) where
-  pub clinics_shared : clinics_apart r s ≡ false → joined_outcome Shared output ≡ once_both r s output
+  pub clinics_shared : clinics_apart r s ≡ false → joined_outcome (Err Shared) output ≡ once_both r s output
   unfolding once_both
   clinics_shared e = ap (about neither_file) (sym (made_with (asked_of_both r s output) (file_of_both r s) output (ap (λ b. first_no ((16, b) ∷ (17, join_within r s) ∷ (15, room_for_file (file_of_both r s) output) ∷ [])) e)))
 
   module _ (apart : clinics_apart r s ≡ true) where
-    pub too_many : join_within r s ≡ false → joined_outcome TooMany output ≡ once_both r s output
+    pub too_many : join_within r s ≡ false → joined_outcome (Err TooMany) output ≡ once_both r s output
     unfolding once_both
     too_many e = ap (about neither_file) (sym (made_with (asked_of_both r s output) (file_of_both r s) output (ap₂ (λ a b. first_no ((16, a) ∷ (17, b) ∷ (15, room_for_file (file_of_both r s) output) ∷ [])) apart e)))
 
-    pub file_placed : join_within r s ≡ true → {placed : Placed} (case : Placed) {after : List ℕ} → placed ≡ case → placed_outcome placed after ≡ placing (file_of_both r s) output
-        → about neither_file (placed_outcome case after) ≡ once_both r s output
+    pub file_placed : join_within r s ≡ true → (placed : Option ℕ) {after : List ℕ} → placed_outcome placed after ≡ placing (file_of_both r s) output
+        → about neither_file (placed_outcome placed after) ≡ once_both r s output
     unfolding once_both
-    file_placed fits case {after} is e =
+    file_placed fits placed e =
         ap (about neither_file) (
-        ap (λ p. placed_outcome p after) (sym is) ∙ e
+        e
         ∙ sym (then_placed (file_of_both r s) output ((16, clinics_apart r s) ∷ (17, join_within r s) ∷ []) (join apart (join fits refl))))

@@ -5,9 +5,8 @@ use Rattle.theorems.specs.Accepted.{Accepted}
 use Rattle.joining.specs.Accepted.{joined_accepted}
 use Rattle.held_region.specs.Meaning.{said}
 use Rattle.joined_region.specs.Joined.{accepted_countable, fitting}
-use Rattle.writer.specs.declared.Placed.TheVariants.{Short, Bytes}
 use Rattle.writer.specs.Outcomes.{placing}
-use Rattle.joiner.specs.Outcomes.{clinics_shared, too_many, file_placed}
+use Rattle.joiner.specs.Outcomes.{clinics_shared, too_many, joined_placed, file_placed}
 use mathlib.Core.Bool.{not}
 use Rattle.joiner.proofs.join_accepted.Goals as goal
 
@@ -37,12 +36,9 @@ returns-then-not-join_within c =
 
 pub join_regions-region-requires : goal.join_regions-region-requires
 join_regions-region-requires c =
-    let asked = c in
-    let s = asked in (
-      fitting s.args.first s.args.second s.args.store.now s.args.other.now s.requires.0 s.requires.1
-          (answered_yes (asked.join_within.ensures s.args.store.now s.args.other.now) (ap not asked.if-not-join_within.false)),
-      s.requires.2,
-    )
+    let s = c.args in
+    fitting s.first s.second s.store.now s.other.now c.requires.0 c.requires.1
+    (answered_yes (c.join_within.ensures s.store.now s.other.now) (ap not c.if-not-join_within.false))
 
 pub place_file-requires : goal.place_file-requires
 place_file-requires c =
@@ -52,25 +48,11 @@ place_file-requires c =
     let fits = answered_yes (asked.join_within.ensures s.args.store.now s.args.other.now) (ap not asked.if-not-join_within.false) in
     subst Accepted (sym made.join_regions-region.ensures) (joined_accepted (said s.args.first s.args.store.now) (said s.args.second s.args.other.now) s.requires.0 s.requires.1 fits)
 
-pub returns-in-Short : goal.returns-in-Short
-returns-in-Short c =
-    let placed = c in
-    let made = placed in
-    let asked = made in
-    let s = asked in
-    let apart = answered_yes (asked.clinics_apart.ensures s.args.store.now s.args.other.now) (ap not asked.if-not-clinics_apart.false) in
-    let fits = answered_yes (asked.join_within.ensures s.args.store.now s.args.other.now) (ap not asked.if-not-join_within.false) in
-    file_placed (said s.args.first s.args.store.now) (said s.args.second s.args.other.now) s.args.output.now apart fits Short c.in-Short.is
-    (placed.place_file.ensures ∙ ap (λ r. placing (spell r) s.args.output.now) made.join_regions-region.ensures)
-
-pub returns-in-Bytes : goal.returns-in-Bytes
-returns-in-Bytes c =
-    let told = c in
-    let placed = told in
-    let made = placed in
-    let asked = made in
-    let s = asked in
-    let apart = answered_yes (asked.clinics_apart.ensures s.args.store.now s.args.other.now) (ap not asked.if-not-clinics_apart.false) in
-    let fits = answered_yes (asked.join_within.ensures s.args.store.now s.args.other.now) (ap not asked.if-not-join_within.false) in
-    file_placed (said s.args.first s.args.store.now) (said s.args.second s.args.other.now) s.args.output.now apart fits (Bytes told.in-Bytes.n) told.in-Bytes.is
-    (placed.place_file.ensures ∙ ap (λ r. placing (spell r) s.args.output.now) made.join_regions-region.ensures)
+pub returns : goal.returns
+returns c =
+    let s = c.args in
+    let apart = answered_yes (c.clinics_apart.ensures s.store.now s.other.now) (ap not c.if-not-clinics_apart.false) in
+    let fits = answered_yes (c.join_within.ensures s.store.now s.other.now) (ap not c.if-not-join_within.false) in
+    joined_placed c.place_file.result c.ok_or.ensures.value
+    ∙ file_placed (said s.first s.store.now) (said s.second s.other.now) s.output.now apart fits
+    c.place_file.result (c.place_file.ensures ∙ ap (λ r. placing (spell r) s.output.now) c.join_regions-region.ensures)
