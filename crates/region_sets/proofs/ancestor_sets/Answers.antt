@@ -1,11 +1,7 @@
-use mathlib.Core.Path.{refl}
 use native.Mathlib.Omega.{arith}
 use lib.ListN.{length-set}
 use Rattle.held_region.specs.Related.{parent_smaller, ancestors_more}
 use Rattle.region_sets.proofs.ancestor_sets.Goals as goal
-
-pub loop-child-init : goal.loop-child-init
-loop-child-init c = (refl, λ store s l q. absurd (omega arith))
 
 pub above-requires : goal.above-requires
 above-requires c =
@@ -15,6 +11,3 @@ pub loop-child-preserved : goal.loop-child-preserved
 loop-child-preserved c =
     let inv = c.loop-child.invariant in
     (simp length-set inv.0, ancestors_more c.args.region c.requires _ c.loop-child-test.true _ _ (omega arith) inv.1 c.above.ensures)
-
-pub returns : goal.returns
-returns c = λ store j l. c.loop-child.invariant.1 store j (omega arith)

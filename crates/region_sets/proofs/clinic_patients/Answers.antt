@@ -8,9 +8,3 @@ returns-then-not-within c = nobody_held _ _ c.requires (sym c.within.ensures ∙
 
 pub overflow_cast-clinic : goal.overflow_cast-clinic
 overflow_cast-clinic c = omega (arith, clinic_narrow _ (sym c.within.ensures ∙ c.if-not-within.false))
-
-pub clinic_set-requires : goal.clinic_set-requires
-clinic_set-requires c = c.requires.places
-
-pub returns : goal.returns
-returns c = c.clinic_set.ensures

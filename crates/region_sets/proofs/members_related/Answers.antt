@@ -3,9 +3,6 @@ use Rattle.lists.specs.Loops.{ask_all, ask_yes, ask_no, ask_done}
 use Rattle.held_region.specs.Related.{related_asked, members_known, table_related}
 use Rattle.region_sets.proofs.members_related.Goals as goal
 
-pub ancestor_sets-ancestors-requires : goal.ancestor_sets-ancestors-requires
-ancestor_sets-ancestors-requires c = c.requires.1
-
 pub loop-i-init : goal.loop-i-init
 loop-i-init c = λ store. ask_all _ _ (related_asked _ store)
 
