@@ -15,7 +15,7 @@ pub fn list_call(file: &[u8], beds: &mut [u8], costs: &mut [u8], res: &mut [u8])
     let room = cost_room(costs.len(), res.len());
     let mut held = [0u32; 64];
     let mut work = [0u32; WORK];
-    let answer = list(file, beds, &mut held[..room], &mut work);
+    let answer = list(file, beds, &mut held[0..room], &mut work);
     let listed = Counted::of(answer);
     store_rows(costs, res, &held, listed.count);
     listed.number
@@ -34,7 +34,7 @@ pub fn sheet_call(
     let room = cost_room(costs.len(), res.len());
     let mut held = [0u32; 64];
     let mut work = [0u32; WORK];
-    let answer = sheet(file, clinic, beds, &mut held[..room], &mut work);
+    let answer = sheet(file, clinic, beds, &mut held[0..room], &mut work);
     let sheeted = Counted::of(answer);
     store_rows(costs, res, &held, sheeted.count);
     sheeted.number
