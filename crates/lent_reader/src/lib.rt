@@ -7,10 +7,10 @@ ghost use Rattle.theorems.specs.Accepted.{Accepted};
 ghost use Rattle.held_region.specs.Meaning.{said};
 ghost use Rattle.lent_reader.specs.Called.{room_for, no_counts, read_accepted};
 
-use answers::refusal_number;
+use answers::Numbered;
 use byte_areas::{FOUR, store_result};
 use entry_questions::entry_total;
-use held_region::{FORBIDDEN, Judged, Region};
+use held_region::{FORBIDDEN, Region};
 use reader::load;
 use region_areas::{store_entries, store_patients, store_tables};
 
@@ -93,10 +93,8 @@ pub fn read_call(
     ensures { record { number = result; patients = patients.new; tables = tables.new; entries = entries.new; result = res.new } ≡ read_call file.now patients.old tables.old entries.old res.old }
 {
     let mut store = [FORBIDDEN; 4096];
-    let loaded = load(file, &mut store, true);
-    let answer = loaded.answer;
-    match answer {
-        Judged::Refused(refusal) => refused(res, refusal_number(refusal)),
-        Judged::Fine => lay_region(loaded.region, &store, patients, tables, entries, res),
+    match load(file, &mut store, true) {
+        Ok(region) => lay_region(region, &store, patients, tables, entries, res),
+        Err(refusal) => refused(res, refusal.number()),
     }
 }
