@@ -23,8 +23,11 @@ pub fn row_at(list: &[u32], i: usize) -> Row
     requires { i * 6 + 6 ≤ length list.now }
     ensures { row_of result ≡ whole_row list.now i }
 {
+    // One by one, so that they stay in registers: a copy of the part goes through memory.
     let mut words = [0; 4];
-    words.copy_from_slice(&list[i * 6 + 2..i * 6 + 6]);
+    for j in 0..4 {
+        words[j] = list[i * 6 + 2 + j];
+    }
     Row {
         cost: cost_at(list, i),
         words,
