@@ -18,7 +18,9 @@ use Rattle.line_finder.specs.declared.LineError.{LineError}
 use Rattle.line_finder.specs.declared.LineError.TheVariants.{Refused, Typed}
 use Rattle.line_finder.specs.Found.{line_error_number}
 use Rattle.answers.specs.Numbers.{refusal_number_lem}
-use Rattle.answers.specs.Rooms.{or_twelve, with_room, without_room}
+use Rattle.answers.specs.Rooms.{or_twelve, some_number, with_room, without_room}
+use Rattle.answers.specs.Answers.{refusal_number}
+use Rattle.held_region.specs.declared.Refusal.{Refusal}
 
 -- The number of such a call, by the length of its result area.
 module _ (asks : Asks) (result : List ℕ) where
@@ -84,6 +86,12 @@ module _ (f g : List ℕ) where
   pub second_number_lem : check_of f ≡ 0 → first_no (asked_by_check f ++ asked_by_check g) ≡ check_of g
   unfolding check_of
   second_number_lem e = after_check f (asked_by_check g) e
+
+-- Where check refuses the first file, its number is that of both.
+pub refused_first : (f g : List ℕ) (refusal : Refusal) → refusal_number refusal ≡ check_of f → refusal_number refusal ≡ or_twelve (first_no (asked_by_check f ++ asked_by_check g))
+refused_first f g refusal is =
+    let some : refusal_number refusal ≡ 0 → ⊥ = λ e. omega (arith, refusal_number_lem refusal) in
+    some_number _ some ∙ ap or_twelve (is ∙ sym (first_number_lem f g (λ e. some (is ∙ e))))
 
 module _ (f g output result : List ℕ) where
   -- The call by its number.

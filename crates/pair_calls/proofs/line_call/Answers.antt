@@ -15,5 +15,6 @@ returns-in-Ok c =
 pub returns-in-Err : goal.returns-in-Err
 returns-in-Err c =
     let a = c.args in
-    line_long a.file.now a.typed.now a.res.now (omega (arith, c.if-res-lt-PAIR.false)) c.in-Err.ensures
-    (c.store_result.ensures ∙ refused_numbers c.in-Err.error _ a.res.now)
+    rw c.number.ensures
+    (line_long a.file.now a.typed.now a.res.now (omega (arith, c.if-res-lt-PAIR.false)) c.in-Err.ensures
+    (c.store_result-in-Err.ensures ∙ refused_numbers c.in-Err.error _ a.res.now))

@@ -1,6 +1,6 @@
-use mathlib.Core.Path.{ap, ◌∙◌}
+use Rattle.std.proofs.Common.{ap, ◌∙◌}
 use Rattle.answers.specs.Rooms.{or_twelve}
 use Rattle.pair_calls.proofs.number_without_room.Goals as goal
 
 pub returns : goal.returns
-returns c = c.or_twelve.ensures ∙ ap or_twelve (c.checked_number.ensures ∙ c.check-answer.ensures)
+returns c = c.or_twelve.ensures ∙ ap or_twelve (c.checked_number.ensures ∙ c.check.ensures)
