@@ -1,6 +1,6 @@
 // What each bed of a patient costs, with the beds that the others have.
 ghost use Rattle.std.specs.Prelude.{◌≡◌, ◌<◌, ◌≤◌, get_or};
-ghost use Rattle.definitions.specs.Basics.{cond, eqb};
+ghost use Rattle.definitions.specs.Basics.{cond, eqb, replicate};
 ghost use Rattle.held_region.specs.Meaning.{mark};
 ghost use Rattle.pricing.specs.Pricing.{cost_in, no_sum, sum_in};
 ghost use Rattle.pricing.specs.BedCosts.{Small, most_word, OneMore, AsksEntries, GivesEntries, Asks, Gives};
@@ -9,6 +9,7 @@ use bucket_words::Buckets;
 use held_region::FORBIDDEN;
 
 // From this word on a sum is no number, since one of its entries is forbidden: 64 numbers together are far below it.
+// An Option for each bed was tried in its place: adding took twice as long for 4 beds, and four times for 16.
 const NO_SUM: u64 = 1_000_000_000_000;
 
 // What makes a sum no number: that much for a forbidden entry, and nothing for a number.
@@ -39,27 +40,26 @@ fn add_entries(sums: &mut [u64; 16], entries: &[u32; 4096], from: usize, first: 
     }
 }
 
-// What the tables of a patient's bucket cost together, for each of its permitted beds.
-// The entries for its beds lie side by side, from each table's kept place on.
+// What the tables of a patient's bucket cost together, for each of its permitted beds, in sums that were zero.
+// The entries for its beds lie side by side, from each table's kept place on. A result by value was tried, and the walk took longer.
 pub fn bed_costs(
+    sums: &mut [u64; 16],
     buckets: &Buckets,
     entries: &[u32; 4096],
     places: &[u32; 64],
     s: usize,
     first: usize,
     end: usize,
-) -> [u64; 16]
-    requires { Asks entries.now buckets.now.patients buckets.now.terms places.now s first end }
-    ensures { Gives entries.now buckets.now.patients buckets.now.terms places.now s first end result }
+)
+    requires { Asks entries.now buckets.now.patients buckets.now.terms places.now s first end × (sums.old ≡ replicate 16 0) }
+    ensures { Gives entries.now buckets.now.patients buckets.now.terms places.now s first end sums.new }
 {
-    let mut sums = [0u64; 16];
     let mut k = buckets.first_term(s);
     while k < 64 {
         let from = buckets.entry_start(k) + places[k] as usize;
-        add_entries(&mut sums, entries, from, first, end);
+        add_entries(sums, entries, from, first, end);
         k = buckets.next_term(k);
     }
-    sums
 }
 
 // The cost of one of the beds, none where an entry is forbidden.

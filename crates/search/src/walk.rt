@@ -92,7 +92,8 @@ pub fn walk(
     let first = sources.buckets.first_bed(s);
     let end = sources.buckets.bed_end(s);
     let (others, bound) = rest_of(sources.buckets, left, head.bound, s);
-    let sums = bed_costs(sources.buckets, sources.entries, places, s, first, end);
+    let mut sums = [0u64; 16];
+    bed_costs(&mut sums, sources.buckets, sources.entries, places, s, first, end);
     let plan = Plan {
         beds: *beds,
         len: head.placed,

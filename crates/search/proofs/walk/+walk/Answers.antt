@@ -31,10 +31,10 @@ rest_of-bound-requires t c =
     let heads = c.requires.heads in
     record { few = few heads lowest; least = least_most heads lowest }
 
-pub bed_costs-sums-requires : goal.bed_costs-sums-requires
-bed_costs-sums-requires t c =
+pub bed_costs-requires : goal.bed_costs-requires
+bed_costs-requires t c =
     let start = c.requires in
-    asks_beds start.heads (lowest_first _ _ (sym c.is_empty.ensures ∙ c.if-is_empty.false) c.lowest-s.ensures) start.sums_fit start.kept c.first_bed-first.ensures c.bed_end-end.ensures
+    (asks_beds start.heads (lowest_first _ _ (sym c.is_empty.ensures ∙ c.if-is_empty.false) c.lowest-s.ensures) start.sums_fit start.kept c.first_bed-first.ensures c.bed_end-end.ensures, refl)
 
 pub loop-bed-init : goal.loop-bed-init
 loop-bed-init t c =
@@ -46,13 +46,13 @@ bed_cost-requires t c = bed_small c.requires c.loop-bed.invariant (omega arith)
 
 pub overflow_add-sum : goal.overflow_add-sum
 overflow_add-sum t c =
-    let most = c.bed_costs-sums.ensures.small _ c.loop-bed.invariant.begun (omega arith) _ (sym c.bed_cost.ensures ∙ ap cost_in c.in-Some.is) in
+    let most = c.bed_costs.ensures.small _ c.loop-bed.invariant.begun (omega arith) _ (sym c.bed_cost.ensures ∙ ap cost_in c.in-Some.is) in
     let sums_fit = c.requires.sums_fit in
     omega (arith, most, sums_fit.cost, sums_fit.placed)
 
 pub overflow_add-least : goal.overflow_add-least
 overflow_add-least t c =
-    let most = c.bed_costs-sums.ensures.small _ c.loop-bed.invariant.begun (omega arith) _ (sym c.bed_cost.ensures ∙ ap cost_in c.in-Some.is) in
+    let most = c.bed_costs.ensures.small _ c.loop-bed.invariant.begun (omega arith) _ (sym c.bed_cost.ensures ∙ ap cost_in c.in-Some.is) in
     let sums_fit = c.requires.sums_fit in
     omega (arith, most, sums_fit.cost, sums_fit.placed, sums_fit.bound, c.rest_of-bound.ensures.bound)
 
@@ -79,7 +79,7 @@ walk-found-requires t c =
     let pre = start.requires in
     let inv = c.loop-bed.invariant in
     let more : c.loop-bed.bed < c.bed_end-end.result = omega arith in
-    let costs = c.bed_costs-sums.ensures in
+    let costs = c.bed_costs.ensures in
     let priced = sym c.bed_cost.ensures ∙ ap cost_in c.in-Some.is in
     let place = c.place-longer in
     let is = below_head {head = branch_at start.args.head start.args.beds.now} {bed = c.loop-bed.bed} place.result inv.others inv.lowest c.rest_of-bound.ensures place.ensures.0 place.ensures.1 (costs.small _ inv.begun more _ priced) in
@@ -90,7 +90,7 @@ loop-bed-preserved t c =
     let pre = c.requires in
     let inv = c.loop-bed.invariant in
     let more : c.loop-bed.bed < c.bed_end-end.result = omega arith in
-    let costs = c.bed_costs-sums.ensures in
+    let costs = c.bed_costs.ensures in
     let price = c.bed_cost.ensures in
     let rest = c.rest_of-bound.ensures in
     elim c.match-bed_cost.branch [
