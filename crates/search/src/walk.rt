@@ -93,7 +93,15 @@ pub fn walk(
     let end = sources.buckets.bed_end(s);
     let (others, bound) = rest_of(sources.buckets, left, head.bound, s);
     let mut sums = [0u64; 16];
-    bed_costs(&mut sums, sources.buckets, sources.entries, places, s, first, end);
+    bed_costs(
+        &mut sums,
+        sources.buckets,
+        sources.entries,
+        places,
+        s,
+        first,
+        end,
+    );
     let plan = Plan {
         beds: *beds,
         len: head.placed,
