@@ -1,5 +1,5 @@
 -- Reading a number: what is left to read is what was asked.
-use mathlib.Core.Path.{◌≡◌, sym, ap, subst, ◌∙◌}
+use mathlib.Core.Path.{◌≡◌, refl, sym, ap, subst, ◌∙◌}
 use mathlib.Core.List.{List}
 use Prim.Native.Nat.{ℕ, suc, ◌+◌, ◌-◌, ◌*◌, ◌^◌, ◌≤◌, ◌<◌, max}
 use native.Mathlib.Nat.{sub_self, pow-suc, pow-le-pow_right, zero-lt-suc}
@@ -83,3 +83,8 @@ module _ {s : List ℕ} {at v i : ℕ} (r : Reading s at v i) where
                 ∙ sym (number_more (i - at) v (drop i s) e (λ k. omega (arith, subst (λ x. v < 10 ^ x) k b)) (λ k q. omega (arith, z q)))
                 ∙ r.same);
           }
+
+-- The first digit, of which the value is the digit itself.
+pub first_digit : {s : List ℕ} {at d : ℕ} → Reading s at 0 at → first_class (drop at s) ≡ Digit d → Reading s at d (at + 1)
+unfolding limits
+first_digit {at = at} {d = d} r e = let is : 0 * 10 + d ≡ d = omega arith in rw is at (reading_more r e (λ l. omega (arith, sub_self at)) (λ z. refl))

@@ -57,6 +57,7 @@ pub fn is_line_end(b: u8) -> bool
 }
 
 // The place after one byte of a class, which another byte than Other has.
+#[inline]
 fn one_at(s: &[u8], at: usize, class: Class) -> Option<usize>
     requires { class ≡ Class.Other → ⊥ }
     ensures { (w : ℕ) → ClassOfOne class w → ReadAt (exactly (w ∷ [])) s.now at (passed result) }
@@ -115,19 +116,19 @@ pub fn form_start_at(s: &[u8], at: usize, word: &[u8]) -> Option<usize>
 pub fn number_at(s: &[u8], at: usize) -> Option<(u32, usize)>
     ensures { ReadAt number s.now at (number_read result) }
 {
-    let mut value: u32 = 0;
-    let mut i = at;
+    let Class::Digit(first) = class_at(s, at) else {
+        return None;
+    };
+    let mut value = first;
+    let mut i = at + 1;
     while let Class::Digit(d) = class_at(s, i) {
-        if i - at == DIGITS {
-            return None;
-        }
-        if value == 0 && i != at {
+        if i - at == DIGITS || value == 0 {
             return None;
         }
         value = value * 10 + d;
         i += 1;
     }
-    if i == at { None } else { Some((value, i)) }
+    Some((value, i))
 }
 
 // What stands for a hyphen where a field that may be one is held as a number: no number of a file is so large.

@@ -16,7 +16,7 @@ returns-then-not-areas_whole c =
     ∙ not_whole a.patients.now a.tables.now a.entries.now a.m a.output.now a.room (answered_no asked.areas_whole.ensures (ap not c.if-not-areas_whole.true))
 
 pub region_lent-region-requires : goal.region_lent-region-requires
-region_lent-region-requires c = (answered_yes c.areas_whole.ensures (ap not c.if-not-areas_whole.false), search rules)
+region_lent-region-requires c = answered_yes c.areas_whole.ensures (ap not c.if-not-areas_whole.false)
 
 pub returns-then-not-room : goal.returns-then-not-room
 returns-then-not-room c =
