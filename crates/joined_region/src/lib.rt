@@ -11,7 +11,7 @@ ghost use Rattle.joined_region.specs.Joined.{Countable, Fitting, ParentMoves, Me
 
 use entry_questions::entry_total;
 use held_region::{NO_PATIENT, NO_TABLE, Patient, Region, Table};
-use limits::{Field, lesser, within};
+use limits::{Field, within};
 
 // Has no patient of the region this clinic?
 fn lacks_clinic(region: Region, clinic: u32) -> bool
@@ -138,7 +138,7 @@ pub fn join_regions(
     Region {
         v: first.v + second.v,
         t: first.t + second.t,
-        m: lesser(first.m, second.m),
+        m: first.m.min(second.m),
         patients: append_patients(first, second),
         tables: append_tables(first, second),
     }

@@ -1,7 +1,7 @@
 // The limits stand once: a table of lowest and highest per field.
 #![tactic(auto)]
 
-ghost use Rattle.std.specs.Prelude.{◌≡◌, min};
+ghost use Rattle.std.specs.Prelude.{◌≡◌};
 ghost use Rattle.definitions.specs.Limits.{limits, within as isWithin};
 ghost use Rattle.limits.specs.Fields.{field_of, limit_of};
 
@@ -59,11 +59,4 @@ pub fn highest(field: Field) -> usize
 {
     let limit = limit_of(field);
     limit.1
-}
-
-// The lesser of two numbers, as where a count is cut off at its limit.
-pub fn lesser(a: usize, b: usize) -> usize
-    ensures { result ≡ min a b }
-{
-    a.min(b)
 }

@@ -7,6 +7,7 @@ use Rattle.std.proofs.Math.Bool.{and-false}
 use Rattle.std.proofs.Math.Nat.{div-eq_of_lt}
 use Rattle.std.proofs.Math.Decide.{dec_lt}
 use Rattle.std.proofs.Math.Arith.{lt-one}
+use Rattle.std.proofs.Math.Dec.{eqb-suc-zero}
 use Rattle.definitions.specs.Basics.{ℕ, zero, suc, Bool, true, false, not, cond, List, [], eqb, ltb, length, is_empty, every, every_two, keep, contains, below}
 use Rattle.patient_set.specs.Sets.{in_set, members, first}
 use Rattle.lists.specs.Members.{here}
@@ -104,10 +105,34 @@ empty_word w h = go (members w) refl
     go [] e = sym (eq-eqb w 0 (same_members w 0 h (zero-lt-suc _) (e ∙ sym members_empty)))
     go (x ∷ m) e = sym (ne_eqb w 0 (λ z. false≢true (ap is_empty (sym e ∙ ap members z ∙ members_empty))))
 
+-- A set is empty where its size is 0.
+pub empty_size : (w : ℕ) → is_empty (members w) ≡ eqb (length (members w)) 0
+empty_size w = go (members w)
+  where
+    go : (m : List ℕ) → is_empty m ≡ eqb (length m) 0
+    go [] = refl
+    go (x ∷ m) = sym (eqb-suc-zero (length m))
+
+pub size_some : (w : ℕ) {n : ℕ} → n ≡ length (members w) → 0 < n → is_empty (members w) ≡ false
+size_some w e h = empty_size w ∙ ne_eqb (length (members w)) 0 (λ z. omega arith)
+
+pub size_none : (w : ℕ) {n : ℕ} → n ≡ length (members w) → n ≤ 0 → is_empty (members w) ≡ true
+size_none w e h = empty_size w ∙ eq-eqb (length (members w)) 0 (omega arith)
+
 -- A set has at most 32 patients.
 pub size_most : (w : ℕ) → length (members w) ≤ 32
 unfolding members
 size_most w = keep_short (in_set w) (below 32)
+
+-- The first of a list is in it.
+contains_first : (d : ℕ) (l : List ℕ) → is_empty l ≡ false → contains l (first d l) ≡ true
+contains_first d [] h = absurd (false≢true (sym h))
+contains_first d (x ∷ l) h = contains_in (x ∷ l) (here refl)
+
+-- The lowest of a set that is not empty is a patient of the set.
+pub lowest_patient : (w : ℕ) → is_empty (members w) ≡ false → first 32 (members w) < 32
+lowest_patient w h =
+    ltb-true (first 32 (members w)) 32 (every_contains (λ q. ltb q 32) (members w) (first 32 (members w)) (all_patients w) (contains_first 32 (members w) h))
 
 -- Who comes next of a set is a patient.
 pub coming_patient : (w p : ℕ) (others : List ℕ) → members w ≡ p ∷ others → p < 32
@@ -130,3 +155,7 @@ module _ (w low o r : ℕ) (some : is_empty (members w) ≡ false) (lowest : low
       go : (m : List ℕ) → is_empty m ≡ false → low ≡ first 32 m → every_two ltb m ≡ true → m ≡ low ∷ keep (λ q. not (eqb q low)) m
       go [] h e up = absurd (false≢true (sym h))
       go (x ∷ m) h e up = subst (λ (w : ℕ). x ∷ m ≡ w ∷ keep (λ q. not (eqb q w)) (x ∷ m)) (sym e) (ap (λ k. x ∷ k) (sym (keep_rest x m up)))
+
+  -- The rest is smaller: the measure of a recursion.
+  pub rest_smaller : length (members r) < length (members w)
+  rest_smaller = omega (arith, ap length lowest_and_rest)

@@ -48,6 +48,10 @@ module _ (file output : List ℕ) where
       let last : Asked = (15, room_for_file file output) ∷ [] in
       made_with (early ++ last) file output (yes_then early last all) ∙ sym (made_with last file output refl)
 
+  -- What is placed, by its case.
+  pub placed_case : {placed : Option ℕ} (case : Option ℕ) {after : List ℕ} → placed ≡ case → placed_outcome placed after ≡ placing file output → placed_outcome case after ≡ placing file output
+  placed_case case {after} is e = ap (λ p. placed_outcome p after) (sym is) ∙ e
+
   placed_short : length output < length file → placed_outcome None output ≡ placing file output
   unfolding placing room_for_file
   placed_short l = sym (made_with ((15, room_for_file file output) ∷ []) file output (ap (λ b. first_no ((15, b) ∷ [])) (lt-leb _ _ l)))
