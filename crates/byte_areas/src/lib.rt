@@ -9,7 +9,7 @@ ghost use Rattle.byte_areas.specs.Room.{cost_room};
 
 use limits::{Field, highest};
 
-// The number that stands for none.
+// The number that stands for none in what C lends and is given.
 pub const NONE: u64 = u64::MAX;
 
 // How many costs the entry may leave, and the entry asks question 12 of them: those that fit the lent area, none where the result area is too short.

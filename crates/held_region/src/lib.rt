@@ -34,7 +34,7 @@ pub struct Region {
     pub tables: [Table; 64],
 }
 
-// The mark of a forbidden entry.
+// The mark of a forbidden entry, with which document 01 fills the store: so an entry is a number there and no Option.
 pub const FORBIDDEN: u32 = MARK;
 
 // What stands in a place where no patient, and where no table, is held.

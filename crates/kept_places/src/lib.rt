@@ -88,6 +88,7 @@ pub fn move_places(places: &mut [u32; 64], moves: &Moves, s: usize, old: usize, 
     requires { AsksMove moves.now s old new places.old }
     ensures { GivesMove moves.now s old new places.old places.new }
 {
+    // A patient's moves are linked: where the next one stands, this one says.
     let mut at = moves.first[s] as usize;
     while at < 192 {
         let step = moves.all[at];

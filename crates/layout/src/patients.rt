@@ -19,6 +19,7 @@ pub fn read_patients(file: &[u8], at: usize) -> Patients
     let mut first = [NO_PATIENT; 32];
     let mut count = 0;
     let mut i = at;
+    // Where a line ends, the next one begins: lines are of no one length.
     while i < file.len() {
         let end = line_end(file, i);
         let Some(patient) = patient_line(&file[i..end]) else {

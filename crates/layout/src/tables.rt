@@ -21,6 +21,7 @@ pub fn read_tables(file: &[u8], at: usize, store: &mut [u32; 4096]) -> Tables
     let mut count = 0;
     let mut used = 0;
     let mut i = at;
+    // Where a line ends, the next one begins: lines are of no one length.
     while i < file.len() {
         let end = line_end(file, i);
         let Some(table) = table_line(&file[i..end], store, used) else {

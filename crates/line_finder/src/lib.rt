@@ -79,6 +79,7 @@ fn first_line(file: &[u8], typed: &[u8]) -> Part
     ensures { part_said result ≡ first_line (begins typed.now) 0 (lines file.now) }
 {
     let mut start = 0;
+    // Where a line ends, the next one begins: lines are of no one length.
     while start < file.len() {
         let end = line_end(file, start);
         if begins_with(&file[start..end], typed) {

@@ -80,7 +80,7 @@ impl PatientSet {
         self == PatientSet::EMPTY
     }
 
-    // The lowest patient, 32 where there is none.
+    // The lowest patient; 32 where there is none, as document 01 has it.
     pub fn lowest(self) -> u32
         ensures { result ≡ first 32 (members self.0) }
     {

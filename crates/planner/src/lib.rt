@@ -62,7 +62,8 @@ pub fn price(file: &[u8], plan: &[u8]) -> Result<Option<u64>, PriceError>
     price_region(priced, &store, plan)
 }
 
-// Questions 1 to 10 and 21, then the line over the typed members: that part of the file itself. The number goes to a lent place.
+// Questions 1 to 10 and 21, then the line over the typed members: that part of the file itself. The number goes to a lent place,
+// so that a part of the file is handed back on a refusal too: the empty one at its end.
 pub fn line<'a>(file: &'a [u8], typed: &[u8], number: &mut u64) -> &'a [u8]
     ensures { record { number = number.new; block = result.ref_ptr.0; place = result.ref_ptr.1; size = length result.now; bytes = result.now } ≡ part_of file.entry.ref_ptr.0 file.entry.ref_ptr.1 file.now (line_outcome file.now typed.now) }
 {

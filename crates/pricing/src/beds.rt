@@ -54,6 +54,7 @@ pub fn bed_costs(
     requires { Asks entries.now buckets.now.patients buckets.now.terms places.now s first end × (sums.old ≡ replicate 16 0) }
     ensures { Gives entries.now buckets.now.patients buckets.now.terms places.now s first end sums.new }
 {
+    // The terms of a bucket are linked: which one is next, each says.
     let mut k = buckets.first_term(s);
     while k < 64 {
         let from = buckets.entry_start(k) + places[k] as usize;

@@ -59,6 +59,7 @@ fn bucket_cost(buckets: &Buckets, entries: &[u32; 4096], s: usize, beds: &[u8; 3
     ensures { Gives entries.now buckets.now.patients buckets.now.terms s beds.now result }
 {
     let mut sum: u64 = 0;
+    // The terms of a bucket are linked: which one is next, each says.
     let mut k = buckets.first_term(s);
     while k < 64 {
         let at = entry_place(buckets, k, beds);

@@ -31,6 +31,7 @@ fn judge_entries(region: Region, store: &[u32; 4096], parents: bool) -> Result<(
 }
 
 // Questions 5 to 10 in their order, with or without those of parents: the first no is the answer.
+// Whether parents are asked is a flag, since what it leaves out is half of one question and another behind three more.
 pub fn judge(region: Region, store: &[u32; 4096], parents: bool) -> Result<(), Refusal>
     ensures { number_of result ≡ first_no (asked parents (said region store.now)) }
 {

@@ -121,6 +121,7 @@ pub fn number_at(s: &[u8], at: usize) -> Option<(u32, usize)>
     };
     let mut value = first;
     let mut i = at + 1;
+    // How many digits there are is seen by reading them.
     while let Class::Digit(d) = class_at(s, i) {
         if i - at == DIGITS || value == 0 {
             return None;

@@ -25,6 +25,7 @@ pub fn members_at(line: &[u8], at: usize) -> Option<Members>
     let mut first = [0; 4];
     let mut count = 0;
     let mut i = open_at(line, at)?;
+    // What stands behind an item says whether another one comes.
     loop {
         let (member, end) = number_at(line, i)?;
         if count < 4 {
@@ -68,6 +69,7 @@ pub fn entries_at(
 {
     let mut count = 0;
     let mut i = open_at(line, at)?;
+    // What stands behind an item says whether another one comes.
     loop {
         let (entry, end) = hyphen_or_number_at(line, i)?;
         put(store, used, count, code_of(entry));
