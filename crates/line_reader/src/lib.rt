@@ -2,9 +2,11 @@
 #![tactic(auto)]
 
 ghost use Rattle.std.specs.Prelude.{◌≡◌, ◌+◌, ◌≤◌, length};
+ghost use Rattle.definitions.specs.Basics.{true, every};
 ghost use Rattle.definitions.specs.Layout.{whole, region_line, patient_line, end_line};
 ghost use Rattle.definitions.specs.Limits.{file_length, limits};
 ghost use Rattle.definitions.specs.Questions.{checksum};
+ghost use Rattle.scanner.specs.Classes.{is_letter};
 ghost use Rattle.scanner.specs.Answers.{ReadAt, number_read};
 ghost use Rattle.line_reader.specs.Answers.{LineEnd, region_read, patient_read, end_read};
 ghost use Rattle.line_reader.specs.Forms.{field, field_values, values_read};
@@ -85,6 +87,7 @@ fn field_at(line: &[u8], at: usize, kind: Kind) -> Option<(u32, usize)>
 
 // The values of a line that is a form of this word, with fields of these kinds, one space before each.
 fn read_form<const N: usize>(line: &[u8], word: &[u8], kinds: &[Kind; N]) -> Option<[u32; N]>
+    requires { every is_letter word.now ≡ true }
     ensures { values_read result ≡ field_values word.now kinds.now line.now }
 {
     let mut values = [0; N];

@@ -11,11 +11,12 @@ use mir.Val.{has_key}
 use lib.Dec.{T, leb}
 use lib.ListN.{length, get_or, drop, drop_of_length-le}
 use lib.Seq.{drop-cons}
-use borrow.Author.Tests.{le-leb, lt-leb, ne_eqb}
+use borrow.Author.Tests.{leb-true, le-leb, lt-leb, ne_eqb}
 use Rattle.scanner.specs.declared.Class.{Class}
 use Rattle.scanner.specs.contracts.Class.{the_type}
 use Rattle.scanner.specs.declared.Class.TheVariants.{Digit, Letter, Other}
-use Rattle.scanner.specs.Classes.{class_of, first_class, NoDigit, digit_says, other_not}
+use Rattle.lists.specs.Tests.{both}
+use Rattle.scanner.specs.Classes.{is_letter, class_of, first_class, NoDigit, digit_says, other_not}
 
 -- A byte outside a range fails its test.
 module _ (b : ℕ) where
@@ -33,6 +34,9 @@ module _ (b : ℕ) where
   unfolding class_of
   is_letter_lem l h =
       simp (over 48 57 (omega arith), ne_eqb b 40 (λ e. omega arith), ne_eqb b 41 (λ e. omega arith), ne_eqb b 32 (λ e. omega arith), ne_eqb b 45 (λ e. omega arith), le-leb 97 b l, le-leb b 122 (omega arith))
+
+  pub letter_class : is_letter b ≡ true → class_of b ≡ Letter b
+  letter_class h = let (l, u) = both (leb 97 b) h in is_letter_lem (leb-true 97 b l) (omega (arith, leb-true b 122 u))
 
   module _ (no_open_lem : b ≡ 40 → ⊥) (no_close_lem : b ≡ 41 → ⊥) (no_space_lem : b ≡ 32 → ⊥) (no_hyphen : b ≡ 45 → ⊥) (no_end_lem : b ≡ 10 → ⊥) where
     other : (leb 48 b && leb b 57) ≡ false → (leb 97 b && leb b 122) ≡ false → class_of b ≡ Other

@@ -2,9 +2,9 @@
 #![tactic(auto)]
 
 ghost use Rattle.std.specs.Prelude.{◌≡◌, ◌∷◌, drop};
-ghost use Rattle.definitions.specs.Basics.{ℕ, [], eqb};
+ghost use Rattle.definitions.specs.Basics.{ℕ, [], true, every, eqb};
 ghost use Rattle.definitions.specs.Layout.{exactly, word, number, hyphen_or_number};
-ghost use Rattle.scanner.specs.Classes.{class_of, first_class, ClassOfOne};
+ghost use Rattle.scanner.specs.Classes.{is_letter, class_of, first_class, ClassOfOne};
 ghost use Rattle.scanner.specs.Words.{form_start};
 ghost use Rattle.scanner.specs.Answers.{ReadAt, passed, number_read, optional, code_of, said_by, entry_read, step_read};
 ghost use Rattle.scanner.specs.Separators.{separator};
@@ -104,12 +104,31 @@ pub fn bytes_at(s: &[u8], at: usize, bytes: &[u8]) -> Option<usize>
     }
 }
 
+// Exactly these letters, each by its class.
+fn letters_at(s: &[u8], at: usize, letters: &[u8]) -> Option<usize>
+    requires { every is_letter letters.now ≡ true }
+    ensures { ReadAt (exactly letters.now) s.now at (passed result) }
+{
+    let mut next = at;
+    for asked in letters {
+        let Class::Letter(letter) = class_at(s, next) else {
+            return None;
+        };
+        if letter != *asked {
+            return None;
+        }
+        next += 1;
+    }
+    Some(next)
+}
+
 // The bracket that opens a form, and the form's word.
 pub fn form_start_at(s: &[u8], at: usize, word: &[u8]) -> Option<usize>
+    requires { every is_letter word.now ≡ true }
     ensures { ReadAt (exactly (form_start word.now)) s.now at (passed result) }
 {
     let start = open_at(s, at)?;
-    bytes_at(s, start, word)
+    letters_at(s, start, word)
 }
 
 // A number with no leading zero, and the place after it. A digit too many ends the reading.

@@ -6,4 +6,4 @@ pub returns-in_err-start : goal.returns-in_err-start
 returns-in_err-start c = rw c.from_residual.ensures (then_missing (40 ∷ []) c.args.word.now c.in_err-start.ensures)
 
 pub returns : goal.returns
-returns c = then_read (40 ∷ []) c.args.word.now c.in_ok-start.ensures c.bytes_at.ensures
+returns c = then_read (40 ∷ []) c.args.word.now c.in_ok-start.ensures c.letters_at.ensures

@@ -1,4 +1,4 @@
-use Rattle.std.proofs.Common.{◌≡◌, ◌-◌, sym, ◌∙◌, refl, arith}
+use Rattle.std.proofs.Common.{sym, ◌∙◌, refl, arith}
 use Rattle.definitions.specs.Limits.{limits}
 use Rattle.scanner.proofs.Classes.{not_digit}
 use Rattle.scanner.proofs.Numbers.{first_digit, reading_start, reading_ends, reading_missing, reading_long, reading_zero, reading_fits, reading_more}
