@@ -1,27 +1,36 @@
--- The sums copied over the first list.
-use Rattle.std.proofs.Common.{arith, sym, ◌∙◌, get_or-take, ext_get_or, ◌≡◌, ◌+◌, ◌-◌, ◌*◌, ◌<◌, ◌≤◌}
-use Rattle.std.proofs.lemmas.List.{get_or-drop}
-use Rattle.std.specs.List.{CopiedTo, SameFrom}
-use Rattle.definitions.specs.Basics.{ℕ, List, length, get_or}
-use Rattle.row_list.specs.Laws.{rows_words}
+-- The sums copied over the first list, row by row.
+use mathlib.Core.Path.{◌≡◌, refl, sym, ap, ap₂, ◌∙◌}
+use native.Mathlib.Numerals.{add-one}
+use native.Mathlib.Omega.{arith}
+use Prim.Native.Nat.{◌≤◌}
+use Rattle.std.specs.Prelude.{◌+◌, ◌∷◌, ◌++◌}
+use Rattle.definitions.specs.Basics.{ℕ, suc, List, [], length}
+use Rattle.definitions.specs.Plans as Said
+use Rattle.packed_rows.specs.declared.Row.{Row}
+use Rattle.packed_rows.specs.Packed.{row_of}
+use Rattle.row_list.specs.Rows.{whole_row, whole_rows, Stored}
+use Rattle.row_list.specs.Laws.{rows_before, rows_none, rows_more}
 use Rattle.row_sums.specs.Sums.{work_part}
 use Rattle.row_sums.specs.Steps.{Copied}
-use Rattle.row_sums.specs.Areas.{part_long}
+use Rattle.row_sums.specs.Areas.{replaced, replaced_long, part_new, part_after, part_long}
 
--- A word of a part is one of the area.
-part_word : (i k : ℕ) (work : List ℕ) → k < 384 → get_or (work_part i work) k 0 ≡ get_or work (i * 384 + k) 0
-unfolding work_part
-part_word i k work h = get_or-take 384 _ k 0 h ∙ get_or-drop (i * 384) work k 0
+module _ (work : List ℕ) where
+  pub none_copied : Copied 0 work work
+  none_copied = record { rows = rows_none (work_part 0 work) ∙ sym (rows_none (work_part 2 work)); kept = refl; long = refl }
 
-pub copied : (n s : ℕ) (work after : List ℕ) → n ≤ 64 → 1_152 ≤ length work → s ≡ n * 6 → length after ≡ length work → CopiedTo work after 768 0 s → SameFrom work after (0 + s)
-    → Copied n work after
-copied n s work after few long words same moved rest = record {
-  rows = rows_words n (work_part 0 after) (work_part 2 work) (λ k h.
-      let here : 0 * 384 + k ≡ k = omega arith in
-      let there : 768 + (k - 0) ≡ 2 * 384 + k = omega arith in
-      rw here at (part_word 0 k after (omega arith)) ∙ rw there at (moved k 0 (omega arith) (omega arith)) ∙ sym (part_word 2 k work (omega arith)));
-  kept = ext_get_or 0 (work_part 2 after) (work_part 2 work) (part_long 2 after (omega arith) ∙ sym (part_long 2 work (omega arith))) (λ k h.
-      let within : k < 384 = omega (arith, part_long 2 after (omega arith)) in
-      part_word 2 k after within ∙ rest (2 * 384 + k) 0 (omega arith) ∙ sym (part_word 2 k work within));
-  long = same;
-}
+  pub one_copied : (i : ℕ) (now new : List ℕ) (x : Row) → 1_152 ≤ length now → Copied i work now → row_of x ≡ whole_row (work_part 2 now) i → Stored i x (work_part 0 now) new
+      → Copied (i + 1) work (replaced 0 new now)
+  one_copied i now new x l c read s = record {
+    rows = rw add-one (ap (whole_rows (suc i)) (part_new 0 now new fits long) ∙ rows_more i new
+        ∙ ap₂ (λ (k : List Said.Row) (z : Said.Row). k ++ (z ∷ [])) (rows_before i x (work_part 0 now) new s ∙ c.rows)
+        (s.row ∙ read ∙ ap (λ (p : List ℕ). whole_row p i) c.kept)
+        ∙ sym (rows_more i (work_part 2 work)));
+    kept = part_after 0 now new fits long 2 (omega arith) ∙ c.kept;
+    long = replaced_long 0 now new fits long ∙ c.long;
+  }
+    where
+      fits : 384 ≤ length now
+      fits = omega arith
+
+      long : length new ≡ 384
+      long = s.long ∙ part_long 0 now fits

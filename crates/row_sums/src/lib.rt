@@ -4,10 +4,10 @@
 
 ghost use Rattle.std.specs.Prelude.{◌≡◌, ◌<◌, ◌≤◌, length};
 ghost use Rattle.row_sums.specs.Sums.{Asks, Gives};
-ghost use Rattle.row_sums.specs.Steps.{exceeds_last, AsksRow, GivesRow};
+ghost use Rattle.row_sums.specs.Steps.{exceeds_last, AsksRow, GivesRow, Copied};
 
 use packed_rows::{Row, add_rows};
-use row_list::{cost_at, insert, row_at};
+use row_list::{cost_at, insert, row_at, set_row};
 
 // Where the second and the third part start, and where the third ends.
 pub const SECOND: usize = 384;
@@ -42,6 +42,17 @@ fn insert_sums(work: &mut [u32], m: usize, n: usize, b: usize, x: Row) -> usize
     count
 }
 
+// Copies the first n sums over the list so far. Row by row: with the library's copies the archive needs memmove from outside.
+fn copy_back(work: &mut [u32], n: usize)
+    requires { (n ≤ 64) × (1_152 ≤ length work.old) }
+    ensures { Copied n work.old work.new }
+{
+    for i in 0..n {
+        let row = row_at(&work[THIRD..END], i);
+        set_row(&mut work[0..SECOND], i, row);
+    }
+}
+
 // The m cheapest sums of a row of the list so far and a row of the next list. They become the list so far.
 pub fn combine(work: &mut [u32], m: usize, a: usize, b: usize) -> usize
     requires { Asks m a b work.old }
@@ -52,6 +63,6 @@ pub fn combine(work: &mut [u32], m: usize, a: usize, b: usize) -> usize
         let x = row_at(&work[..SECOND], i);
         n = insert_sums(work, m, n, b, x);
     }
-    work.copy_within(THIRD..THIRD + n * 6, 0);
+    copy_back(work, n);
     n
 }

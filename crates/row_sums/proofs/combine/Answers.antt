@@ -1,7 +1,6 @@
 use Rattle.std.proofs.Common.{arith, sym, length-take-le}
 use Rattle.row_sums.specs.Sums.{work_part}
 use Rattle.row_sums.proofs.Joining.{none_found, row_found, next_row}
-use Rattle.row_sums.proofs.Copying.{copied}
 use Rattle.row_sums.proofs.Finding.{all_found}
 use Rattle.row_sums.proofs.combine.Goals as goal
 
@@ -32,6 +31,4 @@ pub returns : goal.returns
 returns c =
     let l = c.loop-i in
     let a = c.args in
-    let moved = c.copy_within.ensures in
-    all_found a.m a.a a.b l.i l.n _ _ _ (omega arith) (omega arith) l.invariant
-    (copied l.n _ _ _ (omega (arith, l.invariant.count, c.requires.wanted)) (omega (arith, l.invariant.kept.long, c.requires.long)) (omega arith) moved.len moved.by_index.0 moved.by_index.2)
+    all_found a.m a.a a.b l.i l.n _ _ _ (omega arith) (omega arith) l.invariant c.copy_back.ensures
