@@ -87,11 +87,26 @@ pub fn add_rows(x: Row, y: Row) -> Row
     }
 }
 
-// Does x come before y? At a tie, the answer is the one handed in.
+// Does x come before y? At a tie, the answer is the one handed in. Word by word: the order that rows derive makes an Ordering
+// of each word first, and listing plans of equal costs takes half as long again with it.
 pub fn precedes(x: Row, y: Row, equal: bool) -> bool
     ensures { result ≡ before_or equal (compare_rows (row_of x) (row_of y)) }
 {
-    if equal { x <= y } else { x < y }
+    if x.cost < y.cost {
+        return true;
+    }
+    if y.cost < x.cost {
+        return false;
+    }
+    for j in 0..4 {
+        if x.words[j] < y.words[j] {
+            return true;
+        }
+        if y.words[j] < x.words[j] {
+            return false;
+        }
+    }
+    equal
 }
 
 // Have two rows the same beds? Costs do not count.

@@ -1,9 +1,6 @@
 use Rattle.std.proofs.Common.{rules}
-use Rattle.packed_rows.proofs.Comparing.{not_behind, ahead}
+use Rattle.packed_rows.proofs.Comparing.{same_cost_lem}
 use Rattle.packed_rows.proofs.precedes.Goals as goal
 
-pub returns-then-equal : goal.returns-then-equal
-returns-then-equal c = rw c.if-equal.true (not_behind c.args.x c.args.y (search rules) (search rules) _ (search rules))
-
-pub returns-else-equal : goal.returns-else-equal
-returns-else-equal c = rw c.if-equal.false (ahead c.args.x c.args.y (search rules) (search rules) _ (search rules))
+pub loop-j-init : goal.loop-j-init
+loop-j-init c = same_cost_lem c.args.x c.args.y (search rules) (search rules) c.args.equal c.if-x-y.false c.if-y-x.false

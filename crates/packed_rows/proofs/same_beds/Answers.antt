@@ -1,5 +1,5 @@
 use Rattle.std.proofs.Common.{rules}
-use Rattle.packed_rows.proofs.Comparing.{equal_words}
+use Rattle.packed_rows.proofs.Equal.{equal_words}
 use Rattle.packed_rows.proofs.same_beds.Goals as goal
 
 pub returns : goal.returns
