@@ -51,7 +51,8 @@ pub const NO_TABLE: Table = Table {
     entries: 0,
 };
 
-// No patient and no table.
+// No patient and no table: so begins what is held of a file.
+#[inline]
 pub fn blank() -> Region
     ensures { result ≡ blank_region }
 {

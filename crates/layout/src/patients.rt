@@ -1,7 +1,7 @@
 // The patient lines of a file.
 ghost use Rattle.layout.specs.Reading.{PatientLines};
 
-use held_region::{NO_PATIENT, Patient};
+use held_region::{Patient, blank};
 use line_reader::{line_end, patient_line};
 
 // The first 32 patients of the lines from a place on, how many there are, and the place after them.
@@ -16,7 +16,7 @@ pub struct Patients {
 pub fn read_patients(file: &[u8], at: usize) -> Patients
     ensures { PatientLines file.now at result }
 {
-    let mut first = [NO_PATIENT; 32];
+    let mut first = blank().patients;
     let mut count = 0;
     let mut i = at;
     // Where a line ends, the next one begins: lines are of no one length.

@@ -1,7 +1,7 @@
 // The table lines of a file.
 ghost use Rattle.layout.specs.TableLines.{TableLines};
 
-use held_region::{NO_TABLE, Table};
+use held_region::{Table, blank};
 use line_reader::line_end;
 use table_reader::table_line;
 
@@ -17,7 +17,7 @@ pub struct Tables {
 pub fn read_tables(file: &[u8], at: usize, store: &mut [u32; 4096]) -> Tables
     ensures { TableLines file.now at result store.old store.new }
 {
-    let mut first = [NO_TABLE; 64];
+    let mut first = blank().tables;
     let mut count = 0;
     let mut used = 0;
     let mut i = at;

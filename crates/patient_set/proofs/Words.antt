@@ -196,6 +196,11 @@ less_one (suc n) w q pos h = go (λ half q. less_one n (w / 2) q half (half_lt n
         both true = refl
         both false = refl
 
+-- Where the size is not 0 there is somebody.
+pub some_there : (l : List ℕ) {size : ℕ} → size ≡ length l → (size ≡ 0 → ⊥) → is_empty l ≡ false
+some_there [] e n = absurd (n e)
+some_there (p ∷ ps) e n = refl
+
 -- So a word without its lowest one has the other patients.
 pub without_lowest : (w : ℕ) → w < 2 ^ 32 → is_empty (members w) ≡ false → (1 ≤ w) × (members w ≡ first 32 (members w) ∷ members (bit_and w (w - 1)))
 without_lowest w h filled =

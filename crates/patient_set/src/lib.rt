@@ -128,7 +128,7 @@ impl Iterator for Patients {
     // A word minus 1 differs from it in its lowest 1 and below, so the lowest patient goes.
     fn next(&mut self) -> Option<usize> {
         let left = self.left;
-        if left.is_empty() {
+        if left.size() == 0 {
             return None;
         }
         self.left = PatientSet(left.0 & (left.0 - 1));

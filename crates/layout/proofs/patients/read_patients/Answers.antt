@@ -6,7 +6,7 @@ use Rattle.layout.proofs.HeldLines.{patients_none, patients_more}
 use Rattle.layout.proofs.patients.read_patients.Goals as goal
 
 pub loop-i-init : goal.loop-i-init
-loop-i-init c = patients_none _ _
+loop-i-init c = rw c.blank.ensures (patients_none c.args.file.now c.args.at)
 
 pub loop-i-preserved : goal.loop-i-preserved
 loop-i-preserved c =

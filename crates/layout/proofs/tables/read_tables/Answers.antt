@@ -5,7 +5,7 @@ use Rattle.layout.proofs.HeldTables.{tables_none, used_few, tables_more, tables_
 use Rattle.layout.proofs.tables.read_tables.Goals as goal
 
 pub loop-i-init : goal.loop-i-init
-loop-i-init c = tables_none _ _ _
+loop-i-init c = rw c.blank.ensures (tables_none c.args.file.now c.args.at c.args.store.now)
 
 pub overflow_add-used : goal.overflow_add-used
 overflow_add-used c = omega (arith, used_few c.loop-i.invariant c.line_end-end.ensures c.loop-i-test.true (c.table_line.ensures.answer.there _ c.in-Some.is))
