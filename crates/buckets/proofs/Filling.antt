@@ -66,7 +66,7 @@ module _ (h : Region) (store : List ℕ) (test : Said.Table → Bool) (a : Accep
         beds = λ s l. w.beds s (known s l) ∙ ap (λ p. p.bed_count) (sym (patient_said_lem h store s (known s l)));
         first_bed = λ s l. w.first_bed s (known s l) ∙ ap first_permitted (sym (patient_said_lem h store s (known s l)));
         bed_end = λ s l. w.bed_end s (known s l) ∙ ap permitted_end (sym (patient_said_lem h store s (known s l)));
-        least = λ s l. w.least s (known s l) ∙ sym (ap (λ ts. sum (map least_entry (keep (highest s) (keep test ts)))) none_left);
+        least = λ s l. w.least s ∙ sym (ap (λ ts. sum (map least_entry (keep (highest s) (keep test ts)))) none_left);
         bucket = λ s l. subst (λ ts. Chain (with_tables r test) store terms h.t (first_at written s) (keep (highest s) (keep test ts))) (sym none_left) (w.first s (known s l));
         term = λ k l m. absurd (omega (arith, held_lines h store a));
       }

@@ -24,7 +24,7 @@ pub record PatientsWritten (patients : List Patient) (v : ℕ) (written : List P
   pub beds : (s : ℕ) → s < v → beds_at written s ≡ (get_or patients s no_patient).beds
   pub first_bed : (s : ℕ) → s < v → first_bed_at written s ≡ first_permitted (patient_of (get_or patients s no_patient))
   pub bed_end : (s : ℕ) → s < v → bed_end_at written s ≡ permitted_end (patient_of (get_or patients s no_patient))
-  pub least : (s : ℕ) → s < v → least_at written s ≡ 0
+  pub least : (s : ℕ) → least_at written s ≡ 0
   pub first : (s : ℕ) → s < v → first_at written s ≡ 64
 
 -- What the members of a term rely on: they are patients, with few beds each.

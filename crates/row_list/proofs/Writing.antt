@@ -11,11 +11,11 @@ use Rattle.row_list.specs.Rows.{words_in, whole_row, Stored}
 use Rattle.row_list.specs.Laws.{row_words}
 
 -- Some words of an area are written, from one place on, and the words around them are as they were.
-record Written (at n : ℕ) (words area after : List ℕ) : Type 0 where
-  first : (k : ℕ) → k < n → get_or after (at + k) 0 ≡ get_or words k 0
-  low : (k : ℕ) → k < at → get_or after k 0 ≡ get_or area k 0
-  high : (k : ℕ) → at + n ≤ k → get_or after k 0 ≡ get_or area k 0
-  long : length after ≡ length area
+pub record Written (at n : ℕ) (words area after : List ℕ) : Type 0 where
+  pub first : (k : ℕ) → k < n → get_or after (at + k) 0 ≡ get_or words k 0
+  pub low : (k : ℕ) → k < at → get_or after k 0 ≡ get_or area k 0
+  pub high : (k : ℕ) → at + n ≤ k → get_or after k 0 ≡ get_or area k 0
+  pub long : length after ≡ length area
 
 abbrev with_words : ℕ → ℕ → List ℕ → List ℕ → List ℕ
 with_words at n words area = take at area ++ (words ++ drop n (drop at area))

@@ -1,10 +1,10 @@
 use mathlib.Core.Path.{◌≡◌, refl}
 use native.Mathlib.Omega.{arith}
-use Rattle.buckets.proofs.Writing.{patients_more}
+use Rattle.buckets.proofs.Writing.{none_least, patients_more}
 use Rattle.buckets.proofs.patient_buckets.Goals as goal
 
 pub loop-s-init : goal.loop-s-init
-loop-s-init c = record { wide = refl; beds = λ s h. absurd (omega arith); first_bed = λ s h. absurd (omega arith); bed_end = λ s h. absurd (omega arith); least = λ s h. absurd (omega arith); first = λ s h. absurd (omega arith) }
+loop-s-init c = record { wide = refl; beds = λ s h. absurd (omega arith); first_bed = λ s h. absurd (omega arith); bed_end = λ s h. absurd (omega arith); least = λ s. none_least _ refl 32 s; first = λ s h. absurd (omega arith) }
 
 pub permitted_end-requires : goal.permitted_end-requires
 permitted_end-requires c = c.requires.1 _ (omega arith)
