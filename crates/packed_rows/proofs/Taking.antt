@@ -48,13 +48,14 @@ sets_behind l (v ∷ vs) ws i = let e : i + suc (length vs) ≡ suc i + length v
 abbrev pub first_written : List ℕ → ℕ → ℕ → ℕ → List ℕ
 first_written l first w k = sets l first (take k (beds_of_word 7 w))
 
-pub one_written : (l : List ℕ) (first w k a : ℕ) → w < 4_294_967_296 → k < 8 → a ≡ w / 2 ^ (28 - 4 * k) % 16
+pub one_written : (l : List ℕ) (first w k a behind : ℕ) → w < 4_294_967_296 → k < 8 → behind ≡ 28 - 4 * k → a ≡ w / 2 ^ behind % 16
     → set (first_written l first w k) (first + k) a ≡ first_written l first w (k + 1)
-one_written l first w k a fits few is =
+one_written l first w k a behind fits few place is =
+    let taken_out : a ≡ w / 2 ^ (28 - 4 * k) % 16 = is ∙ ap (λ (s : ℕ). w / 2 ^ s % 16) place in
     let beds = beds_of_word 7 w in
     let long : length (take k beds) ≡ k = length-take-le k beds (omega (arith, word_long 7 w)) in
     let next : take (k + 1) beds ≡ take k beds ++ a ∷ [] =
-    take_more beds k 0 (omega (arith, word_long 7 w)) ∙ ap (λ (b : ℕ). take k beds ++ b ∷ []) (digit w k fits few ∙ sym is) in
+    take_more beds k 0 (omega (arith, word_long 7 w)) ∙ ap (λ (b : ℕ). take k beds ++ b ∷ []) (digit w k fits few ∙ sym taken_out) in
     rw long at (sym (ap (sets l first) next ∙ sets_push l (take k beds) first a))
 
 pub all_written : (l : List ℕ) (first w k : ℕ) → 8 ≤ k → first_written l first w k ≡ sets l first (beds_of_word 7 w)

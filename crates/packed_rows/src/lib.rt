@@ -2,7 +2,7 @@
 // The first patient's bed is in the highest four bits, so that the order of words is the order of beds.
 #![tactic(auto)]
 
-ghost use Rattle.std.specs.Prelude.{◌≡◌, ◌+◌, ◌%◌, ◌<◌, ◌≤◌, length};
+ghost use Rattle.std.specs.Prelude.{◌≡◌, ◌+◌, ◌-◌, ◌*◌, ◌%◌, ◌<◌, ◌≤◌, length};
 ghost use Rattle.std.proofs.lemmas.List.Edits.{sets};
 ghost use Rattle.definitions.specs.Plans.{bed_of, compare_rows};
 ghost use Rattle.definitions.specs.Sheets.{same_beds};
@@ -51,13 +51,21 @@ pub fn pack(cost: u64, beds: &[u8; 32], v: usize) -> Row
     Row { cost, words }
 }
 
+// How many bits of a word stand behind its bed k.
+fn bits_behind(k: usize) -> usize
+    requires { k < 8 }
+    ensures { result ≡ 28 - 4 * k }
+{
+    28 - 4 * k
+}
+
 // Writes the eight beds of a word, from one place on. Each is taken out of the whole word, so that none waits for another.
 fn put_beds(beds: &mut [u8; 32], first: usize, word: u32)
     requires { first + 8 ≤ 32 }
     ensures { beds.new ≡ sets beds.old first (beds_of_word 7 word) }
 {
     for k in 0..8 {
-        beds[first + k] = ((word >> (28 - 4 * k)) % 16) as u8;
+        beds[first + k] = ((word >> bits_behind(k)) % 16) as u8;
     }
 }
 
@@ -113,5 +121,5 @@ pub fn precedes(x: Row, y: Row, equal: bool) -> bool
 pub fn same_beds(x: Row, y: Row) -> bool
     ensures { result ≡ same_beds (row_of x) (row_of y) }
 {
-    x.words == y.words
+    (0..4).all(|j| x.words[j] == y.words[j])
 }
