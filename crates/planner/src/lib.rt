@@ -25,6 +25,7 @@ pub fn check(file: &[u8]) -> Result<(), Refusal>
 }
 
 // Questions 1 to 10, 12 and 13, then the list: how many rows were written.
+#[tactic(auto, using(crate::proofs::Refused::refused_list))]
 pub fn list(
     file: &[u8],
     beds: &mut [u8],
@@ -39,6 +40,7 @@ pub fn list(
 }
 
 // Questions 1 to 10, 11, 12 and 13, then the clinic's sheet: how many rows were written.
+#[tactic(auto, using(crate::proofs::Refused::refused_sheet))]
 pub fn sheet(
     file: &[u8],
     clinic: u64,
@@ -54,6 +56,7 @@ pub fn sheet(
 }
 
 // Questions 1 to 10 and 14, then the plan's total, or none where it is forbidden.
+#[tactic(auto, using(crate::proofs::Refused::refused_price))]
 pub fn price(file: &[u8], plan: &[u8]) -> Result<Option<u64>, PriceError>
     ensures { priced_outcome result ≡ price_outcome file.now plan.now }
 {

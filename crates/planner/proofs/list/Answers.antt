@@ -6,8 +6,9 @@ use Rattle.definitions.specs.Outcomes.{found_by, outcome_of}
 use Rattle.held_region.specs.Refusals.{number_of}
 use Rattle.reader.specs.Loading.{checks}
 use Rattle.reader.specs.Fine.{accepted_fine, region_fine}
-use Rattle.region_answers.specs.Found.{last_asked, refused_entry, accepted_entry}
+use Rattle.region_answers.specs.Found.{last_asked, accepted_entry}
 use Rattle.region_answers.specs.Lists.{list_outcome_lem}
+use Rattle.planner.proofs.Refused.{refused_list}
 use Rattle.planner.proofs.list.Goals as goal
 
 pub list_loaded-requires : goal.list_loaded-requires
@@ -17,9 +18,7 @@ pub returns-in_err-region : goal.returns-in_err-region
 returns-in_err-region c =
     let a = c.args in
     let p = err_from_is_err_and c.from_residual.result c.from_residual.ensures.1 in
-    rw (p.1, p.2)
-    (refused_entry _ _ a.beds.now a.costs.now a.work.now a.file.now _ c.in_err-region.field-0.0 (ap number_of (sym c.in_err-region.was) ∙ checks c.load.ensures)
-    ∙ list_outcome_lem a.file.now a.beds.now a.costs.now a.work.now)
+    rw (p.1, p.2) (refused_list _ _ (ap number_of (sym c.in_err-region.was) ∙ checks c.load.ensures) a.beds.now a.costs.now a.work.now)
 
 pub returns : goal.returns
 returns c =

@@ -3,25 +3,20 @@ use Rattle.std.proofs.lemmas.Result.{err_from_is_err_and}
 use Rattle.definitions.specs.Basics.{[]}
 use Rattle.definitions.specs.Questions.{region_of, plan_fits, asked_by_price}
 use Rattle.definitions.specs.Outcomes.{price_outcome}
-use Rattle.answers.specs.Answers.{not_allowed, priced_outcome}
-use Rattle.answers.specs.Numbers.{refusal_number_lem}
 use Rattle.held_region.specs.Refusals.{number_of}
 use Rattle.reader.specs.Loading.{checks}
 use Rattle.reader.specs.Fine.{accepted_fine, region_fine}
-use Rattle.region_answers.specs.Prices.{region_price, price_accepted, price_not_accepted}
+use Rattle.region_answers.specs.Prices.{region_price, price_accepted}
+use Rattle.planner.proofs.Refused.{refused_price}
 use Rattle.planner.proofs.price.Goals as goal
 
 pub price_region-requires : goal.price_region-requires
 price_region-requires c = region_fine c.args.file.now c.load.result c.load.ensures c.in_ok-priced.was
 
 pub returns-in_err-priced : goal.returns-in_err-priced
-unfolding price_outcome asked_by_price
 returns-in_err-priced c =
-    let a = c.args in
     let p = err_from_is_err_and c.from_residual.result c.from_residual.ensures.1 in
-    let number = ap number_of (sym c.in_err-priced.was) ∙ checks c.load.ensures in
-    rw (p.1, p.2)
-    (ap not_allowed number ∙ sym (price_not_accepted a.file.now a.plan.now ((14, plan_fits (region_of a.file.now) a.plan.now) ∷ []) _ (sym number ∙ refusal_number_lem c.in_err-priced.field-0.0)))
+    rw (p.1, p.2) (refused_price _ _ (ap number_of (sym c.in_err-priced.was) ∙ checks c.load.ensures) c.args.plan.now)
 
 pub returns : goal.returns
 unfolding price_outcome asked_by_price

@@ -8,8 +8,9 @@ use Rattle.definitions.specs.Outcomes.{found_by, outcome_of}
 use Rattle.held_region.specs.Refusals.{number_of}
 use Rattle.reader.specs.Loading.{checks}
 use Rattle.reader.specs.Fine.{accepted_fine, region_fine}
-use Rattle.region_answers.specs.Found.{refused_entry, accepted_entry}
+use Rattle.region_answers.specs.Found.{accepted_entry}
 use Rattle.clinic_sheet.specs.Sheets.{late_asked, sheet_outcome_lem}
+use Rattle.planner.proofs.Refused.{refused_sheet}
 use Rattle.planner.proofs.sheet.Goals as goal
 
 pub sheet_loaded-requires : goal.sheet_loaded-requires
@@ -19,9 +20,7 @@ pub returns-in_err-accepted : goal.returns-in_err-accepted
 returns-in_err-accepted c =
     let a = c.args in
     let p = err_from_is_err_and c.from_residual.result c.from_residual.ensures.1 in
-    rw (p.1, p.2)
-    (refused_entry _ _ a.beds.now a.costs.now a.work.now a.file.now _ c.in_err-accepted.field-0.0 (ap number_of (sym c.in_err-accepted.was) ∙ checks c.load.ensures)
-    ∙ sheet_outcome_lem a.file.now a.clinic a.beds.now a.costs.now a.work.now)
+    rw (p.1, p.2) (refused_sheet _ _ (ap number_of (sym c.in_err-accepted.was) ∙ checks c.load.ensures) a.clinic a.beds.now a.costs.now a.work.now)
 
 pub returns : goal.returns
 returns c =
