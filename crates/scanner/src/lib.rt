@@ -142,7 +142,8 @@ pub fn number_at(s: &[u8], at: usize) -> Option<(u32, usize)>
     let mut i = at + 1;
     // How many digits there are is seen by reading them.
     while let Class::Digit(d) = class_at(s, i) {
-        if i - at == DIGITS || value == 0 {
+        let leading_zero = value == 0;
+        if i - at == DIGITS || leading_zero {
             return None;
         }
         value = value * 10 + d;

@@ -1,4 +1,4 @@
-use Rattle.std.proofs.Common.{sym, ◌∙◌, refl, arith}
+use Rattle.std.proofs.Common.{◌≡◌, sym, ◌∙◌, refl, arith}
 use Rattle.definitions.specs.Limits.{limits}
 use Rattle.scanner.proofs.Classes.{not_digit}
 use Rattle.scanner.proofs.Numbers.{first_digit, reading_start, reading_ends, reading_missing, reading_long, reading_zero, reading_fits, reading_more}
@@ -18,7 +18,7 @@ returns-then-i-at-eq-DIGITS c =
     let digit = sym c.class_at-in-loop-d.ensures ∙ c.in-Digit-class_at.is in
     elim c.then-i-at-eq-DIGITS.branch [
       | goal.then-i-at-eq-DIGITS-via-then-i-at-eq-DIGITS w ↦ reading_long m.0 digit w.if-i-at-eq-DIGITS.true
-      | goal.then-i-at-eq-DIGITS-via-else-i-at-eq-DIGITS+then-value-eq0 w ↦ reading_zero m.0 digit w.if-value-eq0.true (λ e. omega arith)
+      | goal.then-i-at-eq-DIGITS-via-else-i-at-eq-DIGITS+then-leading_zero w ↦ let z : c.loop-d.value ≡ 0 = omega arith in reading_zero m.0 digit z (λ e. omega arith)
     ]
 
 pub overflow_mul-value : goal.overflow_mul-value
@@ -32,7 +32,7 @@ overflow_add-value c = omega (arith, reading_fits c.loop-d.invariant.0 (sym c.cl
 pub loop-d-preserved : goal.loop-d-preserved
 unfolding limits
 loop-d-preserved c =
-    (reading_more c.loop-d.invariant.0 (sym c.class_at-in-loop-d.ensures ∙ c.in-Digit-class_at.is) c.if-i-at-eq-DIGITS.false (λ z. absurd (c.if-value-eq0.false z)), omega arith)
+    (reading_more c.loop-d.invariant.0 (sym c.class_at-in-loop-d.ensures ∙ c.in-Digit-class_at.is) c.if-i-at-eq-DIGITS.false (λ z. omega arith), omega arith)
 
 pub returns : goal.returns
 returns c = reading_ends c.loop-d.invariant.0 (not_digit c.class_at-in-loop-d.ensures c.in_default-class_at.not-Digit) (λ e. omega arith)
