@@ -92,16 +92,15 @@ pub fn form_end_at(s: &[u8], at: usize) -> Option<usize>
 }
 
 // Exactly these bytes, whatever their classes.
-#[tactic(auto, using(crate::proofs::Words::bytes_read, crate::proofs::Words::bytes_not_read))]
 pub fn bytes_at(s: &[u8], at: usize, bytes: &[u8]) -> Option<usize>
     ensures { ReadAt (exactly bytes.now) s.now at (passed result) }
 {
     let rest = &s[at.min(s.len())..];
-    if rest.starts_with(bytes) {
-        Some(at + bytes.len())
-    } else {
-        None
+    if rest.len() < bytes.len() {
+        return None;
     }
+    let found = rest.iter().zip(bytes).all(|(here, asked)| here == asked);
+    found.then_some(at + bytes.len())
 }
 
 // Exactly these letters, each by its class.
