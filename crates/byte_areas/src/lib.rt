@@ -64,7 +64,9 @@ pub fn store_result<const N: usize>(res: &mut [u8], numbers: &[u64; N])
     if res.len() / 8 < N {
         return;
     }
-    store_numbers(res, 0, numbers);
+    for i in 0..N {
+        store_number(res, i * 8, numbers[i]);
+    }
 }
 
 // The result of price: allowed is 1, not allowed 0; then the total.
