@@ -1,24 +1,25 @@
--- A text copied, and what is left of a number's digits.
-use mathlib.Core.Path.{◌≡◌, refl, sym, ap, ◌∙◌}
+-- A text at its place, and what is left of a number's digits.
+use mathlib.Core.Path.{◌≡◌, refl, sym, ap, ap₂, ◌∙◌}
 use native.Mathlib.Omega.{arith}
 use Prim.Native.Nat.{◌≤◌}
 use lib.ListN.{drop}
-use lib.Seq.{drop-drop, sets-eq}
-use mathlib.Core.List.{append_assoc}
-use borrow.Rule.Slice.PartMut.{put_mid}
-use Rattle.std.specs.Prelude.{◌+◌, ◌-◌, ◌*◌, ◌/◌, ◌%◌, ◌<◌, ◌∷◌}
+use lib.Seq.{sets-eq}
+use Rattle.std.proofs.lemmas.List.{take-append-drop}
+use mathlib.Core.List.{◌++◌}
+use Rattle.std.specs.Prelude.{◌+◌, ◌*◌, ◌/◌, ◌%◌, ◌<◌, ◌∷◌}
 use Rattle.definitions.specs.Basics.{ℕ, zero, suc, List, [], flatten, length, take}
 use Rattle.definitions.specs.Spelling.{decimal}
 use Rattle.theorems.specs.Numbers.{digits_one, decimal_more}
 use Rattle.text_writer.specs.Wrote.{Room, Wrote}
 use Rattle.text_writer.specs.Parts.{gap}
 
--- A text copied to its place.
-pub text_written : (text copy out : List ℕ) (at : ℕ) → Room text at out → copy ≡ text → Wrote text at out (put_mid at (at + length text - at) out copy) (at + length text)
-text_written text copy out at room same =
-    let size : at + length text - at ≡ length text = omega arith in
+-- A text that stands at its place; before it and behind it all is as it was.
+pub text_written : (text out after : List ℕ) (at : ℕ) → Room text at out → take (at + length text) after ≡ take at out ++ text
+    → drop (at + length text) after ≡ drop (at + length text) out → Wrote text at out after (at + length text)
+text_written text out after at room front back =
+    let end = at + length text in
     record {
-      bytes = rw (same, size, drop-drop (length text) at out) (sym (sets-eq text out at room ∙ append_assoc (take at out) text (drop (at + length text) out)));
+      bytes = sym (take-append-drop end after) ∙ ap₂ (λ f b. f ++ b) front back ∙ sym (sets-eq text out at room);
       next = refl;
     }
 
