@@ -80,7 +80,10 @@ pub fn tables_cost(buckets: &Buckets, entries: &[u32; 4096], v: usize, plan: Pla
 {
     let mut sum: u64 = 0;
     for s in 0..v {
-        sum += bucket_cost(buckets, entries, s, &plan.beds)?;
+        match bucket_cost(buckets, entries, s, &plan.beds) {
+            Some(cost) => sum += cost,
+            None => return None,
+        }
     }
     Some(sum)
 }

@@ -1,3 +1,4 @@
+use native.Mathlib.Omega.{arith}
 use mathlib.Core.Path.{sym, ap, subst, ◌∙◌}
 use Rattle.definitions.specs.Spelling.{spell}
 use Rattle.lists.specs.Tests.{answered_no, answered_yes}
@@ -53,6 +54,6 @@ returns c =
     let s = c.args in
     let apart = answered_yes (c.clinics_apart.ensures s.store.now s.other.now) (ap not c.if-not-clinics_apart.false) in
     let fits = answered_yes (c.join_within.ensures s.store.now s.other.now) (ap not c.if-not-join_within.false) in
-    joined_placed c.place_file.result c.ok_or.ensures.value
+    joined_placed c.place_file.result {answer = c.ok_or.result} (grind arith)
     ∙ file_placed (said s.first s.store.now) (said s.second s.other.now) s.output.now apart fits
     c.place_file.result (c.place_file.ensures ∙ ap (λ r. placing (spell r) s.output.now) c.join_regions-region.ensures)

@@ -8,14 +8,14 @@ loop-s-init c = adds_start
 pub bucket_cost-requires : goal.bucket_cost-requires
 bucket_cost-requires c = asks_one c.requires (omega arith)
 
-pub returns-in_err-sum : goal.returns-in_err-sum
-returns-in_err-sum c = rw c.from_residual.ensures (adds_forbidden c.loop-s.invariant (omega arith) c.bucket_cost.ensures c.in_err-sum.was)
+pub returns-in-None : goal.returns-in-None
+returns-in-None c = adds_forbidden c.loop-s.invariant (omega arith) c.bucket_cost.ensures c.in-None.is
 
 pub overflow_add-sum : goal.overflow_add-sum
-overflow_add-sum c = omega (arith, adds_small c.loop-s.invariant (omega arith) c.bucket_cost.ensures _ c.in_ok-sum.was, c.loop-s.invariant.few)
+overflow_add-sum c = omega (arith, adds_small c.loop-s.invariant (omega arith) c.bucket_cost.ensures _ c.in-Some.is, c.loop-s.invariant.few)
 
 pub loop-s-preserved : goal.loop-s-preserved
-loop-s-preserved c = adds_next c.loop-s.invariant (omega arith) c.bucket_cost.ensures _ c.in_ok-sum.was
+loop-s-preserved c = adds_next c.loop-s.invariant (omega arith) c.bucket_cost.ensures _ c.in-Some.is
 
 pub returns : goal.returns
 returns c = adds_done c.loop-s.invariant (omega arith)

@@ -7,11 +7,11 @@ returns-then-out-lt-LONGEST c = short_area c.args.file.now c.args.out.now c.if-o
 
 pub print_refusal-requires : goal.print_refusal-requires
 print_refusal-requires c =
-    refused_room c.args.file.now c.args.out.now c.if-out-lt-LONGEST.false c.load.ensures c.in-Err.is c.number.result c.number.ensures
+    refused_room c.args.file.now c.args.out.now c.if-out-lt-LONGEST.false c.load.ensures c.in-Err.is _ (omega arith)
 
 pub returns-in-Err : goal.returns-in-Err
 returns-in-Err c =
-    refused_written c.args.file.now c.args.out.now c.if-out-lt-LONGEST.false c.load.ensures c.in-Err.is c.number.result c.number.ensures c.print_refusal.ensures
+    refused_written c.args.file.now c.args.out.now c.if-out-lt-LONGEST.false c.load.ensures c.in-Err.is _ (omega arith) c.print_refusal.ensures
 
 pub print_region-requires : goal.print_region-requires
 print_region-requires c =

@@ -1,6 +1,6 @@
 use borrow.Author.Rules.{rules}
-use mathlib.Core.Path.{refl, ap, ◌∙◌}
-use Rattle.definitions.specs.Boundary.{option_number}
+use mathlib.Core.Path.{refl, ◌∙◌}
+use native.Mathlib.Omega.{arith}
 use Rattle.region_areas.specs.Laid.{parts_all, parts_next, parts_done, entry_part, entry_laid}
 use Rattle.region_areas.proofs.store_entries.Goals as goal
 
@@ -15,7 +15,7 @@ loop-k-preserved c =
     let lent = turn.args in (
       search rules,
       parts_next 1 (entry_part lent.store.now) lent.total _ turn.loop-k.k valued.loop-k-test.true refl
-          (entry_laid lent.store.now turn.loop-k.entries turn.loop-k.k (valued.option_number.ensures ∙ ap option_number valued.said_by.ensures) stored.store_number.ensures) ∙ turn.loop-k.invariant.1,
+          (entry_laid lent.store.now turn.loop-k.entries turn.loop-k.k (grind arith) stored.store_number.ensures) ∙ turn.loop-k.invariant.1,
     )
 
 pub returns : goal.returns
