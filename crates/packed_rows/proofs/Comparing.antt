@@ -1,65 +1,51 @@
--- Two rows compared: the costs, then word by word.
-use mathlib.Core.Path.{◌≡◌, sym, ap, ap₂, ◌∙◌}
-use native.Mathlib.Numerals.{add-one}
-use native.Mathlib.Omega.{arith}
-use Prim.Native.Nat.{◌≤◌}
-use lib.ListN.{drop, drop_of_length-le}
-use lib.Seq.{drop-cons}
-use Rattle.std.specs.Prelude.{◌+◌, ◌<◌, ◌∷◌}
-use Rattle.definitions.specs.Basics.{ℕ, suc, compare, Ordering, ordering_lt, ordering_eq, ordering_gt, Bool, true, false, List, []}
-use Rattle.definitions.specs.Basics.{length, get_or}
+-- What the comparison that rows derive says: it is that of their costs and beds.
+use Rattle.std.proofs.Common.{arith, refl, sym, ap, ap₂, ◌∙◌, ◌≡◌, ◌<◌, ◌∷◌}
+use Rattle.std.proofs.lemmas.Cmp.{ranked}
+use Rattle.std.specs.Ordering.{nat_cmp, ordering_then, MatchOrdering}
+use Rattle.std.specs.Cmp.Lexicographic.{slice_cmp}
+use Rattle.std.specs.declared.cmp.Ordering as Code
+use Rattle.std.specs.declared.cmp.Ordering.TheVariants.{Less, Equal, Greater}
+use Rattle.definitions.specs.Basics.{ℕ, compare, Ordering, ordering_lt, ordering_eq, ordering_gt, Bool, List, [], length}
 use Rattle.definitions.specs.Plans.{then_by, compare_beds, compare_rows}
 use Rattle.packed_rows.specs.declared.Row.{Row}
 use Rattle.packed_rows.specs.Numbers.{less, more, alike}
-use Rattle.packed_rows.specs.Packed.{packed_beds, row_of, before_or}
+use Rattle.packed_rows.specs.Packed.{row_of, before_or}
 use Rattle.packed_rows.specs.Laws.{packed_order}
 
--- The answer; and the one that the words from j on give.
-abbrev pub answer : Bool → Row → Row → Bool
-answer tie x y = before_or tie (compare_rows (row_of x) (row_of y))
+-- An answer of the code as the definitions have it.
+abbrev pub ordered : Code.Ordering → Ordering
+ordered Less = ordering_lt
+ordered Equal = ordering_eq
+ordered Greater = ordering_gt
 
-abbrev pub answer_from : Bool → Row → Row → ℕ → Bool
-answer_from tie x y j = before_or tie (compare_beds (drop j x.words) (drop j y.words))
+ordered_numbers : (a b : ℕ) → ordered (nat_cmp a b) ≡ compare a b
+ordered_numbers a b = go (nat_cmp a b) (ranked a b (nat_cmp a b) refl)
+  where
+    go : (r : Code.Ordering) → MatchOrdering r (a < b) (a ≡ b) (b < a) → ordered r ≡ compare a b
+    go Less h = sym (less a b h)
+    go Equal h = sym (alike a b (omega arith) (omega arith))
+    go Greater h = sym (more a b h)
 
-module _ (x y : Row) where
-  module _ (tie : Bool) where
-    by_cost : (o : Ordering) → compare x.cost y.cost ≡ o → answer tie x y ≡ before_or tie (then_by o (compare_beds (packed_beds x.words) (packed_beds y.words)))
-    by_cost o e = ap (λ (p : Ordering). before_or tie (then_by p (compare_beds (packed_beds x.words) (packed_beds y.words)))) e
+ordered_then : (o p : Code.Ordering) → ordered (ordering_then o p) ≡ then_by (ordered o) (ordered p)
+ordered_then Less p = refl
+ordered_then Equal p = refl
+ordered_then Greater p = refl
 
-    pub cheaper : x.cost < y.cost → true ≡ answer tie x y
-    cheaper h = sym (by_cost ordering_lt (less x.cost y.cost h))
+ordered_words : (ws zs : List ℕ) → ordered (slice_cmp nat_cmp ws zs) ≡ compare_beds ws zs
+ordered_words [] [] = refl
+ordered_words [] (z ∷ zs) = refl
+ordered_words (w ∷ ws) [] = refl
+ordered_words (w ∷ ws) (z ∷ zs) = ordered_then (nat_cmp w z) (slice_cmp nat_cmp ws zs) ∙ ap₂ then_by (ordered_numbers w z) (ordered_words ws zs)
 
-    pub costlier : y.cost < x.cost → false ≡ answer tie x y
-    costlier h = sym (by_cost ordering_gt (more x.cost y.cost h))
+-- What is answered of two rows, by how they compare.
+module _ (x y : Row) (p : length x.words ≡ 4) (q : length y.words ≡ 4) where
+  abbrev derived : Code.Ordering
+  derived = ordering_then (nat_cmp x.cost y.cost) (slice_cmp nat_cmp x.words y.words)
 
-  module _ (p : length x.words ≡ 4) (q : length y.words ≡ 4) where
-    pub same_cost_lem : (tie : Bool) → y.cost ≤ x.cost → x.cost ≤ y.cost → answer tie x y ≡ answer_from tie x y 0
-    same_cost_lem tie h k = by_cost tie ordering_eq (alike x.cost y.cost k h) ∙ ap (before_or tie) (packed_order x.words y.words (p ∙ sym q))
+  derived_is : ordered derived ≡ compare_rows (row_of x) (row_of y)
+  derived_is =
+      ordered_then (nat_cmp x.cost y.cost) (slice_cmp nat_cmp x.words y.words)
+      ∙ ap₂ then_by (ordered_numbers x.cost y.cost) (ordered_words x.words y.words ∙ sym (packed_order x.words y.words (p ∙ sym q)))
 
-    -- No word is left.
-    module _ (j : ℕ) (h : 4 ≤ j) where
-      none_left : (l : List ℕ) → length l ≡ 4 → drop j l ≡ []
-      none_left l e = drop_of_length-le l {i = j} (omega arith)
-
-      pub all_same : (tie : Bool) → answer_from tie x y j ≡ tie
-      all_same tie = ap₂ (λ (a b : List ℕ). before_or tie (compare_beds a b)) (none_left x.words p) (none_left y.words q)
-
-    -- Word j decides, or those behind it.
-    module _ (j : ℕ) (h : j < 4) (tie : Bool) where
-      one_left : (l : List ℕ) → length l ≡ 4 → drop j l ≡ get_or l j 0 ∷ drop (suc j) l
-      one_left l e = drop-cons l j 0 (omega arith)
-
-      by_word : (o : Ordering) → compare (get_or x.words j 0) (get_or y.words j 0) ≡ o
-          → answer_from tie x y j ≡ before_or tie (then_by o (compare_beds (drop (suc j) x.words) (drop (suc j) y.words)))
-      by_word o e =
-          ap₂ (λ (a b : List ℕ). before_or tie (compare_beds a b)) (one_left x.words p) (one_left y.words q)
-          ∙ ap (λ (r : Ordering). before_or tie (then_by r (compare_beds (drop (suc j) x.words) (drop (suc j) y.words)))) e
-
-      pub smaller_word : get_or x.words j 0 < get_or y.words j 0 → answer_from tie x y j ≡ true
-      smaller_word t = by_word ordering_lt (less (get_or x.words j 0) (get_or y.words j 0) t)
-
-      pub larger_word : get_or y.words j 0 < get_or x.words j 0 → answer_from tie x y j ≡ false
-      larger_word t = by_word ordering_gt (more (get_or x.words j 0) (get_or y.words j 0) t)
-
-      pub tied_word : get_or y.words j 0 ≤ get_or x.words j 0 → get_or x.words j 0 ≤ get_or y.words j 0 → answer_from tie x y j ≡ answer_from tie x y (j + 1)
-      tied_word t u = by_word ordering_eq (alike (get_or x.words j 0) (get_or y.words j 0) u t) ∙ rw add-one
+  pub answered : (tie : Bool) (o : Code.Ordering) → o ≡ derived → before_or tie (ordered o) ≡ before_or tie (compare_rows (row_of x) (row_of y))
+  answered tie o e = ap (before_or tie) (ap ordered e ∙ derived_is)

@@ -10,6 +10,8 @@ ghost use Rattle.partial_rows.specs.Adding.{add_rows};
 ghost use Rattle.packed_rows.specs.Packed.{beds_of_word, packed_beds, row_of, before_or, packable, Fit};
 ghost use Rattle.packed_rows.specs.Laws.{beds_from};
 
+use std::cmp::Ordering;
+
 // A cost, and the beds of 32 patients. Rows compare by cost, and at equal costs by their beds.
 #[derive(Clone, Copy, PartialEq, Eq, PartialOrd, Ord)]
 pub struct Row {
@@ -95,26 +97,16 @@ pub fn add_rows(x: Row, y: Row) -> Row
     }
 }
 
-// Does x come before y? At a tie, the answer is the one handed in. Word by word: the order that rows derive makes an Ordering
-// of each word first, and listing plans of equal costs takes half as long again with it.
+// Does x come before y? At a tie, the answer is the one handed in. By `cmp`, which gives an Ordering at once: `<` and `<=`
+// make an Option of one first, and listing plans of equal costs takes half as long again with them.
 pub fn precedes(x: Row, y: Row, equal: bool) -> bool
     ensures { result ≡ before_or equal (compare_rows (row_of x) (row_of y)) }
 {
-    if x.cost < y.cost {
-        return true;
+    match x.cmp(&y) {
+        Ordering::Less => true,
+        Ordering::Equal => equal,
+        Ordering::Greater => false,
     }
-    if y.cost < x.cost {
-        return false;
-    }
-    for j in 0..4 {
-        if x.words[j] < y.words[j] {
-            return true;
-        }
-        if y.words[j] < x.words[j] {
-            return false;
-        }
-    }
-    equal
 }
 
 // Have two rows the same beds? Costs do not count.

@@ -1,6 +1,13 @@
 use Rattle.std.proofs.Common.{rules}
-use Rattle.packed_rows.proofs.Comparing.{same_cost_lem}
+use Rattle.std.specs.declared.cmp.Ordering.TheVariants.{Less, Equal, Greater}
+use Rattle.packed_rows.proofs.Comparing.{answered}
 use Rattle.packed_rows.proofs.precedes.Goals as goal
 
-pub loop-j-init : goal.loop-j-init
-loop-j-init c = same_cost_lem c.args.x c.args.y (search rules) (search rules) c.args.equal c.if-x-y.false c.if-y-x.false
+pub returns-in-Less : goal.returns-in-Less
+returns-in-Less c = answered c.args.x c.args.y (search rules) (search rules) c.args.equal Less (search rules)
+
+pub returns-in-Equal : goal.returns-in-Equal
+returns-in-Equal c = answered c.args.x c.args.y (search rules) (search rules) c.args.equal Equal (search rules)
+
+pub returns-in-Greater : goal.returns-in-Greater
+returns-in-Greater c = answered c.args.x c.args.y (search rules) (search rules) c.args.equal Greater (search rules)
