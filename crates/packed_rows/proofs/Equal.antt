@@ -8,7 +8,7 @@ use Rattle.packed_rows.specs.declared.Row.{Row}
 use Rattle.packed_rows.specs.Packed.{row_of}
 use Rattle.packed_rows.specs.Laws.{packed_same}
 
--- Are word j of both the same?
+-- Is word j of both the same?
 abbrev pub same_at : Row → Row → ℕ → Bool
 same_at x y j = eqb (get_or x.words j 0) (get_or y.words j 0)
 

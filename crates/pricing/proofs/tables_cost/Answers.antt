@@ -9,7 +9,7 @@ pub bucket_cost-requires : goal.bucket_cost-requires
 bucket_cost-requires c = asks_one c.requires (omega arith)
 
 pub returns-in-None : goal.returns-in-None
-returns-in-None c = adds_forbidden c.loop-s.invariant (omega arith) c.bucket_cost.ensures c.in-None.is
+returns-in-None c r prepared fits all = grind (arith, adds_forbidden c.loop-s.invariant (omega arith) c.bucket_cost.ensures c.in-None.is r prepared fits all)
 
 pub overflow_add-sum : goal.overflow_add-sum
 overflow_add-sum c = omega (arith, adds_small c.loop-s.invariant (omega arith) c.bucket_cost.ensures _ c.in-Some.is, c.loop-s.invariant.few)
