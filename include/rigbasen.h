@@ -332,7 +332,7 @@ static inline const char *rigbasen_text(uint64_t number)
  * - The areas that a call writes overlap none of its other areas, and nobody else writes to any of them meanwhile.
  *   (The library has no variables of its own, so threads may call at once, each with its own areas.)
  * - RIGBASEN_STACK_BYTES of stack are free: the work area is there. By measure, check and line take about 34,000 bytes, read 37,000,
- *   price 40,000, parents 62,000, write 63,000, join 95,000, list up to 119,000 and sheet up to 122,000, the most where
+ *   price 40,000, parents 62,000, write 63,000, join 95,000, list up to 119,000 and sheet up to 123,000, the most where
  *   32 patients are one tree. No question asks for it: on a smaller stack the program is ended by a segmentation fault at the stack's
  *   guard page, and where there is none, as under some fibers, memory beside the stack is overwritten. So give a thread that calls at
  *   least so much, by pthread_attr_setstacksize; the usual stack of a program or a thread has megabytes.
